@@ -1,0 +1,4 @@
+pub mod ItemLemmas
+pub mod EqualityLemmas
+pub mod FindLemmas
+pub mod OrderLaws

@@ -1,0 +1,10 @@
+pub mod Datum
+pub mod Nesting
+pub mod Meaning
+pub mod Falls
+pub mod ValueOrder
+pub mod Truth
+pub mod Comparison
+pub mod Texts
+pub mod PropertyGraph
+pub mod Lookup

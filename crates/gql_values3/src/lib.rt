@@ -1,0 +1,32 @@
+//! The values of the database, the property graph, and how a graph is looked at.
+//!
+//! Everything above stands on these types. A value has one plain meaning, the `Datum` of `specs/Datum.antt`,
+//! which `datum_of` gives; a graph means the `PropertyGraph` of `specs/PropertyGraph.antt`. The crate's promise is
+//! that each function answers exactly what the definitions in `specs/` say of these meanings. It stands on std alone.
+#![tactic(auto)]
+
+pub mod comparison;
+pub mod element;
+pub mod memory;
+pub mod order;
+pub mod path;
+pub mod properties;
+pub mod records;
+pub mod sequence;
+pub mod text;
+pub mod truth;
+pub mod value;
+pub mod view;
+
+pub use comparison::{Comparison, NotComparable, compare3};
+pub use element::{EdgeId, Elem, Ends, NodeId};
+pub use memory::OutOfMemory;
+pub use order::total_cmp;
+pub use path::PathValue;
+pub use properties::Properties;
+pub use records::{EdgeRecord, NodeRecord};
+pub use sequence::{Bytes, Names, Numbers, Sequence};
+pub use text::Text;
+pub use truth::{Truth, and3, not3, or3, xor3};
+pub use value::{List, Value};
+pub use view::View;
