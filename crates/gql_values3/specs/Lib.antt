@@ -8,3 +8,6 @@ pub mod Comparison
 pub mod Texts
 pub mod PropertyGraph
 pub mod Lookup
+pub mod Names
+pub mod IntegerLiterals
+pub mod Rows

@@ -7,12 +7,17 @@
 
 pub mod comparison;
 pub mod element;
+pub mod integer;
 pub mod memory;
+pub mod names;
 pub mod order;
 pub mod path;
 pub mod properties;
 pub mod records;
 pub mod sequence;
+pub mod table;
+#[cfg(test)]
+mod tests;
 pub mod text;
 pub mod truth;
 pub mod value;
@@ -20,12 +25,15 @@ pub mod view;
 
 pub use comparison::{Comparison, NotComparable, compare3};
 pub use element::{EdgeId, Elem, Ends, NodeId};
+pub use integer::int_of;
 pub use memory::OutOfMemory;
+pub use names::{plain_name, reserved_place};
 pub use order::total_cmp;
 pub use path::PathValue;
 pub use properties::Properties;
 pub use records::{EdgeRecord, NodeRecord};
 pub use sequence::{Bytes, Names, Numbers, Sequence};
+pub use table::{Binding, Bound, ColumnKind, Columns, Elems, Params, Row, Rows, Scalar, Table};
 pub use text::Text;
 pub use truth::{Truth, and3, not3, or3, xor3};
 pub use value::{List, Value};
