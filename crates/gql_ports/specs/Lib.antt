@@ -1,0 +1,5 @@
+pub mod Causes
+pub mod Told
+pub mod Held
+pub mod Place
+pub mod Memory
