@@ -1,0 +1,4 @@
+pub mod NumberLemmas
+pub mod SearchLemmas
+pub mod PropertyLemmas
+pub mod GraphLemmas

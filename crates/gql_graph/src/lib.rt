@@ -1,0 +1,21 @@
+//! The property graph in memory, and the catalog of graphs by name.
+//!
+//! A `Graph` is two lists of records and two numbers, seen as the `PropertyGraph` of gql_values3. The promise: every
+//! `Graph` is one, since `Graph::of` gives one exactly where `is_graph` holds, and each look-up answers what `View` says
+//! of it. It stands on gql_values3 alone.
+#![tactic(auto)]
+
+pub mod catalog;
+pub mod graph;
+pub mod lookup;
+pub mod names;
+pub mod numbers;
+pub mod records;
+pub mod storable;
+#[cfg(test)]
+mod tests;
+pub mod view;
+
+pub use catalog::Catalog;
+pub use gql_values3::{EdgeRecord, NodeRecord};
+pub use graph::{EdgeRecords, Graph, NodeRecords};

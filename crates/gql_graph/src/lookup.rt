@@ -1,0 +1,62 @@
+ghost use Rattle.std.specs.Prelude.{◌≡◌, ◌==◌, find, map, filter, slice_get};
+ghost use Rattle.std.specs.Option.{option_copied};
+ghost use Rattle.gql_values3.specs.PropertyGraph.{is_among};
+ghost use Rattle.gql_values3.specs.Lookup.{touches};
+ghost use Rattle.gql_graph.specs.Ascending.{AscendsBy};
+
+use gql_values3::{EdgeId, EdgeRecord, Ends, NodeId, NodeRecord};
+
+/// The node of that number, by binary search.
+pub fn find_node(nodes: &[NodeRecord], node: NodeId) -> Option<&NodeRecord>
+    requires { AscendsBy (λ r. r.number.0) nodes.now }
+    ensures { option_copied result ≡ find (λ r. r.number.0 == node.0) nodes.now }
+{
+    match nodes.binary_search_by_key(&node.0, |r| r.number.0) {
+        Ok(at) => nodes.get(at),
+        Err(_) => None,
+    }
+}
+
+/// The edge of that number, by binary search.
+pub fn find_edge(edges: &[EdgeRecord], edge: EdgeId) -> Option<&EdgeRecord>
+    requires { AscendsBy (λ r. r.number.0) edges.now }
+    ensures { option_copied result ≡ find (λ r. r.number.0 == edge.0) edges.now }
+{
+    match edges.binary_search_by_key(&edge.0, |r| r.number.0) {
+        Ok(at) => edges.get(at),
+        Err(_) => None,
+    }
+}
+
+/// Whether a node of that number is among the records.
+pub fn is_among(nodes: &[NodeRecord], node: NodeId) -> bool
+    requires { AscendsBy (λ r. r.number.0) nodes.now }
+    ensures { result ≡ is_among nodes.now node }
+{
+    find_node(nodes, node).is_some()
+}
+
+/// The edge of that place among those that touch the node.
+pub fn nth_touching(edges: &[EdgeRecord], node: NodeId, index: u32) -> Option<EdgeId>
+    ensures { result ≡ slice_get (map (λ r. r.number) (filter (touches node) edges.now)) index }
+{
+    let mut left = index;
+    for edge in edges {
+        if touches(edge, node) {
+            if left == 0 {
+                return Some(edge.number);
+            }
+            left -= 1;
+        }
+    }
+    None
+}
+
+fn touches(edge: &EdgeRecord, node: NodeId) -> bool
+    ensures { result ≡ touches node edge.now }
+{
+    match edge.ends {
+        Ends::Directed { source, target } => source == node || target == node,
+        Ends::Undirected { low, high } => low == node || high == node,
+    }
+}
