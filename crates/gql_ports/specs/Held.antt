@@ -1,5 +1,5 @@
 -- The records that a keeper holds, as a finite map from keys to values.
-use Rattle.std.specs.Prelude.{◌≡◌, ℕ, Bool, true, false, List, [], ◌∷◌, ◌&&◌, not, map, find, is_some, Option, Some, None, option_map, if◌then◌else◌}
+use Rattle.std.specs.Prelude.{◌≡◌, ℕ, Bool, true, false, List, [], map, find, is_some, Option, Some, None, option_map, if◌then◌else◌}
 use Rattle.std.specs.List.{list_any}
 use Rattle.gql_values3.specs.Texts.{same_text, texts_ascend}
 use Rattle.gql_ports.specs.declared.stored.Record.{Record}
@@ -22,11 +22,6 @@ same_name _ _ = false
 -- after an `open` of this name that went well
 abbrev pub reopened : Option (List ℕ) → Holding → Holding
 reopened name h = if same_name name h.name then h else record { name = name; records = [] }
-
--- no text stands twice
-abbrev pub are_distinct : List (List ℕ) → Bool
-are_distinct [] = true
-are_distinct (a ∷ more) = not (list_any (same_text a) more) && are_distinct more
 
 -- the value of a key, where there is one
 abbrev pub value_at : List Record → List ℕ → Option (List ℕ)

@@ -2,7 +2,8 @@ ghost use Rattle.std.specs.Prelude.{◌≡◌, ◌≤◌, ◌<◌, ◌++◌, ℕ
 ghost use Rattle.std.specs.Option.{option_copied};
 ghost use Rattle.gql_ports.specs.Causes.{Rose};
 ghost use Rattle.gql_ports.specs.Told.{MatchTold};
-ghost use Rattle.gql_ports.specs.Held.{Holding, reopened, Applies, are_distinct};
+ghost use Rattle.gql_values3.specs.Texts.{texts_differ};
+ghost use Rattle.gql_ports.specs.Held.{Holding, reopened, Applies};
 
 use crate::fault::KeepFault;
 use crate::stored::{Key, Record};
@@ -43,7 +44,7 @@ pub trait Keeper {
 
     /// Puts and drops all of these, or changes nothing. All the keys differ.
     fn apply(&mut self, puts: &[Record], drops: &[Key]) -> Result<(), KeepFault>
-        requires { IsTrue (are_distinct (map (λ r. r.key) puts.now ++ drops.now)) }
+        requires { IsTrue (texts_differ (map (λ r. r.key) puts.now ++ drops.now)) }
         ensures ok { OnOk result (MatchTold (held self.old) (held self.new) (Applies puts.now drops.now)) }
         ensures err { OnErr result (held self.new ≡ held self.old) }
         ensures later { faults self.old ≤ faults self.new }

@@ -1,11 +1,11 @@
 -- Rows of a table: which columns there may be, which data fit them, and how deep a datum may be nested.
-use Rattle.std.specs.Prelude.{ℕ, Bool, true, false, not, ◌&&◌, nat_le, List, [], ◌∷◌, map}
-use Rattle.std.specs.List.{list_all, list_any}
+use Rattle.std.specs.Prelude.{ℕ, Bool, true, false, ◌&&◌, nat_le, List, [], ◌∷◌, map}
+use Rattle.std.specs.List.{list_all}
 use Rattle.gql_values3.specs.declared.table.ColumnKind.{ColumnKind}
 use Rattle.gql_values3.specs.declared.table.ColumnKind.TheVariants as kind
 use Rattle.gql_values3.specs.Datum.{Datum, null, list, node, edge, path, items_of}
 use Rattle.gql_values3.specs.Nesting.{depth}
-use Rattle.gql_values3.specs.Texts.{same_text}
+use Rattle.gql_values3.specs.Texts.{texts_differ}
 
 -- the kinds of data that columns name
 abbrev pub is_node : Datum → Bool
@@ -45,11 +45,6 @@ fit_kinds [] [] = true
 fit_kinds [] (d ∷ ds) = false
 fit_kinds (k ∷ ks) [] = false
 fit_kinds (k ∷ ks) (d ∷ ds) = fits_kind k d && fit_kinds ks ds
-
--- no text stands twice
-abbrev pub texts_differ : List (List ℕ) → Bool
-texts_differ [] = true
-texts_differ (a ∷ more) = not (list_any (same_text a) more) && texts_differ more
 
 -- the columns' names differ
 abbrev pub are_columns : List (List ℕ × ColumnKind) → Bool

@@ -2,7 +2,8 @@
 //!
 //! Everything above stands on these types. A value has one plain meaning, the `Datum` of `specs/Datum.antt`,
 //! which `datum_of` gives; a graph means the `PropertyGraph` of `specs/PropertyGraph.antt`. The crate's promise is
-//! that each function answers exactly what the definitions in `specs/` say of these meanings. It stands on std alone.
+//! that each function answers exactly what the definitions in `specs/` say of these meanings. It stands on std and `unicode_ident`,
+//! which tells the characters of names.
 #![tactic(auto)]
 
 pub mod comparison;

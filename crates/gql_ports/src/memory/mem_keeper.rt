@@ -4,7 +4,8 @@ ghost use Rattle.std.specs.List.{list_any};
 ghost use Rattle.gql_values3.specs.Texts.{same_text};
 ghost use Rattle.gql_ports.specs.Causes.{Rose};
 ghost use Rattle.gql_ports.specs.Told.{MatchTold};
-ghost use Rattle.gql_ports.specs.Held.{reopened, same_name, Applies, are_distinct, value_at, value_after};
+ghost use Rattle.gql_values3.specs.Texts.{texts_differ};
+ghost use Rattle.gql_ports.specs.Held.{reopened, same_name, Applies, value_at, value_after};
 ghost use Rattle.gql_ports.specs.Memory.{held_by};
 
 use crate::fault::KeepFault;
@@ -82,7 +83,7 @@ impl Keeper for MemKeeper {
     }
 
     fn apply(&mut self, puts: &[Record], drops: &[Key]) -> Result<(), KeepFault>
-        requires { IsTrue (are_distinct (map (λ r. r.key) puts.now ++ drops.now)) }
+        requires { IsTrue (texts_differ (map (λ r. r.key) puts.now ++ drops.now)) }
         ensures ok { OnOk result (MatchTold (held_by self.old) (held_by self.new) (Applies puts.now drops.now)) }
         ensures err { OnErr result (held_by self.new ≡ held_by self.old) }
         ensures later { self.old.faults ≤ self.new.faults }
