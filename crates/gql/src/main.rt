@@ -1,0 +1,53 @@
+//! The program `gql`: its words, the session's file, standard output, and a store in memory.
+//!
+//! It makes the ports, calls `gql_session::run`, whose contract is the product's promise, says on standard error how a
+//! run failed, and ends with the status's number.
+#![tactic(auto)]
+
+use gql_ports::{FileSource, MemKeeper, Records, StdoutSink};
+use gql_session::{Status, code, run};
+use gql_values3::Numbers;
+use std::process::ExitCode;
+use std::{env, io};
+
+fn main(rt: HostRuntime) -> ExitCode {
+    let status = run_words(&rt);
+    // A complaint that can't be written changes nothing: the exit status says the same.
+    let _ = complain(&rt, &status);
+    ExitCode::from(code(&status))
+}
+
+/// Runs the command line.
+fn run_words(rt: &HostRuntime) -> Status {
+    // A word that is no UTF-8 is no word of a command.
+    let Ok(words) = env::args(rt) else {
+        return Status::Usage;
+    };
+    let Ok(words) = words.collect(rt.alloc()) else {
+        return Status::NoMemory;
+    };
+    let mut keeper = MemKeeper {
+        name: None,
+        records: Records::new(rt.alloc()),
+        fails: Numbers::new(rt.alloc()),
+        calls: 0,
+        faults: 0,
+    };
+    let mut source = FileSource::new(rt);
+    let mut sink = StdoutSink::new(rt);
+    run(rt.alloc(), &words, &mut source, &mut sink, &mut keeper)
+}
+
+/// Says on standard error how the run failed, where it did.
+fn complain(rt: &impl Eprint, status: &Status) -> io::Result<()> {
+    match status {
+        Status::Answered | Status::Refused => Ok(()),
+        Status::Usage => eprintln!(rt; "gql: usage"),
+        Status::SourceFault => eprintln!(rt; "gql: session file fault"),
+        Status::SinkFault => eprintln!(rt; "gql: output fault"),
+        Status::StoreFault => eprintln!(rt; "gql: store fault"),
+        Status::NoMemory => eprintln!(rt; "gql: no memory"),
+        Status::TooLong => eprintln!(rt; "gql: session too long"),
+        Status::BadStore(index) => eprintln!(rt; "gql: bad store record {index}"),
+    }
+}

@@ -1,0 +1,10 @@
+pub mod Utf8Lemmas
+pub mod SubjectLemmas
+pub mod LoopLemmas
+pub mod FieldLemmas
+pub mod FormLemmas
+pub mod StepLemmas
+pub mod OrderLemmas
+pub mod KnownLemmas
+pub mod WalkLemmas
+pub mod ReadLemmas

@@ -1,0 +1,76 @@
+-- How a run ends, from how the run of its text did.
+use Rattle.std.proofs.Common.{◌≡◌, ◌⊎◌, ℕ, ◌≤◌, Bool, true, false, List, [], ◌∷◌, length, Option, Some, None, Result, Ok, Err, refl, ap, sym, ◌∙◌, subst, inl, inr, IsTrue, arith}
+use Rattle.gql_ports.specs.declared.stored.Record.{Record}
+use Rattle.gql_graph.specs.Catalog.{CatalogData}
+use Rattle.gql_rowcode.specs.StandFor.{StandFor}
+use Rattle.gql_session.specs.Outcome.{Outcome}
+use Rattle.gql_session.specs.SessionRun.{SessionState, RunsSession, begun, one_more, starting}
+use Rattle.gql_session.specs.Endings.{TextEnding, status_of}
+use Rattle.gql_session.specs.RunEnds.{Told, most_bytes, LoadedEndsAs, EndsAs, is_complete}
+use Rattle.gql_session.specs.Words.{session_of}
+use Rattle.gql_ports.specs.Told.{Content}
+use Rattle.gql_ports.specs.Held.{Holding}
+use Rattle.gql_session.specs.declared.run_pieces.RunFault.{RunFault}
+use Rattle.gql_session.specs.declared.run_pieces.RunFault.TheVariants as fault
+use Rattle.gql_session.specs.declared.status.Status.{Status}
+use Rattle.gql_session.specs.declared.status.Status.TheVariants as status
+use Rattle.gql_session.specs.declared.load.LoadFault.{LoadFault}
+use Rattle.gql_session.specs.declared.load.LoadFault.TheVariants as load
+
+-- the text was read and run
+pub loaded_ends : (start : SessionState) (text before : List ℕ) (ran : Result Bool RunFault) (after : Option (List ℕ)) → length text ≤ most_bytes
+    → TextEnding start text before ran after → LoadedEndsAs start text before (status_of ran) after
+loaded_ends start text before (Ok false) after h e = (h, e)
+loaded_ends start text before (Ok true) after h e = (h, e)
+loaded_ends start text before (Err fault.Sink) after h e = (h, e)
+loaded_ends start text before (Err fault.OutOfMemory) after h e = inr (h, e)
+
+-- no piece changes a state
+unchanged : {start end : SessionState} {pieces : List (List ℕ)} {outcomes : List Outcome} → RunsSession start pieces outcomes end → end ≡ start
+unchanged begun = refl
+unchanged (one_more runs step) = step.state ∙ unchanged runs
+
+-- so the records stand for the catalog that is kept at its end
+kept : (records : List Record) (c : CatalogData) {end : SessionState} {pieces : List (List ℕ)} {outcomes : List Outcome} → StandFor records c → RunsSession (starting c) pieces outcomes end → StandFor records end.kept
+kept records c stands runs = let P : SessionState → Type 0 = λ s. StandFor records s.kept in subst P (sym (unchanged runs)) stands
+
+-- the catalog is that for which the records stand
+pub ends_as : (records : List Record) (c : CatalogData) (text before : List ℕ) (s : Status) (after : Option (List ℕ)) → StandFor records c
+    → LoadedEndsAs (starting c) text before s after → EndsAs records text before s after
+ends_as records c text before status.Answered after stands e = record { catalog = c; stands = stands; within = e.0; ran = e.1; kept = kept records c stands e.1.runs }
+ends_as records c text before status.Refused after stands e = record { catalog = c; stands = stands; within = e.0; ran = e.1; kept = kept records c stands e.1.runs }
+ends_as records c text before status.Usage after stands e = e
+ends_as records c text before status.SourceFault after stands e = e
+ends_as records c text before status.SinkFault after stands e = record { catalog = c; stands = stands; within = e.0; ran = e.1; kept = kept records c stands e.1.runs }
+ends_as records c text before status.StoreFault after stands e = absurd e
+ends_as records c text before status.NoMemory after stands (inl same) = inl same
+ends_as records c text before status.NoMemory after stands (inr e) = inr (record { catalog = c; stands = stands; within = e.0; ran = e.1; kept = kept records c stands e.1.runs })
+ends_as records c text before status.TooLong after stands e = e
+ends_as records c text before (status.BadStore i) after stands e = absurd e
+
+-- the record at fault is the one told
+pub same_index : (j i : ℕ) → (load.BadRecord j ≡ load.BadRecord i) ⊎ IsTrue false → j ≡ i
+same_index j i (inl p) = cc
+same_index j i (inr p) = cc
+
+-- how the words, as told, name the source's text
+abbrev pub content_of : {words : List (List ℕ)} {source : Option Content} {sink : Option (List ℕ)} {keeper : Option Holding} {text before : List ℕ} {records : List Record}
+    → Told words source sink keeper text before records → Content
+content_of {text = text} t = record { name = t.name; ready = t.ready; left = text }
+
+pub named : {words : List (List ℕ)} {source : Option Content} {sink : Option (List ℕ)} {keeper : Option Holding} {text before : List ℕ} {records : List Record}
+    (t : Told words source sink keeper text before records) (name : List ℕ) → session_of words ≡ Some name → t.name ≡ name
+named t name p = let e = t.command in cc
+
+-- where nothing fails, the text is within its limit and no record is at fault
+pub completed : (records : List Record) (text before : List ℕ) (s : Status) (after : Option (List ℕ)) (A B C : Type 0) → EndsAs records text before s after → length text ≤ most_bytes
+    → ((i : ℕ) → ¬ (s ≡ status.BadStore i)) → (s ≡ status.SourceFault → A) → (s ≡ status.SinkFault → B) → (s ≡ status.StoreFault → C) → ¬ A → ¬ B → ¬ C → is_complete s ≡ true
+completed records text before status.Answered after A B C e h bad a b c na nb nc = refl
+completed records text before status.Refused after A B C e h bad a b c na nb nc = refl
+completed records text before status.Usage after A B C e h bad a b c na nb nc = absurd e
+completed records text before status.SourceFault after A B C e h bad a b c na nb nc = absurd (na (a refl))
+completed records text before status.SinkFault after A B C e h bad a b c na nb nc = absurd (nb (b refl))
+completed records text before status.StoreFault after A B C e h bad a b c na nb nc = absurd (nc (c refl))
+completed records text before status.NoMemory after A B C e h bad a b c na nb nc = refl
+completed records text before status.TooLong after A B C e h bad a b c na nb nc = let over = e.0 in absurd (omega arith)
+completed records text before (status.BadStore i) after A B C e h bad a b c na nb nc = absurd (bad i refl)

@@ -1,0 +1,12 @@
+pub mod Words
+pub mod Pieces
+pub mod Tokens
+pub mod TokenMeaning
+pub mod Statement
+pub mod Outcome
+pub mod AnswerMeaning
+pub mod SessionRun
+pub mod Endings
+pub mod Status
+pub mod Loading
+pub mod RunEnds

@@ -1,0 +1,14 @@
+#!/bin/sh
+# Runs every session of examples/ and compares what it prints with the file beside it. Ends with the number that differ.
+top=$(cd "$(dirname "$0")/.." && pwd) || exit 70
+wrong=0
+for session in "$top"/examples/*.gql; do
+  wanted=${session%.gql}.out
+  if "$top/gql" run "$session" 2>/dev/null | cmp -s - "$wanted"; then
+    echo "same: ${session##*/}"
+  else
+    echo "differs: ${session##*/}"
+    wrong=$((wrong + 1))
+  fi
+done
+exit "$wrong"
