@@ -1,3 +1,5 @@
+ghost use Rattle.std.specs.Prelude.{◌<◌};
+
 use crate::status::code;
 use crate::top_call::run;
 use gql_ports::{MemKeeper, MemSink, MemSource, Record, Records};
@@ -10,26 +12,27 @@ use std::test::Fail;
 #[derive(Clone, Copy)]
 struct Case<'a> {
     shows: &'a str,
-    words: &'a [&'a str],
     text: &'a str,
-    records: &'a [(&'a str, &'a str)],
-    fails: Fails<'a>,
+    /// How many records of `TWO_NODES` are left out at the front, and how many are then kept.
+    skipped: usize,
+    kept: usize,
+    fails: Fails,
     status: u8,
     written: &'a str,
 }
 
-/// The numbers of the calls that fail, from 1.
+/// The number of the call that fails, from 1; 0 where none does.
 #[derive(Clone, Copy)]
-struct Fails<'a> {
-    source: &'a [u64],
-    sink: &'a [u64],
-    keeper: &'a [u64],
+struct Fails {
+    source: u64,
+    sink: u64,
+    keeper: u64,
 }
 
-const NONE: Fails<'static> = Fails {
-    source: &[],
-    sink: &[],
-    keeper: &[],
+const NONE: Fails = Fails {
+    source: 0,
+    sink: 0,
+    keeper: 0,
 };
 
 const WORDS: [&str; 3] = ["gql", "run", "s"];
@@ -70,9 +73,9 @@ fn bytes_of(alloc: Global, hex: &str) -> Result<Bytes, Fail> {
     Ok(bytes)
 }
 
-fn records_of(alloc: Global, entries: &[(&str, &str)]) -> Result<Records, Fail> {
+fn records_of(alloc: Global, skipped: usize, kept: usize) -> Result<Records, Fail> {
     let mut records = Records::new(alloc);
-    for (key, value) in entries {
+    for (key, value) in TWO_NODES.iter().skip(skipped).take(kept) {
         let key = bytes_of(alloc, key)?;
         let value = bytes_of(alloc, value)?;
         records.put(Record { key, value })?;
@@ -80,8 +83,10 @@ fn records_of(alloc: Global, entries: &[(&str, &str)]) -> Result<Records, Fail> 
     Ok(records)
 }
 
-fn numbers_of(alloc: Global, numbers: &[u64]) -> Result<Numbers, Fail> {
-    Ok(Numbers::from_vec(Vec::from_slice(alloc, numbers)?))
+fn numbers_of(alloc: Global, number: u64) -> Result<Numbers, Fail> {
+    let mut numbers = Numbers::new(alloc);
+    numbers.push(number)?;
+    Ok(numbers)
 }
 
 fn words_of(alloc: Global, words: &[&str]) -> Result<Vec<String>, Fail> {
@@ -92,7 +97,7 @@ fn words_of(alloc: Global, words: &[&str]) -> Result<Vec<String>, Fail> {
     Ok(all)
 }
 
-fn source_of(alloc: Global, bytes: Bytes, fails: &[u64]) -> Result<MemSource, Fail> {
+fn source_of(alloc: Global, bytes: Bytes, fails: u64) -> Result<MemSource, Fail> {
     Ok(MemSource {
         name: Text::from_str(alloc, "s")?,
         ready: false,
@@ -105,7 +110,7 @@ fn source_of(alloc: Global, bytes: Bytes, fails: &[u64]) -> Result<MemSource, Fa
     })
 }
 
-fn sink_of(alloc: Global, fails: &[u64]) -> Result<MemSink, Fail> {
+fn sink_of(alloc: Global, fails: u64) -> Result<MemSink, Fail> {
     Ok(MemSink {
         bytes: Bytes::new(alloc),
         fails: numbers_of(alloc, fails)?,
@@ -114,10 +119,10 @@ fn sink_of(alloc: Global, fails: &[u64]) -> Result<MemSink, Fail> {
     })
 }
 
-fn keeper_of(alloc: Global, entries: &[(&str, &str)], fails: &[u64]) -> Result<MemKeeper, Fail> {
+fn keeper_of(alloc: Global, records: Records, fails: u64) -> Result<MemKeeper, Fail> {
     Ok(MemKeeper {
         name: None,
-        records: records_of(alloc, entries)?,
+        records,
         fails: numbers_of(alloc, fails)?,
         calls: 0,
         faults: 0,
@@ -125,35 +130,19 @@ fn keeper_of(alloc: Global, entries: &[(&str, &str)], fails: &[u64]) -> Result<M
 }
 
 /// Runs the case, and tells the exit status and what was written.
-fn outcome_of(alloc: Global, case: &Case<'_>) -> Result<(u8, Bytes), Fail> {
+fn outcome_of(alloc: Global, words: &[&str], case: &Case<'_>) -> Result<(u8, Bytes), Fail> {
     let text = Bytes::from_vec(Vec::from_slice(alloc, case.text.as_bytes())?);
-    let words = words_of(alloc, case.words)?;
+    let words = words_of(alloc, words)?;
+    let records = records_of(alloc, case.skipped, case.kept)?;
     let mut source = source_of(alloc, text, case.fails.source)?;
     let mut sink = sink_of(alloc, case.fails.sink)?;
-    let mut keeper = keeper_of(alloc, case.records, case.fails.keeper)?;
+    let mut keeper = keeper_of(alloc, records, case.fails.keeper)?;
     let status = run(alloc, &words, &mut source, &mut sink, &mut keeper);
     Ok((code(&status), sink.bytes))
 }
 
-const fn over_two_nodes<'a>(
-    shows: &'a str,
-    text: &'a str,
-    status: u8,
-    written: &'a str,
-) -> Case<'a> {
-    Case {
-        shows,
-        words: &WORDS,
-        text,
-        records: &TWO_NODES,
-        fails: NONE,
-        status,
-        written,
-    }
-}
-
-fn check(rt: &impl Abort, alloc: Global, case: &Case<'_>) -> Result<(), Fail> {
-    let (status, written) = outcome_of(alloc, case)?;
+fn check(rt: &impl Abort, alloc: Global, words: &[&str], case: &Case<'_>) -> Result<(), Fail> {
+    let (status, written) = outcome_of(alloc, words, case)?;
     assert_eq!(rt; status, case.status, "{}", case.shows);
     assert_eq!(rt;
         written.as_slice(),
@@ -164,122 +153,104 @@ fn check(rt: &impl Abort, alloc: Global, case: &Case<'_>) -> Result<(), Fail> {
     Ok(())
 }
 
+/// A session over all the records, in which nothing fails.
+const fn plain<'a>(shows: &'a str, text: &'a str, status: u8, written: &'a str) -> Case<'a> {
+    failing(shows, text, NONE, status, written)
+}
+
+/// A session over all the records.
+const fn failing<'a>(
+    shows: &'a str,
+    text: &'a str,
+    fails: Fails,
+    status: u8,
+    written: &'a str,
+) -> Case<'a> {
+    Case {
+        shows,
+        text,
+        skipped: 0,
+        kept: 4,
+        fails,
+        status,
+        written,
+    }
+}
+
+const SYNTAX: &str = "refused E03 SYNTAX\n";
+
 #[test]
 fn statements_are_answered_or_refused(rt: HostRuntime) -> Result<(), Fail> {
     let cases = [
-        over_two_nodes("a node with the label", QUERY, 0, "x\n(1)\nrows 1\n"),
-        over_two_nodes("an empty file", "", 0, ""),
-        over_two_nodes("semicolons alone", " ;;\n\t; ", 0, ""),
-        over_two_nodes(
-            "no node with the label",
+        plain("a node with the label", QUERY, 0, "x\n(1)\nrows 1\n"),
+        plain("an empty file", "", 0, ""),
+        plain("semicolons alone", " ;;\n\t; ", 0, ""),
+        plain(
+            "no node has the label",
             "MATCH (x:B) RETURN x;",
             0,
             "x\nrows 0\n",
         ),
-        over_two_nodes(
-            "another variable",
-            "MATCH (x:A) RETURN y;",
-            1,
-            "refused E03 SYNTAX\n",
-        ),
-        over_two_nodes(
-            "words in any case, other white space",
-            "match(n:A)\rreturn\tn",
-            0,
-            "n\n(1)\nrows 1\n",
-        ),
-        over_two_nodes(
-            "no space before the variable",
-            "MATCH (x:A) RETURNx;",
-            1,
-            "refused E03 SYNTAX\n",
-        ),
-        over_two_nodes(
+        plain("another variable", "MATCH (x:A) RETURN y;", 1, SYNTAX),
+        plain("any case", "match(n:A)\rreturn\tn", 0, "n\n(1)\nrows 1\n"),
+        plain("no space behind RETURN", "MATCH (x:A) RETURNx;", 1, SYNTAX),
+        plain(
             "a reserved word as a label",
             "MATCH (x:Match) RETURN x;",
             1,
-            "refused E03 SYNTAX\n",
+            SYNTAX,
         ),
-        over_two_nodes(
-            "a digit first",
-            "MATCH (1x:A) RETURN 1x;",
-            1,
-            "refused E03 SYNTAX\n",
-        ),
-        over_two_nodes(
-            "something behind",
-            "MATCH (x:A) RETURN x x;",
-            1,
-            "refused E03 SYNTAX\n",
-        ),
+        plain("a digit first", "MATCH (1x:A) RETURN 1x;", 1, SYNTAX),
+        plain("something behind", "MATCH (x:A) RETURN x x;", 1, SYNTAX),
     ];
     for case in &cases {
-        check(&rt, rt.alloc(), case)?;
+        check(&rt, rt.alloc(), &WORDS, case)?;
     }
     Ok(())
 }
 
 #[test]
-fn endings_leave_what_they_say(rt: HostRuntime) -> Result<(), Fail> {
-    let fault = |source, sink, keeper| Fails {
-        source,
-        sink,
-        keeper,
+fn faults_have_their_statuses(rt: HostRuntime) -> Result<(), Fail> {
+    let source = |number| Fails {
+        source: number,
+        ..NONE
+    };
+    let sink = |number| Fails {
+        sink: number,
+        ..NONE
+    };
+    let keeper = |number| Fails {
+        keeper: number,
+        ..NONE
     };
     let cases = [
-        Case {
-            words: &["gql", "run", "a", "b"],
-            ..over_two_nodes("words that are no command", QUERY, 2, "")
-        },
-        Case {
-            words: &["gql", "go", "s"],
-            ..over_two_nodes("another word than run", QUERY, 2, "")
-        },
-        Case {
-            words: &["gql", "run", "t"],
-            ..over_two_nodes("another name has no bytes", QUERY, 0, "")
-        },
-        Case {
-            fails: fault(&[1], &[], &[]),
-            ..over_two_nodes("the file can't be opened", QUERY, 3, "")
-        },
-        Case {
-            fails: fault(&[2], &[], &[]),
-            ..over_two_nodes("the file can't be read", QUERY, 3, "")
-        },
-        Case {
-            fails: fault(&[], &[1], &[]),
-            ..over_two_nodes("the output fails", "RETURN 1;", 4, "")
-        },
-        Case {
-            fails: fault(&[], &[2], &[]),
-            ..over_two_nodes("the output fails later", "a;b;c", 4, "refused E03 SYNTAX\n")
-        },
-        Case {
-            fails: fault(&[], &[], &[1]),
-            ..over_two_nodes("the store can't be opened", QUERY, 5, "")
-        },
-        Case {
-            fails: fault(&[], &[], &[4]),
-            ..over_two_nodes("the store can't be read", QUERY, 5, "")
-        },
-        Case {
-            records: &TWO_NODES[1..],
-            ..over_two_nodes("records without a version", QUERY, 8, "")
-        },
-        Case {
-            records: &TWO_NODES[..1],
-            ..over_two_nodes("no graph home", QUERY, 1, "refused E06 NO_SUCH home\n")
-        },
-        Case {
-            records: &[],
-            ..over_two_nodes("no records", QUERY, 0, "x\nrows 0\n")
-        },
+        failing("the file can't be opened", QUERY, source(1), 3, ""),
+        failing("the file can't be read", QUERY, source(2), 3, ""),
+        failing("the output fails", "RETURN 1;", sink(1), 4, ""),
+        failing("the output fails later", "a;b;c", sink(2), 4, SYNTAX),
+        failing("the store can't be opened", QUERY, keeper(1), 5, ""),
+        failing("the store can't be read", QUERY, keeper(4), 5, ""),
     ];
     for case in &cases {
-        check(&rt, rt.alloc(), case)?;
+        check(&rt, rt.alloc(), &WORDS, case)?;
     }
     Ok(())
+}
+
+#[test]
+fn words_and_records_have_their_statuses(rt: HostRuntime) -> Result<(), Fail> {
+    let usage = plain("no command", QUERY, 2, "");
+    check(&rt, rt.alloc(), &["gql", "run", "a", "b"], &usage)?;
+    check(&rt, rt.alloc(), &["gql", "go", "s"], &usage)?;
+    let mut case = plain("records without a version", QUERY, 8, "");
+    case.skipped = 1;
+    check(&rt, rt.alloc(), &WORDS, &case)?;
+    let mut case = plain("no graph home", QUERY, 1, "refused E06 NO_SUCH home\n");
+    case.kept = 1;
+    check(&rt, rt.alloc(), &WORDS, &case)?;
+    let mut case = plain("no records", QUERY, 0, "x\nrows 0\n");
+    case.kept = 0;
+    check(&rt, rt.alloc(), &WORDS, &case)
 }
 
 /// One byte more than a session may have, and all white space.
@@ -287,10 +258,10 @@ fn endings_leave_what_they_say(rt: HostRuntime) -> Result<(), Fail> {
 fn a_text_past_the_limit_is_not_run(rt: HostRuntime) -> Result<(), Fail> {
     let alloc = rt.alloc();
     let text = Bytes::from_vec(vec![in alloc; b' '; 67_108_865]?);
-    let mut source = source_of(alloc, text, &[])?;
+    let mut source = source_of(alloc, text, 0)?;
     source.piece = 1 << 20;
-    let mut sink = sink_of(alloc, &[])?;
-    let mut keeper = keeper_of(alloc, &[], &[])?;
+    let mut sink = sink_of(alloc, 0)?;
+    let mut keeper = keeper_of(alloc, Records::new(alloc), 0)?;
     let words = words_of(alloc, &WORDS)?;
     let status = run(alloc, &words, &mut source, &mut sink, &mut keeper);
     assert_eq!(rt; code(&status), 7);
