@@ -1,0 +1,6 @@
+pub mod HeightLemmas
+pub mod LabelLemmas
+pub mod MeaningLemmas
+pub mod PatternLemmas
+mod EvaluationExamples
+mod NameExamples

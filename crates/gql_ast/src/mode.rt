@@ -1,0 +1,12 @@
+/// A path mode: what a path may pass twice.
+#[derive(Clone, Copy, Debug, PartialEq, Eq)]
+pub enum Mode {
+    /// Everything.
+    Walk,
+    /// No edge.
+    Trail,
+    /// No node.
+    Acyclic,
+    /// No node, except that the first may be the last.
+    Simple,
+}
