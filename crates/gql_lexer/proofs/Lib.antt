@@ -1,0 +1,9 @@
+pub mod LengthLemmas
+pub mod FormLemmas
+pub mod LawLemmas
+pub mod LexemeLemmas
+pub mod QuoteLemmas
+pub mod SpanLemmas
+pub mod FrontLemmas
+pub mod NameLemmas
+pub mod SymbolLemmas

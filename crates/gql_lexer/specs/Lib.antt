@@ -1,0 +1,11 @@
+pub mod Lengths
+pub mod Forms
+pub mod Shapes
+pub mod Firsts
+pub mod Symbols
+pub mod Spans
+pub mod Pieces
+pub mod Quotes
+pub mod Lexemes
+pub mod Reads
+pub mod Laws

@@ -1,0 +1,22 @@
+//! The lexemes of the language, and the pieces of a session.
+//!
+//! `pieces` cuts the bytes of a session at each `;` that is a symbol, and `lexemes` reads the bytes of a piece. The
+//! crate's promise is that both answer exactly what `specs/` says: at each place, from the left, the longest form
+//! counts. It stands on `unicode_ident` and `bstr` for the characters of names, and on `gql_values3` for texts and
+//! reserved words.
+#![tactic(auto)]
+
+mod fault;
+mod front;
+pub mod laws;
+mod lengths;
+mod lexeme;
+mod piece;
+mod quotes;
+mod symbol;
+#[cfg(test)]
+mod tests;
+
+pub use fault::LexFault;
+pub use lexeme::{Lexeme, Lexemes, lexemes};
+pub use piece::{Piece, Pieces, pieces};

@@ -1,0 +1,61 @@
+ghost use Rattle.std.specs.Prelude.{◌≡◌, [], ◌∷◌, ◌++◌, IfOk, OnOk};
+ghost use Rattle.gql_lexer.specs.Pieces.{is_end, piece, pieces_of};
+
+use crate::front::{Shape, longest_form};
+use gql_values3::{Bytes, OutOfMemory, Sequence};
+use std::alloc::Global;
+
+/// Some bytes of a session, without the `;` that ended them.
+#[derive(Debug, Drop)]
+pub struct Piece {
+    pub bytes: Bytes,
+    /// Whether a `;` ended it.
+    pub ended: bool,
+}
+
+/// The pieces of a session.
+pub type Pieces = Sequence<Piece>;
+
+/// Cuts the bytes of a session at each `;` that is a symbol. A `;` within a string, a delimited name, a comment or
+/// bad bytes ends nothing. No bytes have no piece, and an empty rest behind the last `;` is none.
+pub fn pieces(alloc: Global, bytes: &[u8]) -> Result<Pieces, OutOfMemory>
+    ensures { IfOk result (λ ps. ps ≡ pieces_of bytes.now) }
+{
+    let mut all = Sequence::new(alloc);
+    let mut start = 0;
+    let mut at = 0;
+    while at < bytes.len() {
+        let found = longest_form(&bytes[at..]);
+        if !is_end(found.shape) {
+            at += found.size;
+            continue;
+        }
+        cut(alloc, &mut all, &bytes[start..at], true)?;
+        at += found.size;
+        start = at;
+    }
+    if start < at {
+        cut(alloc, &mut all, &bytes[start..at], false)?;
+    }
+    Ok(all)
+}
+
+/// Whether the form is the symbol `;`.
+fn is_end(shape: Shape) -> bool
+    ensures { result ≡ is_end shape }
+{
+    match shape {
+        Shape::Symbol(place) => place == 33,
+        _ => false,
+    }
+}
+
+/// Adds a piece.
+fn cut(alloc: Global, all: &mut Pieces, bytes: &[u8], ended: bool) -> Result<(), OutOfMemory>
+    ensures { OnOk result (all.new ≡ all.old ++ piece bytes.now ended ∷ []) }
+{
+    let mut copy = Sequence::new(alloc);
+    copy.append(bytes)?;
+    all.push(Piece { bytes: copy, ended })?;
+    Ok(())
+}
