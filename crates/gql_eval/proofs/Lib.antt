@@ -1,0 +1,6 @@
+pub mod ItemLemmas
+pub mod LabelLemmas
+pub mod ScopeLemmas
+pub mod PartLemmas
+pub mod AggregateLemmas
+pub mod EvaluationLemmas

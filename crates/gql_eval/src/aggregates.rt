@@ -1,0 +1,199 @@
+//! Aggregates of values.
+
+ghost use Rattle.std.specs.Prelude.{◌≡◌, map, filter, not, IfOk};
+ghost use Rattle.std.specs.List.{list_any};
+ghost use Rattle.std.specs.Ordering.{is_eq};
+ghost use Rattle.gql_values3.specs.Meaning.{datum_of};
+ghost use Rattle.gql_values3.specs.ValueOrder.{datum_cmp};
+ghost use Rattle.gql_values3.specs.Nesting.{is_null};
+ghost use Rattle.gql_ast.specs.Aggregates.{considered, distinct, aggregated, addend, summed, lesser, greater, least, least_of, greatest, greatest_of};
+ghost use Rattle.gql_eval.specs.WholeSum.{total_of};
+ghost use Rattle.gql_eval.specs.Gives.{Gives};
+
+use crate::arithmetic::count_value;
+use crate::error::EvalError;
+use crate::making::list_value;
+use gql_ast::{Aggregate, DataFault, SetQuantifier};
+use gql_values3::{List, OutOfMemory, Value, total_cmp};
+use std::alloc::Global;
+
+/// The aggregate of these values. NULL is skipped, and DISTINCT drops equal values first, in time that grows with the
+/// square of their number.
+pub fn aggregate(
+    alloc: Global,
+    word: Aggregate,
+    quantifier: SetQuantifier,
+    values: &[Value],
+) -> Result<Value, EvalError>
+    ensures { Gives datum_of result (aggregated word (considered quantifier (map datum_of values.now))) }
+{
+    let left = considered_values(alloc, quantifier, values)?;
+    aggregate_left(alloc, word, left.as_slice())
+}
+
+/// The aggregate of the values that are left.
+fn aggregate_left(alloc: Global, word: Aggregate, values: &[&Value]) -> Result<Value, EvalError>
+    ensures { Gives datum_of result (aggregated word (map (λ v. datum_of v.now) values.now)) }
+{
+    match word {
+        Aggregate::Count => count_value(values.len()),
+        Aggregate::Sum => sum(values),
+        Aggregate::Min => Ok(least_value(alloc, values)?),
+        Aggregate::Max => Ok(greatest_value(alloc, values)?),
+        Aggregate::CollectList => list_value(copies(alloc, values)?),
+    }
+}
+
+/// The values that count.
+fn considered_values<'a>(
+    alloc: Global,
+    quantifier: SetQuantifier,
+    values: &'a [Value],
+) -> Result<Vec<&'a Value>, OutOfMemory>
+    ensures { IfOk result (λ left. map (λ v. datum_of v.now) left.items ≡ considered quantifier (map datum_of values.now)) }
+{
+    let present = without_nulls(alloc, values)?;
+    match quantifier {
+        SetQuantifier::All => Ok(present),
+        SetQuantifier::Distinct => distinct_values(alloc, present.as_slice()),
+    }
+}
+
+fn without_nulls<'a>(alloc: Global, values: &'a [Value]) -> Result<Vec<&'a Value>, OutOfMemory>
+    ensures { IfOk result (λ left. map (λ v. datum_of v.now) left.items ≡ filter (λ d. not (is_null d)) (map datum_of values.now)) }
+{
+    let mut left = Vec::new(alloc);
+    for i in 0..values.len() {
+        let value = &values[i];
+        if !value.is_null() {
+            left.push(value)?;
+        }
+    }
+    Ok(left)
+}
+
+/// The first of equal values.
+fn distinct_values<'a>(alloc: Global, values: &[&'a Value]) -> Result<Vec<&'a Value>, OutOfMemory>
+    ensures { IfOk result (λ left. map (λ v. datum_of v.now) left.items ≡ distinct (map (λ v. datum_of v.now) values.now)) }
+{
+    let mut left = Vec::new(alloc);
+    for i in 0..values.len() {
+        let value = values[i];
+        if !is_among(left.as_slice(), value) {
+            left.push(value)?;
+        }
+    }
+    Ok(left)
+}
+
+/// Whether one of these is equal to the value.
+fn is_among(values: &[&Value], value: &Value) -> bool
+    ensures { result ≡ list_any (λ v. is_eq (datum_cmp (datum_of v.now) (datum_of value.now))) values.now }
+{
+    for i in 0..values.len() {
+        let other = values[i];
+        if total_cmp(other, value).is_eq() {
+            return true;
+        }
+    }
+    false
+}
+
+/// SUM. What counts is whether the whole sum fits, so it is taken in 128 bits.
+#[tactic(auto, using(crate::proofs::AggregateLemmas::summed_whole))]
+fn sum(values: &[&Value]) -> Result<Value, EvalError>
+    ensures { Gives datum_of result (summed (map (λ v. datum_of v.now) values.now)) }
+{
+    match values {
+        [] => Ok(Value::Null),
+        [_, ..] => {
+            let whole = whole_sum(values)?;
+            match i64::try_from(whole) {
+                Ok(number) => Ok(Value::Int(number)),
+                Err(_) => Err(EvalError::Fault(DataFault::Overflow)),
+            }
+        }
+    }
+}
+
+/// The sum of one value at least, without a limit.
+fn whole_sum(values: &[&Value]) -> Result<i128, EvalError>
+    ensures { Gives (λ z. z) result (total_of (map (λ v. datum_of v.now) values.now)) }
+{
+    let mut whole: i128 = 0;
+    for i in 0..values.len() {
+        let value = values[i];
+        whole += i128::from(addend_of(value)?);
+    }
+    Ok(whole)
+}
+
+fn addend_of(value: &Value) -> Result<i64, EvalError>
+    ensures { Gives (λ z. z) result (addend (datum_of value.now)) }
+{
+    match value {
+        Value::Int(number) => Ok(*number),
+        _ => Err(EvalError::Fault(DataFault::WrongKind)),
+    }
+}
+
+fn least_value(alloc: Global, values: &[&Value]) -> Result<Value, OutOfMemory>
+    ensures { IfOk result (λ value. datum_of value ≡ least (map (λ v. datum_of v.now) values.now)) }
+{
+    match values {
+        [] => Ok(Value::Null),
+        [first, rest @ ..] => least_among(*first, rest).try_copy(alloc),
+    }
+}
+
+fn least_among<'a>(first: &'a Value, rest: &[&'a Value]) -> &'a Value
+    ensures { datum_of result.now ≡ least_of (datum_of first.now) (map (λ v. datum_of v.now) rest.now) }
+{
+    let mut best = first;
+    for i in 0..rest.len() {
+        best = lesser_value(best, rest[i]);
+    }
+    best
+}
+
+fn lesser_value<'a>(a: &'a Value, b: &'a Value) -> &'a Value
+    ensures { datum_of result.now ≡ lesser (datum_of a.now) (datum_of b.now) }
+{
+    if total_cmp(b, a).is_lt() { b } else { a }
+}
+
+fn greatest_value(alloc: Global, values: &[&Value]) -> Result<Value, OutOfMemory>
+    ensures { IfOk result (λ value. datum_of value ≡ greatest (map (λ v. datum_of v.now) values.now)) }
+{
+    match values {
+        [] => Ok(Value::Null),
+        [first, rest @ ..] => greatest_among(*first, rest).try_copy(alloc),
+    }
+}
+
+fn greatest_among<'a>(first: &'a Value, rest: &[&'a Value]) -> &'a Value
+    ensures { datum_of result.now ≡ greatest_of (datum_of first.now) (map (λ v. datum_of v.now) rest.now) }
+{
+    let mut best = first;
+    for i in 0..rest.len() {
+        best = greater_value(best, rest[i]);
+    }
+    best
+}
+
+fn greater_value<'a>(a: &'a Value, b: &'a Value) -> &'a Value
+    ensures { datum_of result.now ≡ greater (datum_of a.now) (datum_of b.now) }
+{
+    if total_cmp(b, a).is_gt() { b } else { a }
+}
+
+fn copies(alloc: Global, values: &[&Value]) -> Result<List, OutOfMemory>
+    ensures { IfOk result (λ items. items ≡ map (λ v. datum_of v.now) values.now) }
+{
+    let mut items = List::new(alloc);
+    for i in 0..values.len() {
+        let value = values[i];
+        items.push(value.try_copy(alloc)?)?;
+    }
+    Ok(items)
+}

@@ -1,0 +1,141 @@
+//! What is asked of elements. NULL comes first, then a wrong kind, then a deleted element.
+
+ghost use Rattle.std.specs.Prelude.{◌≡◌};
+ghost use Rattle.gql_values3.specs.Meaning.{datum_of};
+ghost use Rattle.gql_ast.specs.LabelMeaning.{label_of};
+ghost use Rattle.gql_ast.specs.ElementTests.{is_there, undeleted, element_in, property_value, labeled_value, is_directed, directed_value, is_end, end_value};
+ghost use Rattle.gql_ast.specs.Evaluation.{quality_value};
+ghost use Rattle.gql_eval.specs.Gives.{Gives};
+
+use crate::error::EvalError;
+use crate::labels::satisfies;
+use crate::truths::{names_truth, truth_of_value};
+use gql_ast::{DataFault, EdgeEnd, LabelExpr, Quality};
+use gql_values3::{Elem, Ends, NodeId, Text, Value, View};
+use std::alloc::Global;
+
+/// The element, if it is in the graph.
+fn alive<V: View>(view: &V, elem: Elem) -> Result<Elem, EvalError>
+    ensures { Gives (λ e. e) result (undeleted (V.graph view.now) elem) }
+{
+    let there = match elem {
+        Elem::Node(node) => view.has_node(node),
+        Elem::Edge(edge) => view.ends(edge).is_some(),
+    };
+    if there {
+        Ok(elem)
+    } else {
+        Err(EvalError::Fault(DataFault::Deleted))
+    }
+}
+
+/// The element that a value is; None is NULL.
+fn element<V: View>(view: &V, value: &Value) -> Result<Option<Elem>, EvalError>
+    ensures { Gives (λ e. e) result (element_in (V.graph view.now) (datum_of value.now)) }
+{
+    match value {
+        Value::Null => Ok(None),
+        Value::Node(node) => Ok(Some(alive(view, Elem::Node(*node))?)),
+        Value::Edge(edge) => Ok(Some(alive(view, Elem::Edge(*edge))?)),
+        _ => Err(EvalError::Fault(DataFault::WrongKind)),
+    }
+}
+
+/// `x.p`: a property that isn't there is NULL.
+pub fn property<V: View>(
+    alloc: Global,
+    view: &V,
+    value: &Value,
+    name: &Text,
+) -> Result<Value, EvalError>
+    ensures { Gives datum_of result (property_value (V.graph view.now) (datum_of value.now) name.now) }
+{
+    let Some(elem) = element(view, value)? else {
+        return Ok(Value::Null);
+    };
+    match view.property(elem, name.as_str()) {
+        None => Ok(Value::Null),
+        Some(found) => Ok(found.try_copy(alloc)?),
+    }
+}
+
+/// IS LABELED; None is NULL.
+pub fn labeled<V: View>(
+    view: &V,
+    value: &Value,
+    labels: &LabelExpr,
+) -> Result<Option<bool>, EvalError>
+    ensures { Gives (λ b. b) result (labeled_value (V.graph view.now) (datum_of value.now) (label_of labels.now)) }
+{
+    match element(view, value)? {
+        None => Ok(None),
+        Some(elem) => Ok(Some(satisfies(view, elem, labels))),
+    }
+}
+
+/// IS DIRECTED; None is NULL.
+fn directed<V: View>(view: &V, value: &Value) -> Result<Option<bool>, EvalError>
+    ensures { Gives (λ b. b) result (directed_value (V.graph view.now) (datum_of value.now)) }
+{
+    match value {
+        Value::Null => Ok(None),
+        Value::Edge(edge) => match view.ends(*edge) {
+            None => Err(EvalError::Fault(DataFault::Deleted)),
+            Some(Ends::Directed { .. }) => Ok(Some(true)),
+            Some(Ends::Undirected { .. }) => Ok(Some(false)),
+        },
+        _ => Err(EvalError::Fault(DataFault::WrongKind)),
+    }
+}
+
+/// IS SOURCE OF and IS DESTINATION OF; None is NULL.
+pub fn end<V: View>(
+    view: &V,
+    which: EdgeEnd,
+    value: &Value,
+    edge: &Value,
+) -> Result<Option<bool>, EvalError>
+    ensures { Gives (λ b. b) result (end_value (V.graph view.now) which (datum_of value.now) (datum_of edge.now)) }
+{
+    match (value, edge) {
+        (Value::Null, _) | (_, Value::Null) => Ok(None),
+        (Value::Node(node), Value::Edge(edge)) => {
+            if !view.has_node(*node) {
+                return Err(EvalError::Fault(DataFault::Deleted));
+            }
+            match view.ends(*edge) {
+                None => Err(EvalError::Fault(DataFault::Deleted)),
+                Some(ends) => Ok(Some(is_at(which, *node, ends))),
+            }
+        }
+        _ => Err(EvalError::Fault(DataFault::WrongKind)),
+    }
+}
+
+/// Whether the node is that end; undirected edges have no such ends.
+fn is_at(which: EdgeEnd, node: NodeId, ends: Ends) -> bool
+    ensures { result ≡ is_end which node.0 (Some ends) }
+{
+    match (which, ends) {
+        (EdgeEnd::Source, Ends::Directed { source, .. }) => source == node,
+        (EdgeEnd::Destination, Ends::Directed { target, .. }) => target == node,
+        (_, Ends::Undirected { .. }) => false,
+    }
+}
+
+/// IS by one word; None is NULL.
+pub fn quality<V: View>(
+    view: &V,
+    quality: Quality,
+    value: &Value,
+) -> Result<Option<bool>, EvalError>
+    ensures { Gives (λ b. b) result (quality_value (V.graph view.now) quality (datum_of value.now)) }
+{
+    match quality {
+        Quality::Null => Ok(Some(value.is_null())),
+        Quality::Directed => directed(view, value),
+        Quality::True | Quality::False | Quality::Unknown => {
+            Ok(Some(names_truth(quality, truth_of_value(value)?)))
+        }
+    }
+}

@@ -1,0 +1,88 @@
+ghost use Rattle.std.specs.Prelude.{◌+ℤ◌, ◌-ℤ◌, ◌*ℤ◌};
+ghost use Rattle.gql_values3.specs.Meaning.{datum_of};
+ghost use Rattle.gql_ast.specs.Operators.{operated, arithmetic, fitted, divided, remaining, sign_of};
+ghost use Rattle.gql_eval.specs.Gives.{Gives};
+
+use crate::arithmetic::{add, divide, multiply, remainder, subtract};
+use crate::error::EvalError;
+use crate::joining::join;
+use gql_ast::{DataFault, Operator, Sign};
+use gql_values3::Value;
+use std::alloc::Global;
+
+/// An operator between two sides of a sum or a product.
+pub fn operate(alloc: Global, operator: Operator, a: Value, b: Value) -> Result<Value, EvalError>
+    ensures { Gives datum_of result (operated operator (datum_of a) (datum_of b)) }
+{
+    match operator {
+        Operator::Add => sum(&a, &b),
+        Operator::Subtract => difference(&a, &b),
+        Operator::Concatenate => join(alloc, a, b),
+        Operator::Multiply => product(&a, &b),
+        Operator::Divide => quotient(&a, &b),
+        Operator::Or | Operator::Xor | Operator::And => Err(EvalError::Fault(DataFault::WrongKind)),
+    }
+}
+
+fn sum(a: &Value, b: &Value) -> Result<Value, EvalError>
+    ensures { Gives datum_of result (arithmetic (λ x y. fitted (x +ℤ y)) (datum_of a.now) (datum_of b.now)) }
+{
+    match (a, b) {
+        (Value::Null, _) | (_, Value::Null) => Ok(Value::Null),
+        (Value::Int(a), Value::Int(b)) => add(*a, *b),
+        _ => Err(EvalError::Fault(DataFault::WrongKind)),
+    }
+}
+
+fn difference(a: &Value, b: &Value) -> Result<Value, EvalError>
+    ensures { Gives datum_of result (arithmetic (λ x y. fitted (x -ℤ y)) (datum_of a.now) (datum_of b.now)) }
+{
+    match (a, b) {
+        (Value::Null, _) | (_, Value::Null) => Ok(Value::Null),
+        (Value::Int(a), Value::Int(b)) => subtract(*a, *b),
+        _ => Err(EvalError::Fault(DataFault::WrongKind)),
+    }
+}
+
+fn product(a: &Value, b: &Value) -> Result<Value, EvalError>
+    ensures { Gives datum_of result (arithmetic (λ x y. fitted (x *ℤ y)) (datum_of a.now) (datum_of b.now)) }
+{
+    match (a, b) {
+        (Value::Null, _) | (_, Value::Null) => Ok(Value::Null),
+        (Value::Int(a), Value::Int(b)) => multiply(*a, *b),
+        _ => Err(EvalError::Fault(DataFault::WrongKind)),
+    }
+}
+
+fn quotient(a: &Value, b: &Value) -> Result<Value, EvalError>
+    ensures { Gives datum_of result (arithmetic divided (datum_of a.now) (datum_of b.now)) }
+{
+    match (a, b) {
+        (Value::Null, _) | (_, Value::Null) => Ok(Value::Null),
+        (Value::Int(a), Value::Int(b)) => divide(*a, *b),
+        _ => Err(EvalError::Fault(DataFault::WrongKind)),
+    }
+}
+
+/// MOD.
+pub fn modulo(a: &Value, b: &Value) -> Result<Value, EvalError>
+    ensures { Gives datum_of result (arithmetic remaining (datum_of a.now) (datum_of b.now)) }
+{
+    match (a, b) {
+        (Value::Null, _) | (_, Value::Null) => Ok(Value::Null),
+        (Value::Int(a), Value::Int(b)) => remainder(*a, *b),
+        _ => Err(EvalError::Fault(DataFault::WrongKind)),
+    }
+}
+
+/// A sign before a value.
+pub fn signed(sign: Sign, value: &Value) -> Result<Value, EvalError>
+    ensures { Gives datum_of result (sign_of sign (datum_of value.now)) }
+{
+    match (sign, value) {
+        (_, Value::Null) => Ok(Value::Null),
+        (Sign::Plus, Value::Int(number)) => Ok(Value::Int(*number)),
+        (Sign::Minus, Value::Int(number)) => subtract(0, *number),
+        _ => Err(EvalError::Fault(DataFault::WrongKind)),
+    }
+}
