@@ -9,6 +9,8 @@ pub mod arithmetic;
 pub mod elements;
 pub mod error;
 pub mod evaluation;
+#[cfg(test)]
+mod examples;
 pub mod functions;
 pub mod groups;
 pub mod joining;
