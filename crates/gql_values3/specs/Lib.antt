@@ -9,5 +9,6 @@ pub mod Texts
 pub mod PropertyGraph
 pub mod Lookup
 pub mod Names
+pub mod WordSlots
 pub mod IntegerLiterals
 pub mod Rows

@@ -1,6 +1,6 @@
 use crate::{
-    Comparison, EdgeId, List, NodeId, NotComparable, OutOfMemory, Truth, Value, and3, compare3,
-    int_of, not3, or3, plain_name, reserved_place, total_cmp, xor3,
+    Comparison, EdgeId, List, NodeId, NotComparable, OutOfMemory, Text, Truth, Value, and3,
+    compare3, int_of, not3, or3, plain_name, reserved_place, total_cmp, xor3,
 };
 use std::alloc::Global;
 use std::test::Fail;
@@ -143,4 +143,22 @@ fn places_count_from_0(rt: HostRuntime) {
     ] {
         assert_eq!(rt; reserved_place(text), place, "{text}");
     }
+}
+
+#[test]
+fn texts_and_lists_grow_at_the_end(rt: HostRuntime) {
+    let alloc = rt.alloc();
+    let mut text = Text::new(alloc);
+    assert!(rt; text.is_empty());
+    assert_eq!(rt; text.push_str("pay"), Ok(()));
+    assert_eq!(rt; text.push_str("ments"), Ok(()));
+    assert_eq!(rt; text.as_str(), "payments");
+    let again = Text::from_string(text.into_string());
+    assert_eq!(rt; again.len(), 8);
+    let mut list = List::new(alloc);
+    assert_eq!(rt; list.push(Value::Int(1)), Ok(()));
+    let mut more = List::new(alloc);
+    assert_eq!(rt; more.push(Value::Int(2)), Ok(()));
+    assert_eq!(rt; list.extend(more), Ok(()));
+    assert_eq!(rt; list.into_vec().len(), 2);
 }

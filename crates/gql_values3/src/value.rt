@@ -70,6 +70,13 @@ impl List {
         List { items }
     }
 
+    pub fn into_vec(self) -> Vec<Value>
+        ensures { map datum_of result.items ≡ self }
+    {
+        let List { items } = self;
+        items
+    }
+
     pub fn len(&self) -> usize
         ensures { result ≡ length self.now }
     {
@@ -87,6 +94,15 @@ impl List {
         ensures err { OnErr result (self.new ≡ self.old) }
     {
         self.items.push(value)?;
+        Ok(())
+    }
+
+    /// Adds the items of another list at the end.
+    pub fn extend(&mut self, mut other: List) -> Result<(), OutOfMemory>
+        ensures ok { OnOk result (self.new ≡ self.old ++ other) }
+        ensures err { OnErr result (self.new ≡ self.old) }
+    {
+        self.items.append(&mut other.items)?;
         Ok(())
     }
 

@@ -1,19 +1,19 @@
-use Rattle.std.proofs.Common.{◌≡◌, rules, tests, List, ℕ, Bor}
-use Rattle.std.specs.Ordering.{nat_cmp}
-use Rattle.std.specs.Cmp.Lexicographic.{slice_cmp}
-use Rattle.std.proofs.lemmas.Fn.{always_returns_same}
-use Rattle.gql_values3.specs.Names.{ascii_upper}
-use Rattle.gql_values3.proofs.WordLemmas.{position-searched, position-between}
+use Rattle.std.proofs.Common.{refl, sym, arith}
+use Rattle.gql_values3.proofs.WordLemmas.{place-found, place-missing}
 use Rattle.gql_values3.proofs.names.place_among.Goals as goal
 
-pub returns-in-Ok : goal.returns-in-Ok
-returns-in-Ok c =
-    position-searched (λ (w : Bor (List ℕ)). w.now) c.args.words.now (ascii_upper c.args.text.now) c.in-Ok.place c.requires.ascend c.in-Ok.ensures.bound
-    (c.in-Ok.ensures.position (λ (w : Bor (List ℕ)). slice_cmp nat_cmp w.now (ascii_upper c.args.text.now))
-    (always_returns_same _ (λ a r. r ≡ slice_cmp nat_cmp a.0.now.now (ascii_upper c.args.text.now)) _ (λ a r q k. search (rules, tests))))
+pub returns-then-is_eq : goal.returns-then-is_eq
+returns-then-is_eq c =
+    rw (c.from-then-is_eq.ensures, ← c.from.ensures)
+    (place-found c.args.places.now c.args.words.now c.args.text.now c.from.result c.requires.placed (rw (c.from.ensures, c.slot_of.ensures.value, c.as_bytes.ensures.value) refl)
+    c.in-Some.word.now c.in-Some.ensures.lookup.3.0 (sym c.in-Some.ensures.lookup.1) (rw (← c.order_of.ensures, ← c.is_eq.ensures) c.if-is_eq.true))
 
-pub returns-in-Err : goal.returns-in-Err
-returns-in-Err c =
-    position-between (λ (w : Bor (List ℕ)). w.now) c.args.words.now (ascii_upper c.args.text.now) c.in-Err.field-0 c.requires.ascend
-    (c.in-Err.ensures.position (λ (w : Bor (List ℕ)). slice_cmp nat_cmp w.now (ascii_upper c.args.text.now))
-    (always_returns_same _ (λ a r. r ≡ slice_cmp nat_cmp a.0.now.now (ascii_upper c.args.text.now)) _ (λ a r q k. search (rules, tests))))
+pub returns-else-is_eq : goal.returns-else-is_eq
+returns-else-is_eq c =
+    place-missing c.args.places.now c.args.words.now c.args.text.now c.from.result c.requires.placed (rw (c.from.ensures, c.slot_of.ensures.value, c.as_bytes.ensures.value) refl)
+    (λ l. (c.in-Some.word.now, sym c.in-Some.ensures.lookup.1, rw (← c.order_of.ensures, ← c.is_eq.ensures) c.if-is_eq.false))
+
+pub returns-in-None : goal.returns-in-None
+returns-in-None c =
+    place-missing c.args.places.now c.args.words.now c.args.text.now c.from.result c.requires.placed (rw (c.from.ensures, c.slot_of.ensures.value, c.as_bytes.ensures.value) refl)
+    (λ l. absurd (omega (arith, l, c.in-None.ensures.lookup.3)))
