@@ -1,6 +1,8 @@
+pub mod EscapeLemmas
 pub mod HeightLemmas
 pub mod LabelLemmas
 pub mod MeaningLemmas
+pub mod NumberLemmas
 pub mod PatternLemmas
 mod EvaluationExamples
 mod NameExamples

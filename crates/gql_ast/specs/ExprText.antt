@@ -1,7 +1,5 @@
 -- The canonical text of an expression, which also names a column that has no name of its own.
-use Rattle.std.specs.Prelude.{ℕ, List, [], ◌∷◌, ◌++◌, codes}
-use Rattle.std.specs.Fmt.{decimal}
-use Rattle.gql_values3.specs.IntegerLiterals.{value_of_digits}
+use Rattle.std.specs.Prelude.{ℕ, List, [], ◌∷◌, ◌++◌, ◌==◌, codes, if◌then◌else◌}
 use Rattle.gql_values3.specs.declared.comparison.Comparison.{Comparison}
 use Rattle.gql_values3.specs.declared.comparison.Comparison.TheVariants as comparison
 use Rattle.gql_ast.specs.ValueText.{value_text, name_text, any_name_text}
@@ -24,6 +22,11 @@ use Rattle.gql_ast.specs.declared.words.SetQuantifier.{SetQuantifier}
 use Rattle.gql_ast.specs.declared.words.SetQuantifier.TheVariants as quantifiers
 use Rattle.gql_ast.specs.declared.words.Sign.{Sign}
 use Rattle.gql_ast.specs.declared.words.Sign.TheVariants as signs
+
+-- a number by its digits, without the zeros that stand first; one digit stays
+abbrev pub number_text : List ℕ → List ℕ
+number_text [] = codes "0"
+number_text (c ∷ cs) = if c == 48 then number_text cs else c ∷ cs
 
 -- a text in parentheses
 abbrev pub in_parens : List ℕ → List ℕ
@@ -105,7 +108,7 @@ unfoldable mutual
   pub expr_text : Tree → List ℕ
   expr_text (constant d) = value_text d
   expr_text unknown = codes "UNKNOWN"
-  expr_text (number digits) = decimal (value_of_digits digits)
+  expr_text (number digits) = number_text digits
   expr_text (parameter p) = codes "$" ++ name_text p
   expr_text (name x) = name_text x
   expr_text (property x p) = name_text x ++ codes "." ++ any_name_text p

@@ -22,4 +22,6 @@ pub mod ElementTests
 pub mod Aggregates
 pub mod Evaluation
 pub mod ValueText
+pub mod Escapes
 pub mod ExprText
+pub mod NumberLiterals

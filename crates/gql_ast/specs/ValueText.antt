@@ -2,7 +2,7 @@
 use Rattle.std.specs.Prelude.{ℕ, ◌+◌, ◌/◌, ◌%◌, ◌==◌, ◌||◌, nat_lt, Bool, true, false, List, [], ◌∷◌, ◌++◌, codes, if◌then◌else◌}
 use Rattle.std.specs.List.{flat_map}
 use Rattle.std.specs.Fmt.{decimal, signed_decimal}
-use Rattle.gql_values3.specs.Datum.{Datum, Data, null, boolean, integer, text, list, node, edge, path, no_data, more_data}
+use Rattle.gql_values3.specs.Datum.{Datum, Data, PathData, null, boolean, integer, text, list, node, edge, path, no_data, more_data}
 use Rattle.gql_values3.specs.Names.{is_name, is_plain_name}
 
 -- an upper-case hexadecimal digit
@@ -33,6 +33,10 @@ in_string b = if b == 39 then codes "\\'" else plainly b
 abbrev pub in_ticks : ℕ → List ℕ
 in_ticks b = if b == 96 then codes "``" else plainly b
 
+-- a byte of a column's name above the column, where quotes and backslashes stand as they are
+abbrev pub in_header : ℕ → List ℕ
+in_header b = if b == 92 then 92 ∷ [] else plainly b
+
 abbrev pub string_text : List ℕ → List ℕ
 string_text t = 39 ∷ (flat_map in_string t ++ 39 ∷ [])
 
@@ -47,6 +51,10 @@ name_text x = if is_plain_name x then x else ticked_text x
 abbrev pub any_name_text : List ℕ → List ℕ
 any_name_text x = if is_name x then x else ticked_text x
 
+-- a column's name above the column
+abbrev pub header_text : List ℕ → List ℕ
+header_text x = flat_map in_header x
+
 abbrev pub node_text : ℕ → List ℕ
 node_text n = 40 ∷ (decimal n ++ 41 ∷ [])
 
@@ -55,6 +63,9 @@ edge_text e = 91 ∷ (decimal e ++ 93 ∷ [])
 
 abbrev pub step_text : ℕ × ℕ → List ℕ
 step_text s = edge_text s.0 ++ node_text s.1
+
+abbrev pub path_text : PathData → List ℕ
+path_text p = node_text p.start ++ flat_map step_text p.steps
 
 abbrev pub boolean_text : Bool → List ℕ
 boolean_text true = codes "TRUE"
@@ -69,7 +80,7 @@ abbrev mutual
   value_text (list ds) = 91 ∷ (items_text ds ++ 93 ∷ [])
   value_text (node n) = node_text n
   value_text (edge e) = edge_text e
-  value_text (path p) = node_text p.start ++ flat_map step_text p.steps
+  value_text (path p) = path_text p
 
   -- the items, a comma and a space between two
   pub items_text : Data → List ℕ

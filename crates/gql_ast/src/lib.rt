@@ -24,6 +24,7 @@ pub mod refusal;
 pub mod statement;
 #[cfg(test)]
 mod tests;
+pub mod text;
 pub mod words;
 
 pub use change::{

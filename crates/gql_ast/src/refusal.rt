@@ -4,7 +4,10 @@ use gql_values3::{EdgeId, Elem, NodeId, Table, Text, Value};
 /// Which column a refusal speaks of.
 #[derive(Debug, Drop)]
 pub enum ColumnRef {
+    /// A column, by its name.
     Name(Text),
+    /// A property that a map or a type names twice.
+    Property(Text),
     /// `*`
     All,
 }
