@@ -28,7 +28,7 @@ pub use comparison::{Comparison, NotComparable, compare3};
 pub use element::{EdgeId, Elem, Ends, NodeId};
 pub use integer::int_of;
 pub use memory::OutOfMemory;
-pub use names::{plain_name, reserved_place};
+pub use names::{plain_name, reserved_place, spells_name};
 pub use order::total_cmp;
 pub use path::PathValue;
 pub use properties::Properties;

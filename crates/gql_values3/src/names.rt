@@ -176,8 +176,8 @@ pub fn plain_name(text: &str) -> bool
     }
 }
 
-/// Whether the characters of the text are those of a name, reserved or not.
-fn spells_name(text: &str) -> bool
+/// Whether the characters of the text are those of a name, reserved or not. It takes no memory.
+pub fn spells_name(text: &str) -> bool
     ensures { result ≡ is_name text.now }
 {
     let mut rest = text.chars();
