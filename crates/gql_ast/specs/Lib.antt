@@ -25,3 +25,13 @@ pub mod ValueText
 pub mod Escapes
 pub mod ExprText
 pub mod NumberLiterals
+pub mod Outputs
+pub mod RowAggregates
+pub mod ClauseColumns
+pub mod Projections
+pub mod UnknownNames
+pub mod WrongKinds
+pub mod Misuses
+pub mod ColumnFaults
+pub mod UnsetParameters
+pub mod StaticRefusals

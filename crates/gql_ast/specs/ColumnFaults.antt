@@ -1,0 +1,129 @@
+-- E16 COLUMN: two output columns have one name; a map names a property twice; an item with an aggregate over rows names a
+-- column outside it; GROUP BY names something else than a key, or one twice, or omits one; `RETURN *` has no column. Here
+-- stands what is at fault, in the order of the text.
+use Rattle.std.specs.Prelude.{ℕ, Bool, true, false, not, ◌&&◌, ◌||◌, List, [], ◌∷◌, ◌++◌, map, filter, Option, Some, None, if◌then◌else◌}
+use Rattle.std.specs.List.{list_any}
+use Rattle.gql_values3.specs.Texts.{same_text}
+use Rattle.gql_values3.specs.declared.table.ColumnKind.{ColumnKind}
+use Rattle.gql_ast.specs.Tree.{Tree, Trees, Links, constant, unknown, number, parameter, name, property, paren, listing, count_all, aggregate, call, modulo, coalesce, signed, product, sum, comparing, test, label_test, end_test, negation, conjunction, disjunction, link, no_trees, more_trees, no_links, more_links}
+use Rattle.gql_ast.specs.Meaning.{tree_of}
+use Rattle.gql_ast.specs.Scope.{names_in}
+use Rattle.gql_ast.specs.Outputs.{item_name}
+use Rattle.gql_ast.specs.ClauseColumns.{ColumnList, node_of_pattern}
+use Rattle.gql_ast.specs.Projections.{is_key, columns_behind}
+use Rattle.gql_ast.specs.RowAggregates.{is_over_group}
+use Rattle.gql_ast.specs.declared.clause.Clause.{Clause}
+use Rattle.gql_ast.specs.declared.clause.Clause.TheVariants as clause
+use Rattle.gql_ast.specs.declared.filler.Condition.{Condition}
+use Rattle.gql_ast.specs.declared.filler.Condition.TheVariants as condition
+use Rattle.gql_ast.specs.declared.filler.Filler.{Filler}
+use Rattle.gql_ast.specs.declared.filler.MapItem.{MapItem}
+use Rattle.gql_ast.specs.declared.projection.Return.{Return}
+use Rattle.gql_ast.specs.declared.projection.ReturnItem.{ReturnItem}
+use Rattle.gql_ast.specs.declared.projection.ReturnItems.{ReturnItems}
+use Rattle.gql_ast.specs.declared.projection.ReturnItems.TheVariants as items
+use Rattle.gql_ast.specs.declared.refusal.ColumnRef.{ColumnRef}
+use Rattle.gql_ast.specs.declared.refusal.ColumnRef.TheVariants as column
+
+abbrev pub is_among : List (List ℕ) → List ℕ → Bool
+is_among names x = list_any (same_text x) names
+
+-- the names that stand a second time, behind names seen before
+abbrev pub repeated : List (List ℕ) → List (List ℕ) → List (List ℕ)
+repeated seen [] = []
+repeated seen (x ∷ xs) = if is_among seen x then x ∷ repeated (x ∷ seen) xs else repeated (x ∷ seen) xs
+
+abbrev pub faults_in_condition : Option Condition → List ColumnRef
+faults_in_condition (Some (condition.Map is)) = map column.Property (repeated [] (map (λ (i : MapItem). i.name) is))
+faults_in_condition _ = []
+
+abbrev pub faults_in_node : Option Filler → List ColumnRef
+faults_in_node None = []
+faults_in_node (Some f) = faults_in_condition f.condition
+
+module _ (columns : ColumnList) where
+  abbrev mutual
+    -- the names of an expression outside its aggregates over rows
+    pub names_outside : Tree → List (List ℕ)
+    names_outside (constant d) = []
+    names_outside unknown = []
+    names_outside (number n) = []
+    names_outside (parameter p) = []
+    names_outside (name x) = x ∷ []
+    names_outside (property x k) = x ∷ []
+    names_outside (paren e) = names_outside e
+    names_outside (listing es) = names_outside_each es
+    names_outside count_all = []
+    names_outside (aggregate a q e) = if is_over_group columns e then names_in e else []
+    names_outside (call f e) = names_outside e
+    names_outside (modulo a b) = names_outside a ++ names_outside b
+    names_outside (coalesce e es) = names_outside e ++ names_outside_each es
+    names_outside (signed s e) = names_outside e
+    names_outside (product e ls) = names_outside e ++ names_outside_sides ls
+    names_outside (sum e ls) = names_outside e ++ names_outside_sides ls
+    names_outside (comparing op a b) = names_outside a ++ names_outside b
+    names_outside (test e s q) = names_outside e
+    names_outside (label_test e s l) = names_outside e
+    names_outside (end_test e s which x) = names_outside e ++ x ∷ []
+    names_outside (negation e) = names_outside e
+    names_outside (conjunction e ls) = names_outside e ++ names_outside_sides ls
+    names_outside (disjunction e ls) = names_outside e ++ names_outside_sides ls
+
+    pub names_outside_each : Trees → List (List ℕ)
+    names_outside_each no_trees = []
+    names_outside_each (more_trees e es) = names_outside e ++ names_outside_each es
+
+    pub names_outside_sides : Links → List (List ℕ)
+    names_outside_sides no_links = []
+    names_outside_sides (more_links (link op e) ls) = names_outside e ++ names_outside_sides ls
+
+  -- an item with an aggregate over rows may name no column outside it
+  abbrev pub columns_outside : Tree → List ColumnRef
+  columns_outside e = if is_key columns e then [] else map column.Name (names_outside e)
+
+  -- an output column's name stands behind its expression, also where AS is missing
+  abbrev pub repeated_name : List (List ℕ) → List ℕ → List ColumnRef
+  repeated_name seen x = if is_among seen x then column.Name x ∷ [] else []
+
+  abbrev pub faults_in_list : List (List ℕ) → List ReturnItem → List ColumnRef
+  faults_in_list seen [] = []
+  faults_in_list seen (i ∷ is) = columns_outside (tree_of i.value) ++ repeated_name seen (item_name i) ++ faults_in_list (item_name i ∷ seen) is
+
+  abbrev pub faults_in_items : ReturnItems → List ColumnRef
+  faults_in_items items.All = none columns
+    where
+      none : ColumnList → List ColumnRef
+      none [] = column.All ∷ []
+      none (c ∷ cs) = []
+  faults_in_items (items.Listed is) = faults_in_list [] is
+
+  -- the output names of the keys
+  abbrev pub key_names : ReturnItems → List (List ℕ)
+  key_names items.All = map (λ (c : List ℕ × ColumnKind). c.0) columns
+  key_names (items.Listed is) = map item_name (filter (λ (i : ReturnItem). is_key columns (tree_of i.value)) is)
+
+  -- names of GROUP BY that are no key, or stand a second time
+  abbrev pub faults_in_names : List (List ℕ) → List (List ℕ) → List (List ℕ) → List ColumnRef
+  faults_in_names keys seen [] = []
+  faults_in_names keys seen (x ∷ xs) =
+      if is_among keys x && not (is_among seen x) then faults_in_names keys (x ∷ seen) xs else column.Name x ∷ faults_in_names keys (x ∷ seen) xs
+
+  -- keys that GROUP BY omits stand behind its last name
+  abbrev pub omitted : List (List ℕ) → List (List ℕ) → List ColumnRef
+  omitted keys names = map column.Name (filter (λ k. not (is_among names k)) keys)
+
+  abbrev pub faults_in_grouping : List (List ℕ) → Option (List (List ℕ)) → List ColumnRef
+  faults_in_grouping keys None = []
+  faults_in_grouping keys (Some names) = faults_in_names keys [] names ++ omitted keys names
+
+  abbrev pub faults_in_return : Return → List ColumnRef
+  faults_in_return r = faults_in_items r.items ++ faults_in_grouping (key_names r.items) r.grouping
+
+abbrev pub faults_in_clause : ColumnList → Clause → List ColumnRef
+faults_in_clause columns (clause.Match m) = faults_in_node (node_of_pattern m.pattern)
+faults_in_clause columns (clause.Return r) = faults_in_return columns r
+faults_in_clause columns _ = []
+
+abbrev pub faults_in_clauses : ColumnList → List Clause → List ColumnRef
+faults_in_clauses columns [] = []
+faults_in_clauses columns (c ∷ cs) = faults_in_clause columns c ++ faults_in_clauses (columns_behind columns c) cs

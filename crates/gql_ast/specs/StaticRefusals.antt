@@ -1,0 +1,55 @@
+-- Static refusals: the first in the order of their codes, and within one code the first in the order of the text. Only
+-- E08, E09, E15, E16 and E23 stand here, as they come in statements over one node pattern.
+use Rattle.std.specs.Prelude.{ℕ, Bool, true, false, List, [], ◌∷◌, Option, Some, None}
+use Rattle.std.specs.List.{flat_map}
+use Rattle.std.specs.Option.{option_or}
+use Rattle.gql_values3.specs.Datum.{Datum}
+use Rattle.gql_ast.specs.Meaning.{tree_of}
+use Rattle.gql_ast.specs.UnknownNames.{unknown_in, unknown_in_clauses}
+use Rattle.gql_ast.specs.WrongKinds.{wrong_in_clauses}
+use Rattle.gql_ast.specs.Misuses.{misused, misused_clauses, elsewhere}
+use Rattle.gql_ast.specs.ColumnFaults.{faults_in_clauses}
+use Rattle.gql_ast.specs.UnsetParameters.{parameters_in, parameters_of_clause, unset}
+use Rattle.gql_ast.specs.declared.clause.Clause.{Clause}
+use Rattle.gql_ast.specs.declared.refusal.ColumnRef.{ColumnRef}
+use Rattle.gql_ast.specs.declared.refusal.Refusal.{Refusal}
+use Rattle.gql_ast.specs.declared.refusal.Refusal.TheVariants as refusal
+use Rattle.gql_ast.specs.declared.statement.SessionStatement.{SessionStatement}
+use Rattle.gql_ast.specs.declared.statement.SessionStatement.TheVariants as session
+use Rattle.gql_ast.specs.declared.statement.Statement.{Statement}
+use Rattle.gql_ast.specs.declared.statement.Statement.TheVariants as statement
+
+-- the refusal of the first of what is at fault
+abbrev pub first_of : {A : Type 0} → (A → Refusal) → List A → Option Refusal
+first_of refuse [] = None
+first_of refuse (x ∷ xs) = Some (refuse x)
+
+abbrev pub misuse_if : Bool → Option Refusal
+misuse_if true = Some refusal.Misuse
+misuse_if false = None
+
+-- the first in the order of the codes
+abbrev pub first_by_code : List (List ℕ) → List (List ℕ) → Bool → List ColumnRef → List (List ℕ) → Option Refusal
+first_by_code unknown kinds misuse columns parameters =
+    option_or (first_of refusal.Variable unknown)
+    (option_or (first_of refusal.Kind kinds)
+    (option_or (misuse_if misuse)
+    (option_or (first_of refusal.Column columns) (first_of refusal.Parameter parameters))))
+
+module _ (params : List (List ℕ × Datum)) where
+  -- of a query, which begins without columns
+  abbrev pub query_refusal : List Clause → Option Refusal
+  query_refusal cs =
+      first_by_code (unknown_in_clauses [] cs) (wrong_in_clauses [] cs) (misused_clauses [] cs) (faults_in_clauses [] cs)
+      (unset params (flat_map parameters_of_clause cs))
+
+  -- SESSION SET VALUE evaluates its expression over no columns
+  abbrev pub session_refusal : SessionStatement → Option Refusal
+  session_refusal (session.SetValue p e) =
+      first_by_code (unknown_in [] (tree_of e)) [] (misused [] elsewhere (tree_of e)) [] (unset params (parameters_in (tree_of e)))
+  session_refusal _ = None
+
+  abbrev pub static_refusal : Statement → Option Refusal
+  static_refusal (statement.Query q) = query_refusal q.clauses
+  static_refusal (statement.Session s) = session_refusal s
+  static_refusal _ = None

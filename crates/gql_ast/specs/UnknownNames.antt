@@ -1,0 +1,105 @@
+-- E08 VARIABLE: an expression names a variable that isn't in scope, or LET or FOR declares a name that is taken. Here
+-- stand the names at fault in the order of the text.
+use Rattle.std.specs.Prelude.{ℕ, Bool, not, List, [], ◌∷◌, ◌++◌, filter, Option, Some, None, if◌then◌else◌}
+use Rattle.std.specs.List.{flat_map}
+use Rattle.gql_values3.specs.declared.table.ColumnKind.TheVariants as kind
+use Rattle.gql_ast.specs.Tree.{Tree}
+use Rattle.gql_ast.specs.Meaning.{tree_of}
+use Rattle.gql_ast.specs.Scope.{names_in}
+use Rattle.gql_ast.specs.Outputs.{kind_of}
+use Rattle.gql_ast.specs.ClauseColumns.{ColumnList, is_column, node_of_pattern, match_columns, with_filler}
+use Rattle.gql_ast.specs.Projections.{sort_columns, columns_behind}
+use Rattle.gql_ast.specs.declared.clause.Clause.{Clause}
+use Rattle.gql_ast.specs.declared.clause.Clause.TheVariants as clause
+use Rattle.gql_ast.specs.declared.clause.Counting.{Counting}
+use Rattle.gql_ast.specs.declared.clause.For.{For}
+use Rattle.gql_ast.specs.declared.clause.LetItem.{LetItem}
+use Rattle.gql_ast.specs.declared.expr.Expr.{Expr}
+use Rattle.gql_ast.specs.declared.filler.Condition.{Condition}
+use Rattle.gql_ast.specs.declared.filler.Condition.TheVariants as condition
+use Rattle.gql_ast.specs.declared.filler.Filler.{Filler}
+use Rattle.gql_ast.specs.declared.filler.MapItem.{MapItem}
+use Rattle.gql_ast.specs.declared.page.Page.{Page}
+use Rattle.gql_ast.specs.declared.page.Page.TheVariants as page
+use Rattle.gql_ast.specs.declared.page.SortItem.{SortItem}
+use Rattle.gql_ast.specs.declared.path.GraphPattern.{GraphPattern}
+use Rattle.gql_ast.specs.declared.projection.Return.{Return}
+use Rattle.gql_ast.specs.declared.projection.ReturnItem.{ReturnItem}
+use Rattle.gql_ast.specs.declared.projection.ReturnItems.{ReturnItems}
+use Rattle.gql_ast.specs.declared.projection.ReturnItems.TheVariants as items
+
+-- the names of an expression that are no columns
+abbrev pub unknown_in : ColumnList → Tree → List (List ℕ)
+unknown_in columns e = filter (λ x. not (is_column columns x)) (names_in e)
+
+abbrev pub unknown_in_expr : ColumnList → Expr → List (List ℕ)
+unknown_in_expr columns e = unknown_in columns (tree_of e)
+
+abbrev pub unknown_if : ColumnList → Option Expr → List (List ℕ)
+unknown_if columns None = []
+unknown_if columns (Some e) = unknown_in_expr columns e
+
+-- a declared name that is a column already
+abbrev pub taken : ColumnList → List ℕ → List (List ℕ)
+taken columns x = if is_column columns x then x ∷ [] else []
+
+abbrev pub unknown_in_condition : ColumnList → Option Condition → List (List ℕ)
+unknown_in_condition columns None = []
+unknown_in_condition columns (Some (condition.Map is)) = flat_map (λ (i : MapItem). unknown_in_expr columns i.value) is
+unknown_in_condition columns (Some (condition.Where e)) = unknown_in_expr columns e
+
+-- the conditions of a node see its own variable
+abbrev pub unknown_in_node : ColumnList → Option Filler → List (List ℕ)
+unknown_in_node columns None = []
+unknown_in_node columns (Some f) = unknown_in_condition (with_filler columns (Some f)) f.condition
+
+abbrev pub unknown_in_pattern : ColumnList → GraphPattern → List (List ℕ)
+unknown_in_pattern columns g = unknown_in_node columns (node_of_pattern g) ++ unknown_if (match_columns columns g) g.condition
+
+-- a LET's name stands before its expression, and later items see it
+abbrev pub unknown_in_let : ColumnList → List LetItem → List (List ℕ)
+unknown_in_let columns [] = []
+unknown_in_let columns (i ∷ is) =
+    taken columns i.name ++ unknown_in_expr columns i.value ++ unknown_in_let (columns ++ (i.name, kind_of columns (tree_of i.value)) ∷ []) is
+
+-- a FOR's counter may not bear the item's name either
+abbrev pub unknown_in_counter : ColumnList → Option (Counting × List ℕ) → List (List ℕ)
+unknown_in_counter columns None = []
+unknown_in_counter columns (Some c) = taken columns c.1
+
+abbrev pub unknown_in_for : ColumnList → For → List (List ℕ)
+unknown_in_for columns f =
+    taken columns f.name ++ unknown_in_expr columns f.list ++ unknown_in_counter (columns ++ (f.name, kind.Plain) ∷ []) f.counter
+
+abbrev pub unknown_in_keys : ColumnList → List SortItem → List (List ℕ)
+unknown_in_keys columns is = flat_map (λ (i : SortItem). unknown_in_expr columns i.key) is
+
+abbrev pub unknown_in_order : ColumnList → Option (List SortItem) → List (List ℕ)
+unknown_in_order columns None = []
+unknown_in_order columns (Some is) = unknown_in_keys columns is
+
+abbrev pub unknown_in_page : ColumnList → Page → List (List ℕ)
+unknown_in_page columns (page.Order is skip limit) = unknown_in_keys columns is
+unknown_in_page columns _ = []
+
+abbrev pub unknown_in_items : ColumnList → ReturnItems → List (List ℕ)
+unknown_in_items columns items.All = []
+unknown_in_items columns (items.Listed is) = flat_map (λ (i : ReturnItem). unknown_in_expr columns i.value) is
+
+-- GROUP BY names output columns, and its faults are E16
+abbrev pub unknown_in_return : ColumnList → Return → List (List ℕ)
+unknown_in_return columns r = unknown_in_items columns r.items ++ unknown_in_order (sort_columns columns r) r.order
+
+abbrev pub unknown_in_clause : ColumnList → Clause → List (List ℕ)
+unknown_in_clause columns (clause.Match m) = unknown_in_pattern columns m.pattern
+unknown_in_clause columns (clause.Let is) = unknown_in_let columns is
+unknown_in_clause columns (clause.Filter e) = unknown_in_expr columns e
+unknown_in_clause columns (clause.For f) = unknown_in_for columns f
+unknown_in_clause columns (clause.Page p) = unknown_in_page columns p
+unknown_in_clause columns (clause.Return r) = unknown_in_return columns r
+unknown_in_clause columns (clause.Change c) = []
+
+-- of a query's clauses, each under the columns behind the one before
+abbrev pub unknown_in_clauses : ColumnList → List Clause → List (List ℕ)
+unknown_in_clauses columns [] = []
+unknown_in_clauses columns (c ∷ cs) = unknown_in_clause columns c ++ unknown_in_clauses (columns_behind columns c) cs

@@ -1,0 +1,123 @@
+-- E23 PARAM: a parameter isn't set. Here stand the names at fault in the order of the text.
+use Rattle.std.specs.Prelude.{ℕ, Bool, not, List, [], ◌∷◌, ◌++◌, filter, Option, Some, None}
+use Rattle.std.specs.List.{list_any, flat_map}
+use Rattle.gql_values3.specs.Datum.{Datum}
+use Rattle.gql_values3.specs.Texts.{same_text}
+use Rattle.gql_ast.specs.Tree.{Tree, Trees, Links, constant, unknown, number, parameter, name, property, paren, listing, count_all, aggregate, call, modulo, coalesce, signed, product, sum, comparing, test, label_test, end_test, negation, conjunction, disjunction, link, no_trees, more_trees, no_links, more_links}
+use Rattle.gql_ast.specs.Meaning.{tree_of}
+use Rattle.gql_ast.specs.ClauseColumns.{node_of_pattern}
+use Rattle.gql_ast.specs.declared.clause.Clause.{Clause}
+use Rattle.gql_ast.specs.declared.clause.Clause.TheVariants as clause
+use Rattle.gql_ast.specs.declared.clause.LetItem.{LetItem}
+use Rattle.gql_ast.specs.declared.expr.Expr.{Expr}
+use Rattle.gql_ast.specs.declared.filler.Condition.{Condition}
+use Rattle.gql_ast.specs.declared.filler.Condition.TheVariants as condition
+use Rattle.gql_ast.specs.declared.filler.Filler.{Filler}
+use Rattle.gql_ast.specs.declared.filler.MapItem.{MapItem}
+use Rattle.gql_ast.specs.declared.page.Page.{Page}
+use Rattle.gql_ast.specs.declared.page.Page.TheVariants as page
+use Rattle.gql_ast.specs.declared.page.RowCount.{RowCount}
+use Rattle.gql_ast.specs.declared.page.RowCount.TheVariants as rows
+use Rattle.gql_ast.specs.declared.page.SortItem.{SortItem}
+use Rattle.gql_ast.specs.declared.path.GraphPattern.{GraphPattern}
+use Rattle.gql_ast.specs.declared.projection.Return.{Return}
+use Rattle.gql_ast.specs.declared.projection.ReturnItem.{ReturnItem}
+use Rattle.gql_ast.specs.declared.projection.ReturnItems.{ReturnItems}
+use Rattle.gql_ast.specs.declared.projection.ReturnItems.TheVariants as items
+
+-- the parameters of an expression, in the order of the text
+abbrev mutual
+  pub parameters_in : Tree → List (List ℕ)
+  parameters_in (constant d) = []
+  parameters_in unknown = []
+  parameters_in (number n) = []
+  parameters_in (parameter p) = p ∷ []
+  parameters_in (name x) = []
+  parameters_in (property x k) = []
+  parameters_in (paren e) = parameters_in e
+  parameters_in (listing es) = parameters_in_each es
+  parameters_in count_all = []
+  parameters_in (aggregate a q e) = parameters_in e
+  parameters_in (call f e) = parameters_in e
+  parameters_in (modulo a b) = parameters_in a ++ parameters_in b
+  parameters_in (coalesce e es) = parameters_in e ++ parameters_in_each es
+  parameters_in (signed s e) = parameters_in e
+  parameters_in (product e ls) = parameters_in e ++ parameters_in_sides ls
+  parameters_in (sum e ls) = parameters_in e ++ parameters_in_sides ls
+  parameters_in (comparing op a b) = parameters_in a ++ parameters_in b
+  parameters_in (test e s q) = parameters_in e
+  parameters_in (label_test e s l) = parameters_in e
+  parameters_in (end_test e s which x) = parameters_in e
+  parameters_in (negation e) = parameters_in e
+  parameters_in (conjunction e ls) = parameters_in e ++ parameters_in_sides ls
+  parameters_in (disjunction e ls) = parameters_in e ++ parameters_in_sides ls
+
+  pub parameters_in_each : Trees → List (List ℕ)
+  parameters_in_each no_trees = []
+  parameters_in_each (more_trees e es) = parameters_in e ++ parameters_in_each es
+
+  pub parameters_in_sides : Links → List (List ℕ)
+  parameters_in_sides no_links = []
+  parameters_in_sides (more_links (link op e) ls) = parameters_in e ++ parameters_in_sides ls
+
+abbrev pub parameters_of : Expr → List (List ℕ)
+parameters_of e = parameters_in (tree_of e)
+
+abbrev pub parameters_if : Option Expr → List (List ℕ)
+parameters_if None = []
+parameters_if (Some e) = parameters_of e
+
+abbrev pub parameters_of_condition : Option Condition → List (List ℕ)
+parameters_of_condition None = []
+parameters_of_condition (Some (condition.Map is)) = flat_map (λ (i : MapItem). parameters_of i.value) is
+parameters_of_condition (Some (condition.Where e)) = parameters_of e
+
+abbrev pub parameters_of_node : Option Filler → List (List ℕ)
+parameters_of_node None = []
+parameters_of_node (Some f) = parameters_of_condition f.condition
+
+abbrev pub parameters_of_pattern : GraphPattern → List (List ℕ)
+parameters_of_pattern g = parameters_of_node (node_of_pattern g) ++ parameters_if g.condition
+
+abbrev pub parameters_of_keys : List SortItem → List (List ℕ)
+parameters_of_keys is = flat_map (λ (i : SortItem). parameters_of i.key) is
+
+abbrev pub parameters_of_order : Option (List SortItem) → List (List ℕ)
+parameters_of_order None = []
+parameters_of_order (Some is) = parameters_of_keys is
+
+abbrev pub parameters_of_count : RowCount → List (List ℕ)
+parameters_of_count (rows.Number digits) = []
+parameters_of_count (rows.Parameter p) = p ∷ []
+
+abbrev pub parameters_of_count_if : Option RowCount → List (List ℕ)
+parameters_of_count_if None = []
+parameters_of_count_if (Some c) = parameters_of_count c
+
+abbrev pub parameters_of_page : Page → List (List ℕ)
+parameters_of_page (page.Order is skip limit) = parameters_of_keys is ++ parameters_of_count_if skip ++ parameters_of_count_if limit
+parameters_of_page (page.Skip skip limit) = parameters_of_count skip ++ parameters_of_count_if limit
+parameters_of_page (page.Limit limit) = parameters_of_count limit
+
+abbrev pub parameters_of_items : ReturnItems → List (List ℕ)
+parameters_of_items items.All = []
+parameters_of_items (items.Listed is) = flat_map (λ (i : ReturnItem). parameters_of i.value) is
+
+abbrev pub parameters_of_return : Return → List (List ℕ)
+parameters_of_return r = parameters_of_items r.items ++ parameters_of_order r.order ++ parameters_of_count_if r.skip ++ parameters_of_count_if r.limit
+
+abbrev pub parameters_of_clause : Clause → List (List ℕ)
+parameters_of_clause (clause.Match m) = parameters_of_pattern m.pattern
+parameters_of_clause (clause.Let is) = flat_map (λ (i : LetItem). parameters_of i.value) is
+parameters_of_clause (clause.Filter e) = parameters_of e
+parameters_of_clause (clause.For f) = parameters_of f.list
+parameters_of_clause (clause.Page p) = parameters_of_page p
+parameters_of_clause (clause.Return r) = parameters_of_return r
+parameters_of_clause (clause.Change c) = []
+
+abbrev pub is_set : List (List ℕ × Datum) → List ℕ → Bool
+is_set params p = list_any (λ (q : List ℕ × Datum). same_text p q.0) params
+
+-- those that aren't set
+abbrev pub unset : List (List ℕ × Datum) → List (List ℕ) → List (List ℕ)
+unset params ps = filter (λ p. not (is_set params p)) ps
