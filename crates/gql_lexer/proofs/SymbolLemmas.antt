@@ -1,13 +1,13 @@
 -- Symbols that get no longer: the first that fits is the longest.
-use Rattle.std.proofs.Common.{◌≡◌, ℕ, zero, suc, ◌+◌, ◌<◌, ◌≤◌, Bool, true, false, cond, ◌&&◌, List, [], ◌∷◌, length, map, drop, get_or, Bor, Some, None, refl, sym, ap, ◌∙◌, arith, nat_lt, nat_le, nat_eq}
+use Rattle.std.proofs.Common.{◌≡◌, ℕ, zero, suc, ◌+◌, ◌<◌, ◌≤◌, Bool, true, false, cond, ◌&&◌, ◌==◌, List, [], ◌∷◌, length, map, drop, get_or, Bor, Some, None, refl, sym, ap, ◌∙◌, arith, nat_lt, nat_le, nat_eq}
 use Rattle.std.proofs.lemmas.Bool.Decides.{nat_tests}
 use Rattle.std.proofs.lemmas.List.{drop_more}
 use Rattle.std.specs.List.{starts_with}
 use Rattle.gql_lexer.specs.declared.front.Front.{Front}
 use Rattle.gql_lexer.specs.declared.front.Shape.TheVariants.{Symbol, Bad}
 use Rattle.gql_lexer.specs.Lengths.{begins}
-use Rattle.gql_lexer.specs.Forms.{form, symbols_from, longest, longer}
-use Rattle.gql_lexer.specs.Symbols.{no_longer}
+use Rattle.gql_lexer.specs.Forms.{form, symbols, symbols_from, longest, longer}
+use Rattle.gql_lexer.specs.Symbols.{no_longer, ends_symbol}
 
 -- std's word for the same
 begins-starts_with : (xs bs : List ℕ) → starts_with nat_eq bs xs ≡ begins xs bs
@@ -90,3 +90,51 @@ found at most xs bs d h e n =
 -- a list by its first item
 pub first-of : (bs : List ℕ) → 0 < length bs → bs ≡ get_or bs 0 0 ∷ drop 1 bs
 first-of bs h = drop_more bs 0 0 h
+
+-- no byte that may go on with a symbol
+module _ (b : ℕ) (h : ends_symbol b ≡ true) where
+  not_minus : (45 == b) ≡ false
+  not_minus = grind (arith, nat_tests)
+
+  not_plus : (43 == b) ≡ false
+  not_plus = grind (arith, nat_tests)
+
+  not_greater : (62 == b) ≡ false
+  not_greater = grind (arith, nat_tests)
+
+  not_tilde : (126 == b) ≡ false
+  not_tilde = grind (arith, nat_tests)
+
+  not_equals : (61 == b) ≡ false
+  not_equals = grind (arith, nat_tests)
+
+  not_bar : (124 == b) ≡ false
+  not_bar = grind (arith, nat_tests)
+
+  not_colon : (58 == b) ≡ false
+  not_colon = grind (arith, nat_tests)
+
+  -- the symbol of the byte before it is the longest
+  pub short-minus : (bs : List ℕ) → form (Symbol 11) 1 ≡ longest (symbols_from 0 symbols (45 ∷ b ∷ bs)) (form Bad 1)
+  unfolding symbols
+  short-minus bs = rw not_greater refl
+
+  pub short-tilde : (bs : List ℕ) → form (Symbol 12) 1 ≡ longest (symbols_from 0 symbols (126 ∷ b ∷ bs)) (form Bad 1)
+  unfolding symbols
+  short-tilde bs = rw not_greater refl
+
+  pub short-less : (bs : List ℕ) → form (Symbol 13) 1 ≡ longest (symbols_from 0 symbols (60 ∷ b ∷ bs)) (form Bad 1)
+  unfolding symbols
+  short-less bs = rw (not_minus, not_tilde, not_greater, not_equals) refl
+
+  pub short-greater : (bs : List ℕ) → form (Symbol 14) 1 ≡ longest (symbols_from 0 symbols (62 ∷ b ∷ bs)) (form Bad 1)
+  unfolding symbols
+  short-greater bs = rw not_equals refl
+
+  pub short-colon : (bs : List ℕ) → form (Symbol 27) 1 ≡ longest (symbols_from 0 symbols (58 ∷ b ∷ bs)) (form Bad 1)
+  unfolding symbols
+  short-colon bs = rw not_colon refl
+
+  pub short-bar : (bs : List ℕ) → form (Symbol 30) 1 ≡ longest (symbols_from 0 symbols (124 ∷ b ∷ bs)) (form Bad 1)
+  unfolding symbols
+  short-bar bs = rw (not_plus, not_bar) refl
