@@ -3,8 +3,9 @@
 //! Each alternative of the grammar is a variant, each repetition a list, and parentheses are kept. The crate's promise
 //! is that each type that leads back to itself has one plain meaning: `tree_of` of an expression, `label_of` of a label
 //! expression, `pattern_of` of a path pattern; the parts of trees are seen as these, and copies mean the same. It
-//! stands on `gql_values3`, whose texts and values stand in the trees. Beside the trees stand two definitions that the crates above
-//! are proved against: what evaluation gives (`specs/Evaluation.antt`), and canonical text (`specs/ExprText.antt`).
+//! stands on `gql_values3`, whose texts and values stand in the trees. `text` prints expressions, values and names as
+//! `specs/ExprText.antt` and `specs/ValueText.antt` define. Beside the trees stands a definition that the crates above
+//! are proved against: what evaluation gives (`specs/Evaluation.antt`).
 #![tactic(auto)]
 
 pub mod change;

@@ -1,3 +1,4 @@
+use crate::text::expr_text;
 use crate::{
     Clause, Condition, Direction, Expr, Exprs, Filler, GraphPattern, LabelExpr, LabelList,
     LabelSub, Match, Mode, Operator, ParseFault, PathExpr, PathList, PathPattern, PathSub, Prefix,
@@ -83,6 +84,13 @@ fn a_copy_of_an_expression_has_its_parts(rt: HostRuntime) -> Result<(), Fail> {
     let made = either(rt.alloc())?;
     assert!(rt; reads_either(&made));
     assert!(rt; reads_either(&made.try_copy(rt.alloc())?));
+    Ok(())
+}
+
+#[test]
+fn an_expression_prints(rt: HostRuntime) -> Result<(), Fail> {
+    let made = expr_text(rt.alloc(), &either(rt.alloc())?)?;
+    assert_eq!(rt; made.as_str(), "NOT a.b = 1 OR $p IS NULL");
     Ok(())
 }
 
@@ -244,6 +252,7 @@ fn a_long_chain_is_one_list(rt: HostRuntime) -> Result<(), Fail> {
     let sum = long_sum(rt.alloc())?;
     let copy = sum.try_copy(rt.alloc())?;
     assert!(rt; matches!(&copy, Expr::Sum(_, steps) if steps.len() == 100_000));
+    assert_eq!(rt; expr_text(rt.alloc(), &sum)?.len(), 1_000_007);
     Ok(())
 }
 

@@ -18,11 +18,7 @@ pub enum Setting {
 }
 
 /// Adds the characters, with an escape for each that cannot stand there as it is.
-pub fn push_escaped(
-    text: &mut Text,
-    setting: Setting,
-    characters: &str,
-) -> Result<(), OutOfMemory>
+pub fn push_escaped(text: &mut Text, setting: Setting, characters: &str) -> Result<(), OutOfMemory>
     ensures { OnOk result (text.new ≡ text.old ++ flat_map (escaped setting) characters.now) }
 {
     let mut rest = characters;
@@ -47,7 +43,7 @@ fn first_escaped(setting: Setting, characters: &str) -> Option<Cut>
     ensures { MatchOption result
         (flat_map (escaped setting) characters.now ≡ characters.now)
         (λ cut. (flat_map (escaped setting) characters.now ≡ cut.before.now ++ (escaped setting cut.byte ++ flat_map (escaped setting) cut.behind.now))
-            × IsTrue (is_escaped setting cut.byte) × (length cut.behind.now < length characters.now) × IsUtf8 cut.behind.now) }
+        × IsTrue (is_escaped setting cut.byte) × (length cut.behind.now < length characters.now) × IsUtf8 cut.behind.now) }
 {
     match first_place(setting, characters) {
         Some(at) => Some(cut_at(characters, at)),

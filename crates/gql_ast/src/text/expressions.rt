@@ -42,7 +42,12 @@ pub fn push_expr(text: &mut Text, expr: &Expr) -> Result<(), OutOfMemory>
         }
         Expr::CountAll => text.push_str("COUNT(*)"),
         Expr::Aggregate(word, quantifier, part) => {
-            push_between(text, words::aggregate_words(*word, *quantifier), part.expr(), ")")
+            push_between(
+                text,
+                words::aggregate_words(*word, *quantifier),
+                part.expr(),
+                ")",
+            )
         }
         Expr::Call(function, part) => {
             push_between(text, words::function_words(*function), part.expr(), ")")
@@ -62,7 +67,12 @@ pub fn push_expr(text: &mut Text, expr: &Expr) -> Result<(), OutOfMemory>
             push_between(text, words::comparison_words(*comparison), b.expr(), "")
         }
         Expr::Is(part, sense, quality) => {
-            push_between(text, "", part.expr(), words::quality_words(*sense, *quality))
+            push_between(
+                text,
+                "",
+                part.expr(),
+                words::quality_words(*sense, *quality),
+            )
         }
         Expr::IsLabeled(part, sense, labels) => {
             push_between(text, "", part.expr(), words::labeled_words(*sense))?;
@@ -85,12 +95,7 @@ pub fn push_expr(text: &mut Text, expr: &Expr) -> Result<(), OutOfMemory>
 
 /// Adds an expression between two texts.
 #[cycle(expr_text)]
-fn push_between(
-    text: &mut Text,
-    before: &str,
-    expr: &Expr,
-    behind: &str,
-) -> Result<(), OutOfMemory>
+fn push_between(text: &mut Text, before: &str, expr: &Expr, behind: &str) -> Result<(), OutOfMemory>
     ensures { OnOk result (text.new ≡ text.old ++ (before.now ++ (expr_text (tree_of expr.now) ++ behind.now))) }
 {
     text.push_str(before)?;
@@ -133,7 +138,12 @@ fn push_steps(text: &mut Text, steps: &[Step]) -> Result<(), OutOfMemory>
 {
     for i in 0..steps.len() {
         let step = &steps[i];
-        push_between(text, words::operator_words(step.operator), &step.operand, "")?;
+        push_between(
+            text,
+            words::operator_words(step.operator),
+            &step.operand,
+            "",
+        )?;
     }
     Ok(())
 }

@@ -11,11 +11,12 @@ pub returns-in-Some : goal.returns-in-Some
 returns-in-Some c =
     let xs = c.args.characters.now in
     let found = sym c.in-Some.ensures in
-    let known = escape_is c.args.setting xs c.in-Some.at found in
-    (rw (c.cut_at.ensures.before, c.cut_at.ensures.byte, c.cut_at.ensures.behind) (before_escape c.args.setting xs c.in-Some.at found),
-    rw c.cut_at.ensures.byte known.1,
-    rw c.cut_at.ensures.behind (omega (arith, known.0, length-drop (c.in-Some.at + 1) xs)),
-    c.cut_at.ensures.utf8)
+    let known = escape_is c.args.setting xs c.in-Some.at found in (
+      rw (c.cut_at.ensures.before, c.cut_at.ensures.byte, c.cut_at.ensures.behind) (before_escape c.args.setting xs c.in-Some.at found),
+      rw c.cut_at.ensures.byte known.1,
+      rw c.cut_at.ensures.behind (omega (arith, known.0, length-drop (c.in-Some.at + 1) xs)),
+      c.cut_at.ensures.utf8,
+    )
 
 pub returns-in-None : goal.returns-in-None
 returns-in-None c = no_escape c.args.setting c.args.characters.now (sym c.in-None.ensures)
