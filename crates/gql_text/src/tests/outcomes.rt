@@ -54,9 +54,8 @@ fn columns(alloc: Global, first: &str, second: &str) -> Result<Names, OutOfMemor
     Ok(made)
 }
 
-#[test]
-fn a_table_prints_its_rows(rt: HostRuntime) -> Result<(), Fail> {
-    let alloc = rt.alloc();
+/// A row with a tab in a string, and one with NULL.
+fn two_rows(alloc: Global) -> Result<Rows, OutOfMemory> {
     let mut rows = Rows::new(alloc);
     rows.push(row(
         alloc,
@@ -64,30 +63,38 @@ fn a_table_prints_its_rows(rt: HostRuntime) -> Result<(), Fail> {
         Value::Text(text(alloc, "a\tb")?),
     )?)?;
     rows.push(row(alloc, Value::Null, Value::Int(2))?)?;
-    let table = Table {
+    Ok(rows)
+}
+
+fn table(alloc: Global) -> Result<Table, OutOfMemory> {
+    Ok(Table {
         columns: columns(alloc, "x", "1 + 1\n")?,
-        rows,
-    };
+        rows: two_rows(alloc)?,
+    })
+}
+
+#[test]
+fn a_table_prints_its_rows(rt: HostRuntime) -> Result<(), Fail> {
+    let made = printed(rt.alloc(), Outcome::Table(table(rt.alloc())?))?;
     let wanted = ">x\t1 + 1\\n\n(1)\t'a\\tb'\nNULL\t2\nrows 2\n";
-    assert_eq!(rt;
-        printed(alloc, Outcome::Table(table))?.as_slice(),
-        wanted.as_bytes()
-    );
+    assert_eq!(rt; made.as_slice(), wanted.as_bytes());
     Ok(())
+}
+
+/// A table of one column, `order`.
+fn no_rows(alloc: Global) -> Result<Table, OutOfMemory> {
+    let mut columns = Names::new(alloc);
+    columns.push(text(alloc, "order")?)?;
+    Ok(Table {
+        columns,
+        rows: Rows::new(alloc),
+    })
 }
 
 #[test]
 fn a_table_without_rows_has_its_columns(rt: HostRuntime) -> Result<(), Fail> {
-    let mut columns = Names::new(rt.alloc());
-    columns.push(text(rt.alloc(), "order")?)?;
-    let table = Table {
-        columns,
-        rows: Rows::new(rt.alloc()),
-    };
-    assert_eq!(rt;
-        printed(rt.alloc(), Outcome::Table(table))?.as_slice(),
-        ">order\nrows 0\n".as_bytes()
-    );
+    let made = printed(rt.alloc(), Outcome::Table(no_rows(rt.alloc())?))?;
+    assert_eq!(rt; made.as_slice(), ">order\nrows 0\n".as_bytes());
     Ok(())
 }
 
@@ -211,18 +218,20 @@ fn refusals_with_elements_print(rt: HostRuntime) -> Result<(), Fail> {
     Ok(())
 }
 
+/// Two values for `order` of an edge.
+fn conflict(alloc: Global) -> Result<Refusal, OutOfMemory> {
+    Ok(Refusal::Conflict {
+        elem: Elem::Edge(EdgeId(2)),
+        property: text(alloc, "order")?,
+        first: Value::Int(1),
+        second: Value::Text(text(alloc, "one")?),
+    })
+}
+
 #[test]
 fn a_conflict_prints_both_values(rt: HostRuntime) -> Result<(), Fail> {
-    let conflict = Refusal::Conflict {
-        elem: Elem::Edge(EdgeId(2)),
-        property: text(rt.alloc(), "order")?,
-        first: Value::Int(1),
-        second: Value::Text(text(rt.alloc(), "one")?),
-    };
+    let made = refused(rt.alloc(), conflict(rt.alloc())?)?;
     let wanted = ">refused E21 CONFLICT [2] order 1 'one'\n";
-    assert_eq!(rt;
-        refused(rt.alloc(), conflict)?.as_slice(),
-        wanted.as_bytes()
-    );
+    assert_eq!(rt; made.as_slice(), wanted.as_bytes());
     Ok(())
 }

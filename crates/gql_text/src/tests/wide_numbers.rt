@@ -1,6 +1,6 @@
 use crate::wide_number;
 use gql_ast::{
-    AccessMode, ChangeClause, Clause, Condition, Direction, Expr, Exprs, Fill, Filler,
+    AccessMode, Arrow, ChangeClause, Clause, Condition, Direction, Expr, Exprs, Fill, Filler,
     GraphPattern, InsertPath, InsertStep, MapItem, Match, Page, PathExpr, PathPattern, PathSub,
     Prefix, Quantifier, Query, Return, ReturnItem, ReturnItems, RowCount, SessionStatement,
     SetQuantifier, Statement, Sub, TransactionStatement,
@@ -64,14 +64,18 @@ fn a_literal_is_wide_above_the_largest_integer(rt: HostRuntime) -> Result<(), Fa
     Ok(())
 }
 
+/// `MOD(first, second)`
+fn modulo(alloc: Global, first: &str, second: &str) -> Result<Expr, OutOfMemory> {
+    let first = Sub::new(alloc, number(alloc, first)?)?;
+    Ok(Expr::Mod(first, Sub::new(alloc, number(alloc, second)?)?))
+}
+
 /// `[first, MOD(second, third)]`
 fn three(alloc: Global, digits: [&str; 3]) -> Result<Expr, OutOfMemory> {
     let [first, second, third] = digits;
     let mut items = Exprs::new(alloc);
     items.push(number(alloc, first)?)?;
-    let second = Sub::new(alloc, number(alloc, second)?)?;
-    let third = Sub::new(alloc, number(alloc, third)?)?;
-    items.push(Expr::Mod(second, third))?;
+    items.push(modulo(alloc, second, third)?)?;
     Ok(Expr::List(items))
 }
 
@@ -222,18 +226,29 @@ fn fill(alloc: Global, digits: &str) -> Result<Fill, OutOfMemory> {
     })
 }
 
-/// `INSERT ({n: start})-[{n: edge}]->({n: node})`
-fn insert(alloc: Global, start: &str, edge: &str, node: &str) -> Result<Clause, OutOfMemory> {
-    let step = InsertStep {
-        arrow: gql_ast::Arrow::Right,
+/// `-[{n: edge}]->({n: node})`
+fn insert_step(alloc: Global, edge: &str, node: &str) -> Result<InsertStep, OutOfMemory> {
+    Ok(InsertStep {
+        arrow: Arrow::Right,
         edge: fill(alloc, edge)?,
         node: fill(alloc, node)?,
-    };
-    let path = InsertPath {
+    })
+}
+
+/// `({n: start})-[{n: edge}]->({n: node})`
+fn inserted(alloc: Global, start: &str, edge: &str, node: &str) -> Result<InsertPath, OutOfMemory> {
+    let mut steps = Sequence::new(alloc);
+    steps.push(insert_step(alloc, edge, node)?)?;
+    Ok(InsertPath {
         start: fill(alloc, start)?,
-        steps: Sequence::from_vec(vec![in alloc; step]?),
-    };
-    let paths = Sequence::from_vec(vec![in alloc; path]?);
+        steps,
+    })
+}
+
+/// `INSERT ({n: start})-[{n: edge}]->({n: node})`
+fn insert(alloc: Global, start: &str, edge: &str, node: &str) -> Result<Clause, OutOfMemory> {
+    let mut paths = Sequence::new(alloc);
+    paths.push(inserted(alloc, start, edge, node)?)?;
     Ok(Clause::Change(ChangeClause::Insert(paths)))
 }
 
