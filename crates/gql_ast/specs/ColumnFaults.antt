@@ -1,7 +1,7 @@
 -- E16 COLUMN: two output columns have one name; a map names a property twice; an item with an aggregate over rows names a
 -- column outside it; GROUP BY names something else than a key, or one twice, or omits one; `RETURN *` has no column. Here
 -- stands what is at fault, in the order of the text.
-use Rattle.std.specs.Prelude.{ℕ, Bool, true, false, not, ◌&&◌, ◌||◌, List, [], ◌∷◌, ◌++◌, map, filter, Option, Some, None, if◌then◌else◌}
+use Rattle.std.specs.Prelude.{ℕ, Bool, not, ◌&&◌, List, [], ◌∷◌, ◌++◌, map, filter, Option, Some, None, if◌then◌else◌}
 use Rattle.std.specs.List.{list_any}
 use Rattle.gql_values3.specs.Texts.{same_text}
 use Rattle.gql_values3.specs.declared.table.ColumnKind.{ColumnKind}
