@@ -1,0 +1,5 @@
+pub mod WordPlaces
+pub mod SymbolPlaces
+pub mod Reading
+pub mod Gives
+pub mod Longest
