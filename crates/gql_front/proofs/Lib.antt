@@ -1,8 +1,10 @@
 pub mod PlaceTables
+pub mod TableLemmas
 pub mod Found
 pub mod LexemeTests
 pub mod Fronts
 pub mod Agree
+pub mod Places
 pub mod Loops
 pub mod Chains
 pub mod Parts
