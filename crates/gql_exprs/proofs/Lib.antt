@@ -1,0 +1,5 @@
+pub mod LabelLevels
+pub mod LabelChains
+pub mod LabelFronts
+pub mod LabelLaws
+pub mod DepthLemmas
