@@ -1,8 +1,11 @@
 -- What holds of each row of a table holds of what the table says.
-use Rattle.std.proofs.Common.{◌≡◌, ℕ, Bool, true, false, cond, List, [], ◌∷◌, Some, nat_eq, eqb-true, refl, sym, subst}
+use Rattle.std.proofs.Common.{◌≡◌, ℕ, ◌<◌, Bool, true, false, cond, List, [], ◌∷◌, length, Option, Some, nat_eq, eqb-true, refl, sym, ap, subst, ◌∙◌, arith}
 use Rattle.gql_lexer.specs.declared.lexeme.Lexeme.{Lexeme}
 use Rattle.gql_lexer.specs.declared.lexeme.Lexeme.TheVariants as lex
-use Rattle.gql_front.specs.Tables.{entry, word_in, sign_in}
+use Rattle.gql_front.specs.Tables.{entry, word_in, sign_in, Begins}
+use Rattle.gql_front.specs.Reading.{◌>>=◌, before, op_at}
+use Rattle.gql_front.proofs.Found.{Goes, bind_some, some_is, is_there}
+use Rattle.gql_front.proofs.Fronts.{Front}
 
 abbrev pub Each : {A : Type 0} → (ℕ → A → Type 0) → List (ℕ × A) → Type 0
 Each P [] = Unit {0}
@@ -35,3 +38,24 @@ sign_row P table all (lex.Name x) a e = absurd cc
 sign_row P table all (lex.Chars x) a e = absurd cc
 sign_row P table all (lex.Number x) a e = absurd cc
 sign_row P table all (lex.Param x) a e = absurd cc
+
+-- the lexeme at the front
+module _ {A : Type 0} (says : Lexeme → Option A) where
+  pub begins_read : (a : A) (ts r : List Lexeme) → Begins says a ts r → op_at says ts ≡ Some (a, r)
+  begins_read a ts r h = ap (op_at says) h.2 ∙ ap (λ (o : Option A). o >>= before r) h.1
+
+  pub read_begins : (ts : List Lexeme) (a : A) (r : List Lexeme) → op_at says ts ≡ Some (a, r) → Begins says a ts r
+  read_begins [] a r e = absurd cc
+  read_begins (t ∷ ts) a r e =
+      let h = bind_some (says t) (before ts) (a, r) e in
+      let same = some_is (h.0, ts) (a, r) h.2 in
+      (t, h.1 ∙ ap (λ (z : A × List Lexeme). Some z.0) same, ap (λ (z : A × List Lexeme). t ∷ z.1) same)
+
+  pub begins_shorter : (a : A) (ts r : List Lexeme) → Begins says a ts r → length r < length ts
+  begins_shorter a ts r h = omega (arith, ap length h.2)
+
+  pub begins_front : (a : A) (ts r : List Lexeme) → Begins says a ts r → Front (Begins says a) ts r
+  begins_front a ts r h = record { front = h.0 ∷ []; whole = h.2; alone = λ s. (h.0, h.1, refl) }
+
+  pub begins_goes : (a : A) (ts r : List Lexeme) → Begins says a ts r → Goes (λ t. is_there (says t)) ts
+  begins_goes a ts r h = subst (λ z. Goes (λ t. is_there (says t)) z) (sym h.2) (ap is_there h.1)

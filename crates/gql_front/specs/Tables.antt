@@ -1,5 +1,5 @@
 -- Tables: what each of some words, or of some symbols, says.
-use Rattle.std.specs.Prelude.{ℕ, List, [], ◌∷◌, Option, Some, None, nat_eq, cond}
+use Rattle.std.specs.Prelude.{◌≡◌, ℕ, List, [], ◌∷◌, Option, Some, None, nat_eq, cond}
 use Rattle.gql_lexer.specs.declared.lexeme.Lexeme.{Lexeme}
 use Rattle.gql_lexer.specs.declared.lexeme.Lexeme.TheVariants as lex
 
@@ -17,3 +17,7 @@ word_in table _ = None
 abbrev pub sign_in : {A : Type 0} → List (ℕ × A) → Lexeme → Option A
 sign_in table (lex.Sign place) = entry table place
 sign_in table _ = None
+
+-- the lexeme at the front says a, and then r
+abbrev pub Begins : {A : Type 0} → (Lexeme → Option A) → A → List Lexeme → List Lexeme → Type 0
+Begins says a ts r = (t : Lexeme) × (says t ≡ Some a) × (ts ≡ t ∷ r)
