@@ -3,3 +3,11 @@ pub mod LabelChains
 pub mod LabelFronts
 pub mod LabelLaws
 pub mod DepthLemmas
+pub mod ExprShorter
+pub mod ExprFronts
+pub mod ExprChains
+pub mod ExprLists
+pub mod ExprEndings
+pub mod ExprAtoms
+pub mod ExprLevels
+pub mod ExprRead

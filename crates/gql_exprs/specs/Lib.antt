@@ -1,3 +1,6 @@
 pub mod Depth
 pub mod LabelGrammar
 pub mod LabelReaders
+pub mod ExprWords
+pub mod Grammar
+pub mod Readers

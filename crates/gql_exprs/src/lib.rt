@@ -6,9 +6,12 @@
 //! grammar, on the lexemes of `gql_lexer` and on the trees of `gql_ast`.
 #![tactic(auto)]
 
+pub mod atom_word;
+pub mod chain;
 pub mod depth;
 pub mod labels;
 pub mod laws;
+pub mod test_word;
 #[cfg(test)]
 mod tests;
 

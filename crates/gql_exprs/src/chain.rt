@@ -1,0 +1,79 @@
+//! The chains of operators.
+
+ghost use Rattle.std.specs.Prelude.{◌≡◌, ◌<◌, length, IfOk};
+ghost use Rattle.gql_front.specs.Reading.{op_at};
+ghost use Rattle.gql_front.specs.Gives.{Takes};
+ghost use Rattle.gql_ast.specs.Meaning.{tree_of};
+ghost use Rattle.gql_exprs.specs.Readers.{operator_in, node_of, chain_or_side};
+
+use gql_ast::{Expr, Operator, Steps, Sub};
+use gql_front::NoFront;
+use gql_front::symbols::{DOUBLE_BAR, MINUS, PLUS, SLASH, STAR};
+use gql_front::words::{AND, OR, XOR};
+use gql_lexer::Lexeme;
+use gql_values3::OutOfMemory;
+use std::alloc::Global;
+
+/// A chain of expressions with operators between them.
+#[derive(Clone, Copy, Debug, PartialEq, Eq)]
+pub enum Chain {
+    /// Sides between OR and XOR.
+    Or,
+    /// Sides between AND.
+    And,
+    /// Sides between `+`, `-` and `||`.
+    Sum,
+    /// Sides between `*` and `/`.
+    Product,
+}
+
+/// The operator of such a chain that the lexeme is.
+fn operator_in(kind: Chain, lexeme: &Lexeme) -> Option<Operator>
+    ensures { result ≡ operator_in kind lexeme.now }
+{
+    match (kind, lexeme) {
+        (Chain::Or, Lexeme::Word { place: OR, .. }) => Some(Operator::Or),
+        (Chain::Or, Lexeme::Word { place: XOR, .. }) => Some(Operator::Xor),
+        (Chain::And, Lexeme::Word { place: AND, .. }) => Some(Operator::And),
+        (Chain::Sum, Lexeme::Sign(PLUS)) => Some(Operator::Add),
+        (Chain::Sum, Lexeme::Sign(MINUS)) => Some(Operator::Subtract),
+        (Chain::Sum, Lexeme::Sign(DOUBLE_BAR)) => Some(Operator::Concatenate),
+        (Chain::Product, Lexeme::Sign(STAR)) => Some(Operator::Multiply),
+        (Chain::Product, Lexeme::Sign(SLASH)) => Some(Operator::Divide),
+        _ => None,
+    }
+}
+
+/// The operator at the front.
+pub fn operator_at(kind: Chain, rest: &[Lexeme]) -> Result<(Operator, &[Lexeme]), NoFront>
+    ensures given { Takes (λ x. (x.0, x.1.now)) result (op_at (operator_in kind) rest.now) }
+    ensures shorter { IfOk result (λ x. length x.1.now < length rest.now) }
+{
+    if let [lexeme, after @ ..] = rest {
+        if let Some(operator) = operator_in(kind, lexeme) {
+            return Ok((operator, after));
+        }
+    }
+    Err(NoFront)
+}
+
+/// The only side of a chain, or the chain.
+pub fn chain_or_side(
+    alloc: Global,
+    kind: Chain,
+    first: Expr,
+    steps: Steps,
+) -> Result<Expr, OutOfMemory>
+    ensures { IfOk result (λ e. tree_of e ≡ chain_or_side (node_of kind) (tree_of first) steps) }
+{
+    if steps.is_empty() {
+        return Ok(first);
+    }
+    let first = Sub::new(alloc, first)?;
+    Ok(match kind {
+        Chain::Or => Expr::Or(first, steps),
+        Chain::And => Expr::And(first, steps),
+        Chain::Sum => Expr::Sum(first, steps),
+        Chain::Product => Expr::Product(first, steps),
+    })
+}
