@@ -4,3 +4,4 @@ pub mod LabelReaders
 pub mod ExprWords
 pub mod Grammar
 pub mod Readers
+pub mod EndingMeaning

@@ -9,8 +9,11 @@
 pub mod atom_word;
 pub mod chain;
 pub mod depth;
+pub mod ending;
 pub mod labels;
 pub mod laws;
+pub mod leaves;
+pub mod nodes;
 pub mod test_word;
 #[cfg(test)]
 mod tests;
