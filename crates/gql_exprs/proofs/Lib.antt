@@ -11,3 +11,4 @@ pub mod ExprEndings
 pub mod ExprAtoms
 pub mod ExprLevels
 pub mod ExprRead
+pub mod ExprLoops

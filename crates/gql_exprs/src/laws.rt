@@ -5,6 +5,8 @@ ghost use Rattle.gql_front.specs.Longest.{Longest};
 ghost use Rattle.gql_ast.specs.Label.{Label};
 ghost use Rattle.gql_exprs.specs.LabelGrammar.{IsLabel, DerivesLabel};
 ghost use Rattle.gql_exprs.specs.LabelReaders.{read_label};
+ghost use Rattle.gql_ast.specs.Tree.{Tree};
+ghost use Rattle.gql_exprs.specs.Grammar.{Derives};
 
 /// Lexemes derive at most one label expression.
 pub fn labels_derive_once()
@@ -15,4 +17,9 @@ pub fn labels_derive_once()
 /// read exactly where no front does.
 pub fn the_longest_label_is_read()
     ensures { (lexemes : List Lexeme) → Longest IsLabel lexemes (read_label lexemes) }
+{}
+
+/// Lexemes derive at most one expression.
+pub fn expressions_derive_once()
+    ensures { (lexemes : List Lexeme) (some other : Tree) → Derives lexemes some → Derives lexemes other → some ≡ other }
 {}

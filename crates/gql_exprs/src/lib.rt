@@ -10,13 +10,16 @@ pub mod atom_word;
 pub mod chain;
 pub mod depth;
 pub mod ending;
+pub mod expression;
 pub mod labels;
 pub mod laws;
 pub mod leaves;
 pub mod nodes;
+pub mod parse;
 pub mod test_word;
 #[cfg(test)]
 mod tests;
 
 pub use depth::too_deep;
 pub use labels::label_expression;
+pub use parse::parse_expr;

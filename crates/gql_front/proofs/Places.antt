@@ -5,7 +5,7 @@ use Rattle.std.specs.Prelude.{Err}
 use Rattle.gql_lexer.specs.declared.lexeme.Lexeme.{Lexeme}
 use Rattle.gql_ast.specs.declared.parse_fault.ParseFault.{ParseFault}
 use Rattle.gql_ast.specs.declared.parse_fault.ParseFault.TheVariants as fault
-use Rattle.gql_front.specs.Gives.{Fails, IsSyntax}
+use Rattle.gql_front.specs.Gives.{Fails, IsSyntax, IsDeep}
 use Rattle.gql_front.specs.Longest.{Longest, IsFrontOf}
 use Rattle.gql_front.specs.Reading.{Reader}
 use Rattle.gql_front.proofs.Fronts.{Front}
@@ -57,3 +57,8 @@ module _ {A : Type 0} (P : A → List Lexeme → List Lexeme → Type 0) (shorte
   refused ts at rest X fault.Syntax same e i j y h =
       let l = read_at ts at rest None same e in
       l y (drop (j - at) (drop at ts)) (at_front ts at j y h)
+
+  pub never_deep : (rest : List Lexeme) (X : Type 0) (f : ParseFault) → Fails f (read rest) → IsDeep {X = X} (Err f) → ⊥
+  never_deep rest X fault.Deep h i = absurd h
+  never_deep rest X fault.OutOfMemory h i = absurd i
+  never_deep rest X fault.Syntax h i = absurd i

@@ -1,0 +1,63 @@
+use Rattle.std.proofs.Common.{◌≡◌, Some, ◌∷◌, ◌++◌, [], sym, subst, arith}
+use Rattle.gql_ast.specs.Tree.{link}
+use Rattle.gql_ast.specs.Meaning.{tree_of}
+use Rattle.gql_front.specs.Gives.{Fails}
+use Rattle.gql_front.proofs.Found.{no_operator, no_operand, one_step}
+use Rattle.gql_front.proofs.Loops.{with_front}
+use Rattle.gql_exprs.specs.Readers.{comma_op, operand, operator_in, side_of, steps_of, list_of, read_expr}
+use Rattle.gql_exprs.proofs.ExprLoops.{steps_from, steps_stop, steps_next, list_from, others_from, others_stop, others_next, comma_none, comma_some}
+use Rattle.gql_exprs.proofs.expression.+expr.Goals as goal
+
+pub list-more-preserved : goal.list-more-preserved
+list-more-preserved t c =
+    let rest = c.more.rest.now in
+    let x = tree_of c.in-Ok-expression.expr in
+    let behind = c.in-Ok-expression.behind.now in
+    let one = one_step comma_op read_expr operand rest tt c.in-Ok.behind.now x behind (comma_some rest c.in-Ok.behind.now c.in-Ok.ensures.given) c.in-Ok-expression.ensures.given in
+    record {
+      so_far = subst (λ z. list_from c.args.start.now ≡ Some (with_front z (others_from behind))) (sym c.in_ok-push-in-Ok-expression.ensures.ok)
+          (others_next c.more.exprs rest x behind (list_from c.args.start.now) one c.more.invariant.so_far);
+      within = omega (arith, c.in-Ok-expression.ensures.shorter, c.in-Ok.ensures.shorter, c.more.invariant.within);
+    }
+
+pub list-returns-in-Err-Syntax-clause-given : goal.list-returns-in-Err-Syntax-clause-given
+list-returns-in-Err-Syntax-clause-given t c =
+    let rest = c.more.rest.now in
+    let none = subst (λ e. Fails e (read_expr c.in-Ok.behind.now)) c.in-Err-Syntax.field-0-is c.in-Err-Syntax.ensures.given in
+    others_stop c.more.exprs rest (list_from c.args.start.now)
+    (no_operand comma_op read_expr operand rest tt c.in-Ok.behind.now (comma_some rest c.in-Ok.behind.now c.in-Ok.ensures.given) none) c.more.invariant.so_far
+
+pub list-returns-clause-given : goal.list-returns-clause-given
+list-returns-clause-given t c =
+    let rest = c.more.rest.now in
+    others_stop c.more.exprs rest (list_from c.args.start.now) (no_operator comma_op read_expr operand rest (comma_none rest c.in_default.ensures.given)) c.more.invariant.so_far
+
+pub steps-more-preserved : goal.steps-more-preserved
+steps-more-preserved t c =
+    let k = c.args.kind in
+    let rest = c.more.rest.now in
+    let o = c.in-Ok.operator in
+    let x = tree_of c.in-Ok-side.operand in
+    let behind = c.in-Ok-side.behind.now in
+    let one = one_step (operator_in k) (side_of k read_expr) link rest o c.in-Ok.behind.now x behind c.in-Ok.ensures.given c.in-Ok-side.ensures.given in
+    record {
+      so_far = subst (λ z. with_front z (steps_from k behind) ≡ steps_from k c.args.start.now) (sym c.in_ok-push-in-Ok-side.ensures.ok)
+          (steps_next k c.more.steps rest (link o x) behind (steps_from k c.args.start.now) one c.more.invariant.so_far);
+      within = omega (arith, c.in-Ok-side.ensures.shorter, c.in-Ok.ensures.shorter, c.more.invariant.within);
+    }
+
+pub steps-returns-in-Err-Syntax-clause-given : goal.steps-returns-in-Err-Syntax-clause-given
+unfolding steps_of
+steps-returns-in-Err-Syntax-clause-given t c =
+    let k = c.args.kind in
+    let rest = c.more.rest.now in
+    let none = subst (λ e. Fails e (side_of k read_expr c.in-Ok.behind.now)) c.in-Err-Syntax.field-0-is c.in-Err-Syntax.ensures.given in
+    steps_stop k c.more.steps rest (steps_from k c.args.start.now)
+    (no_operand (operator_in k) (side_of k read_expr) link rest c.in-Ok.operator c.in-Ok.behind.now c.in-Ok.ensures.given none) c.more.invariant.so_far
+
+pub steps-returns-clause-given : goal.steps-returns-clause-given
+unfolding steps_of
+steps-returns-clause-given t c =
+    let k = c.args.kind in
+    let rest = c.more.rest.now in
+    steps_stop k c.more.steps rest (steps_from k c.args.start.now) (no_operator (operator_in k) (side_of k read_expr) link rest c.in_default.ensures.given) c.more.invariant.so_far

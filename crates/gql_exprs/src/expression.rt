@@ -1,0 +1,368 @@
+//! The recursion over expressions: a function a production, where the functions of the loops read any length.
+
+ghost use Rattle.std.specs.Prelude.{◌≡◌, ◌<◌, ◌≤◌, length, IfOk};
+ghost use Rattle.gql_front.specs.Gives.{Gives};
+ghost use Rattle.gql_front.specs.Reading.{step};
+ghost use Rattle.gql_ast.specs.Meaning.{tree_of};
+ghost use Rattle.gql_exprs.specs.ExprWords.{comparison_op};
+ghost use Rattle.gql_exprs.specs.Readers.{closed_of, paren_of, list_of, listing_of, word_listing_of, aggregate_of, call_of, first_of, modulo_of, coalesce_of, word_atom_of, atom_of, signed_of, sum_of, other_side, comparison_of, test_of, not_of, side_of, steps_of, chain_of, read_expr};
+
+use crate::atom_word::{AtomWord, atom_word};
+use crate::chain::{Chain, chain_or_side, operator_at};
+use crate::ending::{ending, tested};
+use crate::leaves::{comparison_at, named, quantifier_of, sign_at, star_of};
+use crate::nodes::{compare, remainder};
+use gql_ast::{Aggregate, Expr, Exprs, Function, ParseFault, Step, Steps, Sub};
+use gql_front::symbols::{CLOSING, CLOSING_BRACKET, COMMA, OPENING, OPENING_BRACKET};
+use gql_front::words::NOT;
+use gql_front::{NoFront, after_sign};
+use gql_lexer::Lexeme;
+use gql_values3::{Comparison, OutOfMemory, Value};
+use std::alloc::Global;
+
+/// The longest front of the lexemes that derives an expression, and the lexemes behind it. `Syntax` comes exactly where
+/// no front does. A chain or a list may be as long as memory allows; brackets use the stack, so a caller refuses
+/// lexemes that are too deep before.
+#[cycle(expr)]
+#[tactic(auto, using(crate::proofs::ExprRead::read_expr_is))]
+pub fn expression<'a>(
+    alloc: Global,
+    rest: &'a [Lexeme],
+) -> Result<(Expr, &'a [Lexeme]), ParseFault>
+    ensures given { Gives (λ x. (tree_of x.0, x.1.now)) result (read_expr rest.now) }
+    ensures shorter { IfOk result (λ x. length x.1.now < length rest.now) }
+{
+    chain(alloc, Chain::Or, rest)
+}
+
+/// A chain, or its only side.
+#[cycle(expr)]
+#[tactic(auto, using(crate::proofs::ExprLoops::chain_is))]
+fn chain<'a>(
+    alloc: Global,
+    kind: Chain,
+    rest: &'a [Lexeme],
+) -> Result<(Expr, &'a [Lexeme]), ParseFault>
+    ensures given { Gives (λ x. (tree_of x.0, x.1.now)) result (chain_of kind read_expr rest.now) }
+    ensures shorter { IfOk result (λ x. length x.1.now < length rest.now) }
+{
+    let (first, rest) = side(alloc, kind, rest)?;
+    let (steps, rest) = steps(alloc, kind, rest)?;
+    Ok((chain_or_side(alloc, kind, first, steps)?, rest))
+}
+
+/// A side of a chain.
+#[cycle(expr)]
+fn side<'a>(
+    alloc: Global,
+    kind: Chain,
+    rest: &'a [Lexeme],
+) -> Result<(Expr, &'a [Lexeme]), ParseFault>
+    ensures given { Gives (λ x. (tree_of x.0, x.1.now)) result (side_of kind read_expr rest.now) }
+    ensures shorter { IfOk result (λ x. length x.1.now < length rest.now) }
+{
+    match kind {
+        Chain::Or => chain(alloc, Chain::And, rest),
+        Chain::And => negation(alloc, rest),
+        Chain::Sum => chain(alloc, Chain::Product, rest),
+        Chain::Product => signed(alloc, rest),
+    }
+}
+
+/// The further sides of a chain, each behind its operator. An operator that no side follows is left.
+#[cycle(expr)]
+fn steps<'a>(
+    alloc: Global,
+    kind: Chain,
+    start: &'a [Lexeme],
+) -> Result<(Steps, &'a [Lexeme]), OutOfMemory>
+    ensures given { IfOk result (λ x. (x.0, x.1.now) ≡ steps_of kind read_expr start.now) }
+    ensures shorter { IfOk result (λ x. length x.1.now ≤ length start.now) }
+{
+    let mut steps = Steps::new(alloc);
+    let mut rest = start;
+    'more: while let Ok((operator, behind)) = operator_at(kind, rest) {
+        match side(alloc, kind, behind) {
+            Ok((operand, behind)) => {
+                steps.push(Step { operator, operand })?;
+                rest = behind;
+            }
+            Err(ParseFault::Syntax) => return Ok((steps, rest)),
+            Err(ParseFault::Deep) => unreachable!(),
+            Err(ParseFault::OutOfMemory) => return Err(OutOfMemory),
+        }
+    }
+    Ok((steps, rest))
+}
+
+/// A test, or NOT and a test.
+#[cycle(expr)]
+#[tactic(auto, unfolding(crate::specs::Readers::not_of, gql_front::specs::Reading::prefix))]
+fn negation<'a>(alloc: Global, rest: &'a [Lexeme]) -> Result<(Expr, &'a [Lexeme]), ParseFault>
+    ensures given { Gives (λ x. (tree_of x.0, x.1.now)) result (not_of read_expr rest.now) }
+    ensures shorter { IfOk result (λ x. length x.1.now < length rest.now) }
+{
+    match rest {
+        [Lexeme::Word { place: NOT, .. }, rest @ ..] => {
+            let (expr, rest) = test(alloc, rest)?;
+            Ok((Expr::Not(Sub::new(alloc, expr)?), rest))
+        }
+        _ => test(alloc, rest),
+    }
+}
+
+/// A comparison, perhaps with what makes a test of it.
+#[cycle(expr)]
+#[tactic(auto, unfolding(crate::specs::Readers::test_of, gql_front::specs::Reading::suffix))]
+fn test<'a>(alloc: Global, rest: &'a [Lexeme]) -> Result<(Expr, &'a [Lexeme]), ParseFault>
+    ensures given { Gives (λ x. (tree_of x.0, x.1.now)) result (test_of read_expr rest.now) }
+    ensures shorter { IfOk result (λ x. length x.1.now < length rest.now) }
+{
+    let (expr, rest) = comparison(alloc, rest)?;
+    match ending(alloc, rest) {
+        Ok((ending, behind)) => Ok((tested(alloc, expr, ending)?, behind)),
+        Err(ParseFault::Syntax) => Ok((expr, rest)),
+        Err(ParseFault::Deep) => unreachable!(),
+        Err(ParseFault::OutOfMemory) => Err(ParseFault::OutOfMemory),
+    }
+}
+
+/// A sum, perhaps compared with a second one.
+#[cycle(expr)]
+#[tactic(auto, unfolding(crate::specs::Readers::comparison_of, gql_front::specs::Reading::suffix))]
+fn comparison<'a>(alloc: Global, rest: &'a [Lexeme]) -> Result<(Expr, &'a [Lexeme]), ParseFault>
+    ensures given { Gives (λ x. (tree_of x.0, x.1.now)) result (comparison_of read_expr rest.now) }
+    ensures shorter { IfOk result (λ x. length x.1.now < length rest.now) }
+{
+    let (first, rest) = chain(alloc, Chain::Sum, rest)?;
+    match second_side(alloc, rest) {
+        Ok((sign, second, behind)) => Ok((compare(alloc, sign, first, second)?, behind)),
+        Err(ParseFault::Syntax) => Ok((first, rest)),
+        Err(ParseFault::Deep) => unreachable!(),
+        Err(ParseFault::OutOfMemory) => Err(ParseFault::OutOfMemory),
+    }
+}
+
+/// A sign of comparison and a sum.
+#[cycle(expr)]
+#[tactic(auto, using(gql_front::proofs::Found::step_is))]
+fn second_side<'a>(
+    alloc: Global,
+    rest: &'a [Lexeme],
+) -> Result<(Comparison, Expr, &'a [Lexeme]), ParseFault>
+    ensures given { Gives (λ x. ((x.0, tree_of x.1), x.2.now)) result (step comparison_op (sum_of read_expr) other_side rest.now) }
+    ensures shorter { IfOk result (λ x. length x.2.now < length rest.now) }
+{
+    let (sign, rest) = comparison_at(rest)?;
+    let (expr, rest) = chain(alloc, Chain::Sum, rest)?;
+    Ok((sign, expr, rest))
+}
+
+/// An atom, or a sign and an atom.
+#[cycle(expr)]
+#[tactic(auto, unfolding(crate::specs::Readers::signed_of, gql_front::specs::Reading::prefix))]
+fn signed<'a>(alloc: Global, rest: &'a [Lexeme]) -> Result<(Expr, &'a [Lexeme]), ParseFault>
+    ensures given { Gives (λ x. (tree_of x.0, x.1.now)) result (signed_of read_expr rest.now) }
+    ensures shorter { IfOk result (λ x. length x.1.now < length rest.now) }
+{
+    if let Ok((sign, behind)) = sign_at(rest) {
+        let (expr, behind) = atom(alloc, behind)?;
+        return Ok((Expr::Signed(sign, Sub::new(alloc, expr)?), behind));
+    }
+    atom(alloc, rest)
+}
+
+#[cycle(expr)]
+#[tactic(auto, unfolding(crate::specs::Readers::atom_of))]
+fn atom<'a>(alloc: Global, rest: &'a [Lexeme]) -> Result<(Expr, &'a [Lexeme]), ParseFault>
+    ensures given { Gives (λ x. (tree_of x.0, x.1.now)) result (atom_of read_expr rest.now) }
+    ensures shorter { IfOk result (λ x. length x.1.now < length rest.now) }
+{
+    match rest {
+        [Lexeme::Number(digits), rest @ ..] => Ok((Expr::Number(digits.try_copy(alloc)?), rest)),
+        [Lexeme::Chars(text), rest @ ..] => {
+            Ok((Expr::Constant(Value::Text(text.try_copy(alloc)?)), rest))
+        }
+        [Lexeme::Param(name), rest @ ..] => Ok((Expr::Parameter(name.try_copy(alloc)?), rest)),
+        [Lexeme::Name(name), rest @ ..] => named(alloc, name, rest),
+        [Lexeme::Sign(OPENING), rest @ ..] => paren(alloc, rest),
+        [Lexeme::Sign(OPENING_BRACKET), rest @ ..] => listing(alloc, rest),
+        [Lexeme::Word { place, .. }, rest @ ..] => match atom_word(*place) {
+            Some(word) => word_atom(alloc, word, rest),
+            None => Err(ParseFault::Syntax),
+        },
+        _ => Err(ParseFault::Syntax),
+    }
+}
+
+/// Behind a word that begins an atom.
+#[cycle(expr)]
+fn word_atom<'a>(
+    alloc: Global,
+    word: AtomWord,
+    rest: &'a [Lexeme],
+) -> Result<(Expr, &'a [Lexeme]), ParseFault>
+    ensures given { Gives (λ x. (tree_of x.0, x.1.now)) result (word_atom_of read_expr word rest.now) }
+    ensures shorter { IfOk result (λ x. length x.1.now ≤ length rest.now) }
+{
+    match word {
+        AtomWord::True => Ok((Expr::Constant(Value::Bool(true)), rest)),
+        AtomWord::False => Ok((Expr::Constant(Value::Bool(false)), rest)),
+        AtomWord::Null => Ok((Expr::Constant(Value::Null), rest)),
+        AtomWord::Unknown => Ok((Expr::Unknown, rest)),
+        AtomWord::List => word_listing(alloc, rest),
+        AtomWord::Aggregate(kind) => aggregate(alloc, kind, rest),
+        AtomWord::Call(function) => call(alloc, function, rest),
+        AtomWord::Mod => modulo(alloc, rest),
+        AtomWord::Coalesce => coalesce(alloc, rest),
+    }
+}
+
+/// An expression and a closing parenthesis.
+#[cycle(expr)]
+#[tactic(auto, unfolding(crate::specs::Readers::closed_of))]
+fn closed<'a>(alloc: Global, rest: &'a [Lexeme]) -> Result<(Expr, &'a [Lexeme]), ParseFault>
+    ensures given { Gives (λ x. (tree_of x.0, x.1.now)) result (closed_of read_expr rest.now) }
+    ensures shorter { IfOk result (λ x. length x.1.now < length rest.now) }
+{
+    let (expr, rest) = expression(alloc, rest)?;
+    let rest = after_sign(CLOSING, rest)?;
+    Ok((expr, rest))
+}
+
+/// An expression in parentheses, behind the opening one.
+#[cycle(expr)]
+#[tactic(auto, unfolding(crate::specs::Readers::paren_of))]
+fn paren<'a>(alloc: Global, rest: &'a [Lexeme]) -> Result<(Expr, &'a [Lexeme]), ParseFault>
+    ensures given { Gives (λ x. (tree_of x.0, x.1.now)) result (paren_of read_expr rest.now) }
+    ensures shorter { IfOk result (λ x. length x.1.now < length rest.now) }
+{
+    let (expr, rest) = closed(alloc, rest)?;
+    Ok((Expr::Paren(Sub::new(alloc, expr)?), rest))
+}
+
+/// Expressions between commas. A comma that no expression follows is left.
+#[cycle(expr)]
+#[tactic(auto, unfolding(crate::specs::Readers::list_of, gql_front::specs::Reading::sequence))]
+fn list<'a>(alloc: Global, start: &'a [Lexeme]) -> Result<(Exprs, &'a [Lexeme]), ParseFault>
+    ensures given { Gives (λ x. (x.0, x.1.now)) result (list_of read_expr start.now) }
+    ensures shorter { IfOk result (λ x. length x.1.now < length start.now) }
+{
+    let (first, mut rest) = expression(alloc, start)?;
+    let mut exprs = Exprs::new(alloc);
+    exprs.push(first)?;
+    'more: while let Ok(behind) = after_sign(COMMA, rest) {
+        match expression(alloc, behind) {
+            Ok((expr, behind)) => {
+                exprs.push(expr)?;
+                rest = behind;
+            }
+            Err(ParseFault::Syntax) => return Ok((exprs, rest)),
+            Err(ParseFault::Deep) => unreachable!(),
+            Err(ParseFault::OutOfMemory) => return Err(ParseFault::OutOfMemory),
+        }
+    }
+    Ok((exprs, rest))
+}
+
+/// The items of a list and a closing bracket.
+#[cycle(expr)]
+#[tactic(auto, unfolding(crate::specs::Readers::listing_of))]
+fn listing<'a>(alloc: Global, rest: &'a [Lexeme]) -> Result<(Expr, &'a [Lexeme]), ParseFault>
+    ensures given { Gives (λ x. (tree_of x.0, x.1.now)) result (listing_of read_expr rest.now) }
+    ensures shorter { IfOk result (λ x. length x.1.now < length rest.now) }
+{
+    if let Ok(rest) = after_sign(CLOSING_BRACKET, rest) {
+        return Ok((Expr::List(Exprs::new(alloc)), rest));
+    }
+    let (exprs, rest) = list(alloc, rest)?;
+    let rest = after_sign(CLOSING_BRACKET, rest)?;
+    Ok((Expr::List(exprs), rest))
+}
+
+/// A list, behind LIST.
+#[cycle(expr)]
+#[tactic(auto, unfolding(crate::specs::Readers::word_listing_of))]
+fn word_listing<'a>(alloc: Global, rest: &'a [Lexeme]) -> Result<(Expr, &'a [Lexeme]), ParseFault>
+    ensures given { Gives (λ x. (tree_of x.0, x.1.now)) result (word_listing_of read_expr rest.now) }
+    ensures shorter { IfOk result (λ x. length x.1.now < length rest.now) }
+{
+    let rest = after_sign(OPENING_BRACKET, rest)?;
+    listing(alloc, rest)
+}
+
+/// What is aggregated, in parentheses, behind the word of the aggregate.
+#[cycle(expr)]
+#[tactic(auto, unfolding(crate::specs::Readers::aggregate_of))]
+fn aggregate<'a>(
+    alloc: Global,
+    kind: Aggregate,
+    rest: &'a [Lexeme],
+) -> Result<(Expr, &'a [Lexeme]), ParseFault>
+    ensures given { Gives (λ x. (tree_of x.0, x.1.now)) result (aggregate_of read_expr kind rest.now) }
+    ensures shorter { IfOk result (λ x. length x.1.now < length rest.now) }
+{
+    let rest = after_sign(OPENING, rest)?;
+    if let Ok(rest) = star_of(kind, rest) {
+        let rest = after_sign(CLOSING, rest)?;
+        return Ok((Expr::CountAll, rest));
+    }
+    let (quantifier, rest) = quantifier_of(rest);
+    let (expr, rest) = closed(alloc, rest)?;
+    let item = Sub::new(alloc, expr)?;
+    Ok((Expr::Aggregate(kind, quantifier, item), rest))
+}
+
+/// The argument of a function of one, in parentheses.
+#[cycle(expr)]
+#[tactic(auto, unfolding(crate::specs::Readers::call_of))]
+fn call<'a>(
+    alloc: Global,
+    function: Function,
+    rest: &'a [Lexeme],
+) -> Result<(Expr, &'a [Lexeme]), ParseFault>
+    ensures given { Gives (λ x. (tree_of x.0, x.1.now)) result (call_of read_expr function rest.now) }
+    ensures shorter { IfOk result (λ x. length x.1.now < length rest.now) }
+{
+    let rest = after_sign(OPENING, rest)?;
+    let (expr, rest) = closed(alloc, rest)?;
+    Ok((Expr::Call(function, Sub::new(alloc, expr)?), rest))
+}
+
+/// An opening parenthesis, the first of several arguments, and a comma.
+#[cycle(expr)]
+#[tactic(auto, unfolding(crate::specs::Readers::first_of))]
+fn first<'a>(alloc: Global, rest: &'a [Lexeme]) -> Result<(Expr, &'a [Lexeme]), ParseFault>
+    ensures given { Gives (λ x. (tree_of x.0, x.1.now)) result (first_of read_expr rest.now) }
+    ensures shorter { IfOk result (λ x. length x.1.now < length rest.now) }
+{
+    let rest = after_sign(OPENING, rest)?;
+    let (expr, rest) = expression(alloc, rest)?;
+    let rest = after_sign(COMMA, rest)?;
+    Ok((expr, rest))
+}
+
+/// The two arguments of MOD, in parentheses.
+#[cycle(expr)]
+#[tactic(auto, unfolding(crate::specs::Readers::modulo_of))]
+fn modulo<'a>(alloc: Global, rest: &'a [Lexeme]) -> Result<(Expr, &'a [Lexeme]), ParseFault>
+    ensures given { Gives (λ x. (tree_of x.0, x.1.now)) result (modulo_of read_expr rest.now) }
+    ensures shorter { IfOk result (λ x. length x.1.now < length rest.now) }
+{
+    let (dividend, rest) = first(alloc, rest)?;
+    let (divisor, rest) = closed(alloc, rest)?;
+    Ok((remainder(alloc, dividend, divisor)?, rest))
+}
+
+/// The arguments of COALESCE, in parentheses.
+#[cycle(expr)]
+#[tactic(auto, unfolding(crate::specs::Readers::coalesce_of))]
+fn coalesce<'a>(alloc: Global, rest: &'a [Lexeme]) -> Result<(Expr, &'a [Lexeme]), ParseFault>
+    ensures given { Gives (λ x. (tree_of x.0, x.1.now)) result (coalesce_of read_expr rest.now) }
+    ensures shorter { IfOk result (λ x. length x.1.now < length rest.now) }
+{
+    let (head, rest) = first(alloc, rest)?;
+    let (others, rest) = list(alloc, rest)?;
+    let rest = after_sign(CLOSING, rest)?;
+    Ok((Expr::Coalesce(Sub::new(alloc, head)?, others), rest))
+}
