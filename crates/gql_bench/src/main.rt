@@ -1,7 +1,10 @@
 //! Measures parts of the database over a file: counts on standard output, seconds on standard error.
 //!
-//! `gql_bench lexer <file>` cuts the file into pieces and lexemes. It promises nothing but to be safe and to end.
+//! `gql_bench lexer <file>` cuts the file into pieces and lexemes, and `gql_bench parse <file>` reads an expression from
+//! each piece. It promises nothing but to be safe and to end.
 #![tactic(auto)]
+
+mod parsing;
 
 use anyhow::{Context, Result, bail};
 use gql_lexer::{LexFault, Pieces, lexemes, pieces};
@@ -17,6 +20,7 @@ fn main(rt: HostRuntime) -> Result<()> {
     };
     match part.as_str() {
         "lexer" => lexer(&rt, rt.alloc(), name.as_str()),
+        "parse" => parsing::parse(&rt, rt.alloc(), name.as_str()),
         _ => bail!("no such part"),
     }
 }

@@ -18,6 +18,8 @@ pub mod nodes;
 pub mod parse;
 pub mod test_word;
 #[cfg(test)]
+mod expression_tests;
+#[cfg(test)]
 mod tests;
 
 pub use depth::too_deep;
