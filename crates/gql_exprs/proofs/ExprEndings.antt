@@ -54,7 +54,7 @@ asked_sound s (asked.End end) whole a ts c r asks begins e =
     let of_is = after_word OF ts o.0 o.1 in
     let named = read_begins name_in o.0 v.0.0 v.0.1 v.1 in
     let behind : ts ≡ lex.Word OF of_is.0 ∷ lex.Name v.0.0 ∷ v.0.1 =
-        of_is.1 ∙ ap (λ (z : List Lexeme). lex.Word OF of_is.0 ∷ z) (named.2 ∙ ap (λ (z : Lexeme). z ∷ v.0.1) (name_is named.0 v.0.0 named.1)) in
+    of_is.1 ∙ ap (λ (z : List Lexeme). lex.Word OF of_is.0 ∷ z) (named.2 ∙ ap (λ (z : Lexeme). z ∷ v.0.1) (name_is named.0 v.0.0 named.1)) in
     subst (λ (z : Ending × List Lexeme). IsEnding z.0 whole z.1) (some_is (is_end s end v.0.0, v.0.1) (c, r) v.2)
     (a, of_is.0, asks, subst (λ (z : List Lexeme). Begins test_word (asked.End end) a z) behind begins)
 

@@ -18,7 +18,8 @@ use Rattle.gql_exprs.specs.Readers.{not_op, negated, compared, other_side, teste
 use Rattle.gql_exprs.proofs.LabelLevels.{goes_label}
 use Rattle.gql_exprs.proofs.ExprChains.{At, at_shrinks, Reads, IsChain, SideOrChain, chain_reads}
 use Rattle.gql_exprs.proofs.ExprLists.{goes_atom, goes_product, goes_sum, goes_comparison, begins_ending, goes_test, goes_and, goes_or, Inner}
-use Rattle.gql_exprs.proofs.ExprAtoms.{atom_sound, atom_complete}
+use Rattle.gql_exprs.proofs.ExprAtomSound.{atom_sound}
+use Rattle.gql_exprs.proofs.ExprAtomComplete.{atom_complete}
 use Rattle.gql_exprs.proofs.ExprEndings.{ending_sound, ending_shrinks, ending_goes, ending_apart, ending_complete}
 
 -- The operators of a level, and what the level of its sides goes on with, are apart

@@ -8,7 +8,8 @@ pub mod ExprFronts
 pub mod ExprChains
 pub mod ExprLists
 pub mod ExprEndings
-pub mod ExprAtoms
+pub mod ExprAtomSound
+pub mod ExprAtomComplete
 pub mod ExprLevels
 pub mod ExprRead
 pub mod ExprLoops

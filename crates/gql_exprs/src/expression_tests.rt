@@ -72,7 +72,11 @@ const TESTS: [Case; 21] = [
     (b"x:A&B|!C", "{x IS LABELED [[A&B]|!C]}", 8),
     (b"x IS NOT LABELED A", "{x IS NOT LABELED A}", 5),
     (b"x IS SOURCE OF y", "{x IS SOURCE OF y}", 5),
-    (b"x IS NOT DESTINATION OF y", "{x IS NOT DESTINATION OF y}", 6),
+    (
+        b"x IS NOT DESTINATION OF y",
+        "{x IS NOT DESTINATION OF y}",
+        6,
+    ),
     (b"NOT a", "{NOT a}", 2),
     (b"NOT a = b", "{NOT {a = b}}", 4),
     (b"NOT x:A", "{NOT {x IS LABELED A}}", 4),

@@ -79,7 +79,13 @@ pub fn quantifier_of(rest: &[Lexeme]) -> (SetQuantifier, &[Lexeme])
     ensures shorter { length result.1.now ≤ length rest.now }
 {
     match rest {
-        [Lexeme::Word { place: DISTINCT, .. }, rest @ ..] => (SetQuantifier::Distinct, rest),
+        [
+            Lexeme::Word {
+                place: DISTINCT,
+                ..
+            },
+            rest @ ..,
+        ] => (SetQuantifier::Distinct, rest),
         [Lexeme::Word { place: ALL, .. }, rest @ ..] => (SetQuantifier::All, rest),
         _ => (SetQuantifier::All, rest),
     }

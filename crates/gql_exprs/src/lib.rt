@@ -7,18 +7,19 @@
 #![tactic(auto)]
 
 pub mod atom_word;
+pub mod brackets;
 pub mod chain;
 pub mod depth;
 pub mod ending;
 pub mod expression;
+#[cfg(test)]
+mod expression_tests;
 pub mod labels;
 pub mod laws;
 pub mod leaves;
 pub mod nodes;
 pub mod parse;
 pub mod test_word;
-#[cfg(test)]
-mod expression_tests;
 #[cfg(test)]
 mod tests;
 

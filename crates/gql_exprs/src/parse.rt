@@ -15,11 +15,7 @@ use std::alloc::Global;
 
 /// The longest front of the lexemes from a place on that derives an expression, and the place behind it. Places count
 /// from 0; want of memory is the one other answer. The caller refuses lexemes that are too deep before.
-pub fn parse_expr(
-    alloc: Global,
-    lexemes: &[Lexeme],
-    at: u32,
-) -> Result<(Expr, u32), ParseFault>
+pub fn parse_expr(alloc: Global, lexemes: &[Lexeme], at: u32) -> Result<(Expr, u32), ParseFault>
     requires few { length lexemes.now < 2 ^ 32 }
     requires at { at ≤ length lexemes.now }
     requires shallow { too_deep lexemes.now ≡ false }

@@ -29,7 +29,12 @@ const LABELS: [Case; 16] = [
 const NO_LABELS: [&[u8]; 9] = [b"", b"!!A", b"()", b"(A", b"!", b"&A", b"'A'", b"$A", b"1"];
 
 /// Writes the label expression with each chain between brackets, not deeper than `most`.
-pub fn write(alloc: Global, out: &mut String, expr: &LabelExpr, most: u8) -> Result<(), AllocError> {
+pub fn write(
+    alloc: Global,
+    out: &mut String,
+    expr: &LabelExpr,
+    most: u8,
+) -> Result<(), AllocError> {
     if most == 0 {
         return out.push_str("..");
     }

@@ -8,6 +8,7 @@ use gql_values3::{Comparison, Value};
 use std::alloc::{AllocError, Global};
 
 /// Writes the expression with each node of operators between braces, not deeper than `most`.
+#[cycle(shown)]
 pub fn write(alloc: Global, out: &mut String, expr: &Expr, most: u8) -> Result<(), AllocError> {
     if most == 0 {
         return out.push_str("..");
@@ -39,6 +40,7 @@ pub fn write(alloc: Global, out: &mut String, expr: &Expr, most: u8) -> Result<(
 }
 
 /// The expression between two texts.
+#[cycle(shown)]
 fn around(
     alloc: Global,
     out: &mut String,
@@ -52,6 +54,7 @@ fn around(
     out.push_str(behind)
 }
 
+#[cycle(shown)]
 fn chain(
     alloc: Global,
     out: &mut String,
@@ -67,15 +70,20 @@ fn chain(
 }
 
 /// Expressions with commas behind all but the last.
+#[cycle(shown)]
 fn listed(alloc: Global, out: &mut String, items: &[Expr], most: u8) -> Result<(), AllocError> {
-    let mut before = "";
-    for item in items {
-        around(alloc, out, before, item, "", most)?;
-        before = ", ";
+    for (place, item) in items.iter().enumerate() {
+        around(alloc, out, comma(place), item, "", most)?;
     }
     Ok(())
 }
 
+/// What stands before the item of a place.
+fn comma(place: usize) -> &'static str {
+    if place == 0 { "" } else { ", " }
+}
+
+#[cycle(shown)]
 fn write_call(alloc: Global, out: &mut String, expr: &Expr, most: u8) -> Result<(), AllocError> {
     match expr {
         Expr::List(items) => {
@@ -105,6 +113,7 @@ fn write_call(alloc: Global, out: &mut String, expr: &Expr, most: u8) -> Result<
     }
 }
 
+#[cycle(shown)]
 fn write_test(alloc: Global, out: &mut String, expr: &Expr, most: u8) -> Result<(), AllocError> {
     match expr {
         Expr::Is(sub, sense, asked) => {

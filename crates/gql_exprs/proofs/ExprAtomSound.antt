@@ -1,4 +1,4 @@
--- Atoms are read soundly and completely.
+-- What is read as an atom derives.
 use Rattle.std.proofs.Common.{◌≡◌, ℕ, zero, suc, ◌<◌, ◌≤◌, ◌⊎◌, inl, inr, Bool, true, false, cond, nat_eq, eqb-true, List, [], ◌∷◌, length, Option, Some, None, refl, sym, ap, subst, ◌∙◌, arith}
 use Rattle.gql_lexer.specs.declared.lexeme.Lexeme.{Lexeme}
 use Rattle.gql_lexer.specs.declared.lexeme.Lexeme.TheVariants as lex
@@ -34,7 +34,7 @@ field_is ts p r e =
     let b = read_begins any_name_in a.0 p r a.2 in
     (b.0, b.1, after_sign dot ts a.0 a.1 ∙ ap (λ (z : List Lexeme). lex.Sign dot ∷ z) b.2)
 
-name_found : (x : List ℕ) (s : List Lexeme) → Found (named x s) goes_atom (name x) s
+pub name_found : (x : List ℕ) (s : List Lexeme) → Found (named x s) goes_atom (name x) s
 unfolding named
 name_found x s = go (field s) refl
   where
@@ -44,7 +44,7 @@ name_found x s = go (field s) refl
         let h = field_is s p r e in
         longer (property x p) r refl (omega (arith, ap length h.2)) (subst (λ z. Goes goes_atom z) (sym h.2) refl)
 
-property_read : (x p : List ℕ) (t : Lexeme) (r : List Lexeme) → any_name_in t ≡ Some p → named x (lex.Sign dot ∷ t ∷ r) ≡ Some (property x p, r)
+pub property_read : (x p : List ℕ) (t : Lexeme) (r : List Lexeme) → any_name_in t ≡ Some p → named x (lex.Sign dot ∷ t ∷ r) ≡ Some (property x p, r)
 unfolding named field
 property_read x p t r e = rw e refl
 
@@ -61,11 +61,11 @@ name_sound x ts y r e = go (field ts) refl (some_is (ended (λ e p. property x p
 -- [DISTINCT or ALL]
 
 -- the word that a quantifier is
-abbrev quantifier_word : SetQuantifier → ℕ
+abbrev pub quantifier_word : SetQuantifier → ℕ
 quantifier_word quantifier.Distinct = DISTINCT
 quantifier_word quantifier.All = ALL
 
-quantifier_is : (ts : List Lexeme) → IsQuantifier (quantifier_of ts).0 ts (quantifier_of ts).1
+pub quantifier_is : (ts : List Lexeme) → IsQuantifier (quantifier_of ts).0 ts (quantifier_of ts).1
 unfolding quantifier_of
 quantifier_is ts = go (op_at quantifier_op ts) refl
   where
@@ -80,7 +80,7 @@ quantifier_is ts = go (op_at quantifier_op ts) refl
         of q b.0 r (word_row (λ t q. (x : List ℕ) × (t ≡ lex.Word (quantifier_word q) x)) quantifier_words (λ x. ((x, refl), ((x, refl), tt))) b.0 q b.1) b.2
 
 -- COUNT(*)
-star_is : (g : Aggregate) (ts a : List Lexeme) → star_of g ts ≡ Some a → (g ≡ aggregates.Count) × (ts ≡ lex.Sign star ∷ a)
+pub star_is : (g : Aggregate) (ts a : List Lexeme) → star_of g ts ≡ Some a → (g ≡ aggregates.Count) × (ts ≡ lex.Sign star ∷ a)
 star_is aggregates.Count ts a e = (refl, after_sign star ts a e)
 star_is aggregates.Sum ts a e = absurd cc
 star_is aggregates.Min ts a e = absurd cc
@@ -88,8 +88,6 @@ star_is aggregates.Max ts a e = absurd cc
 star_is aggregates.CollectList ts a e = absurd cc
 
 module _ (n : ℕ) (f : Reader Tree) (inner : Inner n f) where
-  -- Soundness
-
   closed_sound : (ts : List Lexeme) (x : Tree) (r : List Lexeme) → closed_of f ts ≡ Some (x, r) → Is x ts (lex.Sign closing ∷ r)
   unfolding closed_of
   closed_sound ts x r e =
@@ -177,12 +175,11 @@ module _ (n : ℕ) (f : Reader Tree) (inner : Inner n f) where
   first_sound ts x r e =
       let a = bind_some (after (is_sign opening) ts) (λ a. f a >>= λ e. after (is_sign comma) e.1 >>= λ r. Some (e.0, r)) (x, r) e in
       let b = bind_some (f a.0) (λ e. after (is_sign comma) e.1 >>= λ r. Some (e.0, r)) (x, r) a.2 in
-      let c = bind_some (after (is_sign comma) b.0.1) (λ r. Some (b.0.0, r)) (x, r) b.2 in
-      (
+      let c = bind_some (after (is_sign comma) b.0.1) (λ r. Some (b.0.0, r)) (x, r) b.2 in (
         a.0,
         after_sign opening ts a.0 a.1,
         subst (λ (z : Tree × List Lexeme). Is z.0 a.0 (lex.Sign comma ∷ z.1)) (some_is (b.0.0, c.0) (x, r) c.2)
-        (subst (λ (z : List Lexeme). Is b.0.0 a.0 z) (after_sign comma b.0.1 c.0 c.1) (inner.sound a.0 b.0.0 b.0.1 b.1)),
+            (subst (λ (z : List Lexeme). Is b.0.0 a.0 z) (after_sign comma b.0.1 c.0 c.1) (inner.sound a.0 b.0.0 b.0.1 b.1)),
       )
 
   module _ (whole : List Lexeme) where
@@ -244,173 +241,3 @@ module _ (n : ℕ) (f : Reader Tree) (inner : Inner n f) where
   atom_sound (lex.Word place y ∷ ts) x r e =
       let w = bind_some (entry atom_words place) (λ w. word_atom_of f w ts) (x, r) e in
       word_sound (lex.Word place y ∷ ts) w.0 ts (lex.Word place y, w.1, refl) x r w.2
-
-  -- Completeness
-
-  inner_read : (e : Tree) (a : List Lexeme) (t : Lexeme) (s : List Lexeme) → length a < n → Is e a (t ∷ s) → goes_or t ≡ false → f a ≡ Some (e, t ∷ s)
-  inner_read e a t s le h stop = exact_at (f a) goes_or e (t ∷ s) (inner.complete e a (t ∷ s) le h) (λ i. let j : true ≡ false = sym i ∙ stop in cc)
-
-  list_read : (es : Trees) (a : List Lexeme) (t : Lexeme) (s : List Lexeme) → length a < n → IsList es a (t ∷ s) → goes_list t ≡ false → list_of f a ≡ Some (items_of_trees es, t ∷ s)
-  list_read es a t s le h stop = exact_at (list_of f a) goes_list (items_of_trees es) (t ∷ s) (list_found n f inner es a (t ∷ s) le h) (λ i. let j : true ≡ false = sym i ∙ stop in cc)
-
-  closed_read : (e : Tree) (a s : List Lexeme) → length a < n → Is e a (lex.Sign closing ∷ s) → closed_of f a ≡ Some (e, s)
-  unfolding closed_of
-  closed_read e a s le h = rw (inner_read e a (lex.Sign closing) s le h refl) refl
-
-  first_read : (e : Tree) (a b : List Lexeme) → length a < n → Is e a (lex.Sign comma ∷ b) → first_of f (lex.Sign opening ∷ a) ≡ Some (e, b)
-  unfolding first_of
-  first_read e a b le h = rw (inner_read e a (lex.Sign comma) b le h refl) refl
-
-  -- what derives is not refused
-  not_refused : (e : Tree) (a m : List Lexeme) → length a < n → Is e a m → f a ≡ None → ⊥
-  not_refused e a m le h r = go (inner.complete e a m le h)
-    where
-      go : Found (f a) goes_or e m → ⊥
-      go (exact p) = cc
-      go (longer x t p l g) = cc
-
-  no_bracket : (e : Tree) (a m : List Lexeme) → length a < n → Is e a m → after (is_sign closing_bracket) a ≡ None
-  no_bracket e a m le h = go (after (is_sign closing_bracket) a) refl
-    where
-      go : (o : Option (List Lexeme)) → after (is_sign closing_bracket) a ≡ o → o ≡ None
-      go None q = refl
-      go (Some s) q = absurd (not_refused e a m le h (ap f (after_sign closing_bracket a s q) ∙ inner.refuses_bracket s))
-
-  no_star : (g : Aggregate) (e : Tree) (a m : List Lexeme) → length a < n → Is e a m → star_of g a ≡ None
-  no_star g e a m le h = go (star_of g a) refl
-    where
-      go : (o : Option (List Lexeme)) → star_of g a ≡ o → o ≡ None
-      go None q = refl
-      go (Some s) q = absurd (not_refused e a m le h (ap f (star_is g a s q).1 ∙ inner.refuses_star s))
-
-  no_quantifier : (e : Tree) (a m : List Lexeme) → length a < n → Is e a m → op_at quantifier_op a ≡ None
-  no_quantifier e a m le h = go (op_at quantifier_op a) refl
-    where
-      refused : (q : SetQuantifier) (x : List ℕ) (s : List Lexeme) → f (lex.Word (quantifier_word q) x ∷ s) ≡ None
-      refused quantifier.Distinct x s = inner.refuses_distinct x s
-      refused quantifier.All x s = inner.refuses_all x s
-
-      go : (o : Option (SetQuantifier × List Lexeme)) → op_at quantifier_op a ≡ o → o ≡ None
-      go None q = refl
-      go (Some (q, s)) p =
-          let b = read_begins quantifier_op a q s p in
-          let w = word_row (λ t q. (x : List ℕ) × (t ≡ lex.Word (quantifier_word q) x)) quantifier_words (λ x. ((x, refl), ((x, refl), tt))) b.0 q b.1 in
-          absurd (not_refused e a m le h (ap f (b.2 ∙ ap (λ (z : Lexeme). z ∷ s) w.1) ∙ refused q w.0 s))
-
-  quantifier_read : (q : SetQuantifier) (e : Tree) (a b m : List Lexeme) → length b < n → IsQuantifier q a b → Is e b m → quantifier_of a ≡ (q, b)
-  unfolding quantifier_of
-  quantifier_read quantifier.Distinct e a b m le h d = ap quantifier_of h.1
-  quantifier_read quantifier.All e a b m le (inl h) d = ap quantifier_of h ∙ rw (no_quantifier e b m le d) refl
-  quantifier_read quantifier.All e a b m le (inr h) d = ap quantifier_of h.1
-
-  -- an aggregate's item begins with no star, also where a quantifier stands before it
-  no_star_before : (g : Aggregate) (q : SetQuantifier) (e : Tree) (a b m : List Lexeme) → length b < n → IsQuantifier q a b → Is e b m → star_of g a ≡ None
-  no_star_before aggregates.Count quantifier.Distinct e a b m le h d = ap (star_of aggregates.Count) h.1
-  no_star_before aggregates.Count quantifier.All e a b m le (inl h) d = ap (star_of aggregates.Count) h ∙ no_star aggregates.Count e b m le d
-  no_star_before aggregates.Count quantifier.All e a b m le (inr h) d = ap (star_of aggregates.Count) h.1
-  no_star_before aggregates.Sum q e a b m le h d = refl
-  no_star_before aggregates.Min q e a b m le h d = refl
-  no_star_before aggregates.Max q e a b m le h d = refl
-  no_star_before aggregates.CollectList q e a b m le h d = refl
-
-  -- a word that begins an atom, and what is read behind it
-  word_read : (w : AtomWord) (ts r : List Lexeme) → Begins atom_word w ts r → atom_of f ts ≡ word_atom_of f w r
-  unfolding atom_of
-  word_read w ts r h = ap (atom_of f) h.2 ∙ go h.0 h.1
-    where
-      go : (t : Lexeme) → atom_word t ≡ Some w → atom_of f (t ∷ r) ≡ word_atom_of f w r
-      go (lex.Word place x) e = ap (λ (o : Option AtomWord). o >>= λ w. word_atom_of f w r) e
-      go (lex.Sign place) e = absurd cc
-      go (lex.Name x) e = absurd cc
-      go (lex.Chars x) e = absurd cc
-      go (lex.Number x) e = absurd cc
-      go (lex.Param x) e = absurd cc
-
-  items_read : (es : Trees) (ts s : List Lexeme) → length ts < n → IsItems es ts (lex.Sign closing_bracket ∷ s) → listing_of f ts ≡ Some (listing es, s)
-  unfolding listing_of
-  items_read no_trees ts s le h = ap (listing_of f) h
-  items_read (more_trees e es) ts s le h =
-      let open_still = no_bracket e ts h.0 le h.1 in
-      let read = list_read (more_trees e es) ts (lex.Sign closing_bracket) s le h refl in
-      rw (open_still, read, trees_of-items_of_trees) refl
-
-  listing_read : (es : Trees) (ts a s : List Lexeme) → length a < n → OpensList ts a → IsItems es a (lex.Sign closing_bracket ∷ s) → atom_of f ts ≡ Some (listing es, s)
-  unfolding atom_of word_listing_of
-  listing_read es ts a s le (inl h) d = ap (atom_of f) h ∙ items_read es a s le d
-  listing_read es ts a s le (inr h) d = word_read atom.List ts (lex.Sign opening_bracket ∷ a) h ∙ items_read es a s le d
-
-  aggregate_read : (g : Aggregate) (q : SetQuantifier) (e : Tree) (a b s : List Lexeme) → length b < n → IsQuantifier q a b → Is e b (lex.Sign closing ∷ s) → aggregate_of f g (lex.Sign opening ∷ a) ≡ Some (aggregate g q e, s)
-  unfolding aggregate_of
-  aggregate_read g q e a b s le h d =
-      rw (no_star_before g q e a b (lex.Sign closing ∷ s) le h d, quantifier_read q e a b (lex.Sign closing ∷ s) le h d, closed_read e b s le d) refl
-
-  call_read : (g : Function) (e : Tree) (a s : List Lexeme) → length a < n → Is e a (lex.Sign closing ∷ s) → call_of f g (lex.Sign opening ∷ a) ≡ Some (call g e, s)
-  unfolding call_of
-  call_read g e a s le d = rw (closed_read e a s le d) refl
-
-  modulo_read : (e d : Tree) (a b s : List Lexeme) → length a < n → Is e a (lex.Sign comma ∷ b) → Is d b (lex.Sign closing ∷ s) → modulo_of f (lex.Sign opening ∷ a) ≡ Some (modulo e d, s)
-  unfolding modulo_of
-  modulo_read e d a b s le h k = rw (first_read e a b le h, closed_read d b s (omega (arith, is_shorter e a (lex.Sign comma ∷ b) h)) k) refl
-
-  coalesce_read : (e : Tree) (es : Trees) (a b s : List Lexeme) → length a < n → Is e a (lex.Sign comma ∷ b) → IsList es b (lex.Sign closing ∷ s) → coalesce_of f (lex.Sign opening ∷ a) ≡ Some (coalesce e es, s)
-  unfolding coalesce_of
-  coalesce_read e es a b s le h k =
-      rw (first_read e a b le h, list_read es b (lex.Sign closing) s (omega (arith, is_shorter e a (lex.Sign comma ∷ b) h)) k refl, trees_of-items_of_trees) refl
-
-  constant_read : (d : Datum) (ts s : List Lexeme) → Is (constant d) ts s → atom_of f ts ≡ Some (constant d, s)
-  unfolding atom_of
-  constant_read (boolean true) ts s h = word_read atom.True ts s h
-  constant_read (boolean false) ts s h = word_read atom.False ts s h
-  constant_read null ts s h = word_read atom.Null ts s h
-  constant_read (text x) ts s h = ap (atom_of f) h
-  constant_read (integer z) ts s h = absurd h
-  constant_read (list xs) ts s h = absurd h
-  constant_read (node v) ts s h = absurd h
-  constant_read (edge v) ts s h = absurd h
-  constant_read (path p) ts s h = absurd h
-
-  quantified_fits : (q : SetQuantifier) (a b : List Lexeme) → IsQuantifier q a b → length b ≤ length a
-  quantified_fits quantifier.Distinct a b h = omega (arith, ap length h.1)
-  quantified_fits quantifier.All a b (inl h) = omega (arith, ap length h)
-  quantified_fits quantifier.All a b (inr h) = omega (arith, ap length h.1)
-
-  pub atom_complete : Complete n (At at_atom) goes_atom (atom_of f)
-  unfolding atom_of paren_of aggregate_of
-  atom_complete (constant d) ts s le h = exact (constant_read d ts s h.derived)
-  atom_complete unknown ts s le h = exact (word_read atom.Unknown ts s h.derived)
-  atom_complete (number digits) ts s le h = exact (ap (atom_of f) h.derived)
-  atom_complete (parameter x) ts s le h = exact (ap (atom_of f) h.derived)
-  atom_complete (name x) ts s le h = subst (λ z. Found (atom_of f z) goes_atom (name x) s) (sym h.derived) (name_found x s)
-  atom_complete (property x p) ts s le h = let d = h.derived in exact (ap (atom_of f) d.2 ∙ property_read x p d.0 s d.1)
-  atom_complete (paren e) ts s le h =
-      let d = h.derived in
-      exact (ap (atom_of f) d.1 ∙ rw (closed_read e d.0 s (omega (arith, ap length d.1)) d.2) refl)
-  atom_complete (listing es) ts s le h = let d = h.derived in exact (listing_read es ts d.0 s (omega (arith, opening_fits ts d.0 d.1)) d.1 d.2)
-    where
-      opening_fits : (ts a : List Lexeme) → OpensList ts a → length a < length ts
-      opening_fits ts a (inl h) = omega (arith, ap length h)
-      opening_fits ts a (inr h) = omega (arith, begins_shorter atom_word atom.List ts (lex.Sign opening_bracket ∷ a) h)
-  atom_complete count_all ts s le h = exact (word_read (atom.Aggregate aggregates.Count) ts (lex.Sign opening ∷ lex.Sign star ∷ lex.Sign closing ∷ s) h.derived)
-  atom_complete (aggregate g q e) ts s le h =
-      let d = h.derived in
-      exact (word_read (atom.Aggregate g) ts (lex.Sign opening ∷ d.0) d.2
-      ∙ aggregate_read g q e d.0 d.1 s (omega (arith, begins_shorter atom_word (atom.Aggregate g) ts (lex.Sign opening ∷ d.0) d.2, quantified_fits q d.0 d.1 d.3)) d.3 d.4)
-  atom_complete (call g e) ts s le h =
-      let d = h.derived in
-      exact (word_read (atom.Call g) ts (lex.Sign opening ∷ d.0) d.1 ∙ call_read g e d.0 s (omega (arith, begins_shorter atom_word (atom.Call g) ts (lex.Sign opening ∷ d.0) d.1)) d.2)
-  atom_complete (modulo e k) ts s le h =
-      let d = h.derived in
-      exact (word_read atom.Mod ts (lex.Sign opening ∷ d.0) d.2 ∙ modulo_read e k d.0 d.1 s (omega (arith, begins_shorter atom_word atom.Mod ts (lex.Sign opening ∷ d.0) d.2)) d.3 d.4)
-  atom_complete (coalesce e es) ts s le h =
-      let d = h.derived in
-      exact (word_read atom.Coalesce ts (lex.Sign opening ∷ d.0) d.2 ∙ coalesce_read e es d.0 d.1 s (omega (arith, begins_shorter atom_word atom.Coalesce ts (lex.Sign opening ∷ d.0) d.2)) d.3 d.4)
-  atom_complete (signed o e) ts s le h = absurd (omega (arith, h.ranked))
-  atom_complete (product e ls) ts s le h = absurd (omega (arith, h.ranked))
-  atom_complete (sum e ls) ts s le h = absurd (omega (arith, h.ranked))
-  atom_complete (comparing c e d) ts s le h = absurd (omega (arith, h.ranked))
-  atom_complete (test e o q) ts s le h = absurd (omega (arith, h.ranked))
-  atom_complete (label_test e o l) ts s le h = absurd (omega (arith, h.ranked))
-  atom_complete (end_test e o end v) ts s le h = absurd (omega (arith, h.ranked))
-  atom_complete (negation e) ts s le h = absurd (omega (arith, h.ranked))
-  atom_complete (conjunction e ls) ts s le h = absurd (omega (arith, h.ranked))
-  atom_complete (disjunction e ls) ts s le h = absurd (omega (arith, h.ranked))
