@@ -4,5 +4,7 @@ pub mod ScopeMeaning
 pub mod WholeSum
 pub mod JoinedTruth
 pub mod Next
-pub mod NumbersFit
+pub mod Held
+pub mod Operations
 pub mod PatternTest
+pub mod Ranked
