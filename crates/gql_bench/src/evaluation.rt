@@ -49,7 +49,7 @@ fn measure(
     setting: Setting,
     nodes: u32,
 ) -> Result<()> {
-    let Some(graph) = Graph::of(setting.nodes, Sequence::new(alloc), nodes + 1, 1) else {
+    let Some(graph) = Graph::of(setting.nodes, Sequence::new(alloc), nodes.saturating_add(1), 1) else {
         bail!("the nodes are no graph");
     };
     let begun = Instant::now(rt)?;

@@ -119,7 +119,7 @@ enum Shown {
     OutOfMemory,
 }
 
-fn shown(answer: Result<Value, EvalError>) -> Shown {
+fn in_short(answer: Result<Value, EvalError>) -> Shown {
     match answer {
         Ok(Value::Null) => Shown::Null,
         Ok(Value::Bool(true)) => Shown::True,
@@ -133,9 +133,9 @@ fn shown(answer: Result<Value, EvalError>) -> Shown {
     }
 }
 
-fn shown_of(alloc: Global, words: &str) -> Result<Shown, OutOfMemory> {
+fn short_of(alloc: Global, words: &str) -> Result<Shown, OutOfMemory> {
     let expr = expression(alloc, words)?;
-    Ok(shown(value_of(alloc, &expr)))
+    Ok(in_short(value_of(alloc, &expr)))
 }
 
 const OVERFLOW: Shown = Shown::Fault(DataFault::Overflow);
@@ -172,7 +172,7 @@ fn integers_have_64_bits(rt: HostRuntime) -> Result<(), Fail> {
         ("$k 1 +", Shown::Int(6)),
         ("$none 1 +", Shown::Null),
     ] {
-        assert_eq!(rt; shown_of(rt.alloc(), words)?, given, "{words}");
+        assert_eq!(rt; short_of(rt.alloc(), words)?, given, "{words}");
     }
     Ok(())
 }
@@ -186,7 +186,7 @@ fn null_comes_first(rt: HostRuntime) -> Result<(), Fail> {
             words.push_str(other)?;
             words.push_str(" ")?;
             words.push_str(operator)?;
-            assert_eq!(rt; shown_of(rt.alloc(), words.as_str())?, Shown::Null, "{words}");
+            assert_eq!(rt; short_of(rt.alloc(), words.as_str())?, Shown::Null, "{words}");
         }
     }
     for (words, given) in [
@@ -206,7 +206,7 @@ fn null_comes_first(rt: HostRuntime) -> Result<(), Fail> {
         ("NULL 3 COALESCE", Shown::Int(3)),
         ("2 1 0 / COALESCE", Shown::Int(2)),
     ] {
-        assert_eq!(rt; shown_of(rt.alloc(), words)?, given, "{words}");
+        assert_eq!(rt; short_of(rt.alloc(), words)?, given, "{words}");
     }
     Ok(())
 }
@@ -234,7 +234,7 @@ fn truths_have_three_values(rt: HostRuntime) -> Result<(), Fail> {
         ("1 ISTRUE", WRONG_KIND),
         ("1 ISNULL", Shown::False),
     ] {
-        assert_eq!(rt; shown_of(rt.alloc(), words)?, given, "{words}");
+        assert_eq!(rt; short_of(rt.alloc(), words)?, given, "{words}");
     }
     Ok(())
 }
@@ -262,7 +262,7 @@ fn unlike_kinds_are_not_comparable(rt: HostRuntime) -> Result<(), Fail> {
         ("NULL [1] [1] 1 [1] [1] =", Shown::Null),
         ("1 [1] 1 [1] <", NOT_COMPARABLE),
     ] {
-        assert_eq!(rt; shown_of(rt.alloc(), words)?, given, "{words}");
+        assert_eq!(rt; short_of(rt.alloc(), words)?, given, "{words}");
     }
     Ok(())
 }
@@ -299,7 +299,7 @@ fn elements_are_asked(rt: HostRuntime) -> Result<(), Fail> {
         ("'a CARDINALITY", WRONG_KIND),
         ("x PATH_LENGTH", WRONG_KIND),
     ] {
-        assert_eq!(rt; shown_of(rt.alloc(), words)?, given, "{words}");
+        assert_eq!(rt; short_of(rt.alloc(), words)?, given, "{words}");
     }
     Ok(())
 }
@@ -331,7 +331,7 @@ fn chains_are_loops(rt: HostRuntime) -> Result<(), Fail> {
         (Operator::Concatenate, "1 [1]", Shown::List(100_001)),
     ] {
         let expr = chain(alloc, operator, expression(alloc, side)?, 100_000)?;
-        assert_eq!(rt; shown(value_of(alloc, &expr)), given, "{side}");
+        assert_eq!(rt; in_short(value_of(alloc, &expr)), given, "{side}");
     }
     Ok(())
 }
@@ -355,24 +355,43 @@ fn ones(alloc: Global, count: u32) -> Result<Expr, OutOfMemory> {
     Ok(Expr::Constant(Value::List(items)))
 }
 
+/// What the side joined to itself is.
+fn joined(alloc: Global, side: Expr) -> Result<Shown, OutOfMemory> {
+    let expr = chain(alloc, Operator::Concatenate, side, 1)?;
+    Ok(in_short(value_of(alloc, &expr)))
+}
+
+const TOO_LARGE: Shown = Shown::Fault(DataFault::TooLarge);
+
 #[test]
-fn strings_and_lists_have_limits(rt: HostRuntime) -> Result<(), Fail> {
+fn strings_have_a_limit(rt: HostRuntime) -> Result<(), Fail> {
     let alloc = rt.alloc();
-    let too_large = Shown::Fault(DataFault::TooLarge);
-    for (times, given) in [(21, Shown::Text(16_777_216)), (22, too_large)] {
-        let expr = chain(alloc, Operator::Concatenate, doubled(alloc, times)?, 1)?;
-        assert_eq!(rt; shown(value_of(alloc, &expr)), given, "{times}");
+    for (times, given) in [(21, Shown::Text(16_777_216)), (22, TOO_LARGE)] {
+        let side = doubled(alloc, times)?;
+        assert_eq!(rt; joined(alloc, side)?, given, "{times}");
     }
-    for (count, given) in [(524_288, Shown::List(1_048_576)), (524_289, too_large)] {
-        let expr = chain(alloc, Operator::Concatenate, ones(alloc, count)?, 1)?;
-        assert_eq!(rt; shown(value_of(alloc, &expr)), given, "{count}");
+    Ok(())
+}
+
+#[test]
+fn lists_have_a_limit(rt: HostRuntime) -> Result<(), Fail> {
+    let alloc = rt.alloc();
+    for (count, given) in [(524_288, Shown::List(1_048_576)), (524_289, TOO_LARGE)] {
+        let side = ones(alloc, count)?;
+        assert_eq!(rt; joined(alloc, side)?, given, "{count}");
     }
+    Ok(())
+}
+
+#[test]
+fn nesting_has_a_limit(rt: HostRuntime) -> Result<(), Fail> {
+    let alloc = rt.alloc();
     for (times, given) in [(64, Shown::List(1)), (65, Shown::Fault(DataFault::TooDeep))] {
         let mut words = String::from_str(alloc, "1")?;
         for _ in 0..times {
             words.push_str(" [1]")?;
         }
-        assert_eq!(rt; shown_of(alloc, words.as_str())?, given, "{times}");
+        assert_eq!(rt; short_of(alloc, words.as_str())?, given, "{times}");
     }
     Ok(())
 }

@@ -22,11 +22,14 @@ fn last(operands: &mut Vec<Expr>) -> Expr {
     operands.pop().unwrap_or(Expr::Unknown)
 }
 
+/// The same as a part.
+fn operand(alloc: Global, operands: &mut Vec<Expr>) -> Result<Sub, OutOfMemory> {
+    Sub::new(alloc, last(operands))
+}
+
 fn next(alloc: Global, operands: &mut Vec<Expr>, word: &str) -> Result<Expr, OutOfMemory> {
     if let Some(comparison) = comparison(word) {
-        let b = Sub::new(alloc, last(operands))?;
-        let a = Sub::new(alloc, last(operands))?;
-        return Ok(Expr::Compare(comparison, a, b));
+        return compared(alloc, operands, comparison);
     }
     if let Some(operator) = operator(word) {
         let b = last(operands);
@@ -34,12 +37,22 @@ fn next(alloc: Global, operands: &mut Vec<Expr>, word: &str) -> Result<Expr, Out
         return chain(alloc, operator, a, b);
     }
     if let Some(function) = function(word) {
-        return Ok(Expr::Call(function, Sub::new(alloc, last(operands))?));
+        return Ok(Expr::Call(function, operand(alloc, operands)?));
     }
     if let Some(quality) = quality(word) {
-        return Ok(Expr::Is(Sub::new(alloc, last(operands))?, Sense::Is, quality));
+        return Ok(Expr::Is(operand(alloc, operands)?, Sense::Is, quality));
     }
-    test_or_leaf(alloc, operands, word)
+    tested(alloc, operands, word)
+}
+
+fn compared(
+    alloc: Global,
+    operands: &mut Vec<Expr>,
+    comparison: Comparison,
+) -> Result<Expr, OutOfMemory> {
+    let b = operand(alloc, operands)?;
+    let a = operand(alloc, operands)?;
+    Ok(Expr::Compare(comparison, a, b))
 }
 
 fn chain(alloc: Global, operator: Operator, a: Expr, b: Expr) -> Result<Expr, OutOfMemory> {
@@ -102,58 +115,73 @@ fn quality(word: &str) -> Option<Quality> {
     }
 }
 
-fn test_or_leaf(alloc: Global, operands: &mut Vec<Expr>, word: &str) -> Result<Expr, OutOfMemory> {
+fn tested(alloc: Global, operands: &mut Vec<Expr>, word: &str) -> Result<Expr, OutOfMemory> {
     match word {
-        "NOT" => Ok(Expr::Not(Sub::new(alloc, last(operands))?)),
-        "NEG" => Ok(Expr::Signed(Sign::Minus, Sub::new(alloc, last(operands))?)),
-        "POS" => Ok(Expr::Signed(Sign::Plus, Sub::new(alloc, last(operands))?)),
-        "ISA" => {
-            let label = LabelExpr::Name(Text::from_str(alloc, "A")?);
-            Ok(Expr::IsLabeled(Sub::new(alloc, last(operands))?, Sense::Is, label))
-        }
-        "ISSOURCEOF_e" => {
-            let edge = Text::from_str(alloc, "e")?;
-            let node = Sub::new(alloc, last(operands))?;
-            Ok(Expr::IsEnd(node, Sense::Is, EdgeEnd::Source, edge))
-        }
-        "SUM" => aggregate(alloc, operands, Aggregate::Sum, SetQuantifier::All),
-        "COUNT" => aggregate(alloc, operands, Aggregate::Count, SetQuantifier::All),
-        "COUNTDISTINCT" => aggregate(alloc, operands, Aggregate::Count, SetQuantifier::Distinct),
-        _ => pair_or_leaf(alloc, operands, word),
+        "NOT" => Ok(Expr::Not(operand(alloc, operands)?)),
+        "NEG" => Ok(Expr::Signed(Sign::Minus, operand(alloc, operands)?)),
+        "POS" => Ok(Expr::Signed(Sign::Plus, operand(alloc, operands)?)),
+        "ISA" => is_labeled(alloc, operands, "A"),
+        "ISSOURCEOF_e" => is_source_of(alloc, operands, "e"),
+        _ => aggregated(alloc, operands, word),
     }
 }
 
-fn aggregate(
+fn is_labeled(
     alloc: Global,
     operands: &mut Vec<Expr>,
-    word: Aggregate,
-    quantifier: SetQuantifier,
+    label: &str,
 ) -> Result<Expr, OutOfMemory> {
-    Ok(Expr::Aggregate(word, quantifier, Sub::new(alloc, last(operands))?))
+    let label = LabelExpr::Name(Text::from_str(alloc, label)?);
+    Ok(Expr::IsLabeled(operand(alloc, operands)?, Sense::Is, label))
 }
 
-fn pair_or_leaf(alloc: Global, operands: &mut Vec<Expr>, word: &str) -> Result<Expr, OutOfMemory> {
+fn is_source_of(
+    alloc: Global,
+    operands: &mut Vec<Expr>,
+    edge: &str,
+) -> Result<Expr, OutOfMemory> {
+    let edge = Text::from_str(alloc, edge)?;
+    Ok(Expr::IsEnd(operand(alloc, operands)?, Sense::Is, EdgeEnd::Source, edge))
+}
+
+fn aggregated(alloc: Global, operands: &mut Vec<Expr>, word: &str) -> Result<Expr, OutOfMemory> {
+    let (aggregate, quantifier) = match word {
+        "SUM" => (Aggregate::Sum, SetQuantifier::All),
+        "COUNT" => (Aggregate::Count, SetQuantifier::All),
+        "COUNTDISTINCT" => (Aggregate::Count, SetQuantifier::Distinct),
+        _ => return listed(alloc, operands, word),
+    };
+    Ok(Expr::Aggregate(aggregate, quantifier, operand(alloc, operands)?))
+}
+
+fn listed(alloc: Global, operands: &mut Vec<Expr>, word: &str) -> Result<Expr, OutOfMemory> {
     match word {
-        "MOD" => {
-            let b = Sub::new(alloc, last(operands))?;
-            let a = Sub::new(alloc, last(operands))?;
-            Ok(Expr::Mod(a, b))
-        }
-        "COALESCE" => {
-            let b = list(alloc, last(operands))?;
-            let a = Sub::new(alloc, last(operands))?;
-            Ok(Expr::Coalesce(a, b))
-        }
+        "MOD" => modulo(alloc, operands),
+        "COALESCE" => coalesce(alloc, operands),
         "[]" => Ok(Expr::List(Exprs::new(alloc))),
         "[1]" => Ok(Expr::List(list(alloc, last(operands))?)),
-        "[2]" => {
-            let b = last(operands);
-            let mut items = list(alloc, last(operands))?;
-            items.push(b)?;
-            Ok(Expr::List(items))
-        }
+        "[2]" => pair(alloc, operands),
         _ => leaf(alloc, word),
     }
+}
+
+fn modulo(alloc: Global, operands: &mut Vec<Expr>) -> Result<Expr, OutOfMemory> {
+    let b = operand(alloc, operands)?;
+    let a = operand(alloc, operands)?;
+    Ok(Expr::Mod(a, b))
+}
+
+fn coalesce(alloc: Global, operands: &mut Vec<Expr>) -> Result<Expr, OutOfMemory> {
+    let b = list(alloc, last(operands))?;
+    let a = operand(alloc, operands)?;
+    Ok(Expr::Coalesce(a, b))
+}
+
+fn pair(alloc: Global, operands: &mut Vec<Expr>) -> Result<Expr, OutOfMemory> {
+    let b = last(operands);
+    let mut items = list(alloc, last(operands))?;
+    items.push(b)?;
+    Ok(Expr::List(items))
 }
 
 fn list(alloc: Global, item: Expr) -> Result<Exprs, OutOfMemory> {

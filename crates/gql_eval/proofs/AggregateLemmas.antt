@@ -14,7 +14,11 @@ use Rattle.gql_values3.proofs.OrderLaws.{exact_datum}
 use Rattle.gql_ast.specs.declared.fault.DataFault.{DataFault}
 use Rattle.gql_ast.specs.Faults.{◌>>=◌, each}
 use Rattle.gql_ast.specs.Operators.{fitted}
-use Rattle.gql_ast.specs.Aggregates.{addend, total, summed, distinct}
+use Rattle.gql_values3.specs.Nesting.{is_null}
+use Rattle.gql_ast.specs.Aggregates.{addend, total, summed, distinct, considered}
+use Rattle.gql_ast.specs.declared.words.SetQuantifier.{SetQuantifier}
+use Rattle.gql_ast.specs.declared.words.SetQuantifier.TheVariants as quantifier
+use Rattle.gql_eval.specs.Kept.{kept}
 use Rattle.gql_eval.specs.WholeSum.{total_of}
 
 -- the values from i on
@@ -165,3 +169,7 @@ not_true false p = refl
 pub not_false : (b : Bool) → not b ≡ false → b ≡ true
 not_false true p = refl
 not_false false p = absurd (cc)
+
+pub considered_kept : (q : SetQuantifier) (ds : List Datum) → considered q ds ≡ kept q (filter (λ d. not (is_null d)) ds)
+considered_kept quantifier.All ds = refl
+considered_kept quantifier.Distinct ds = refl

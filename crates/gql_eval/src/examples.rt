@@ -5,7 +5,7 @@ ghost use Rattle.std.specs.Prelude.{[]};
 use crate::error::EvalError;
 use crate::evaluation::value_in;
 use crate::pattern::holds_in_pattern;
-use crate::scope::Scope;
+use crate::scope::{Header, Scope};
 use gql_ast::{Aggregate, DataFault, Expr, Operator, SetQuantifier, Step, Steps, Sub};
 use gql_values3::{
     Binding, Bound, Columns, Comparison, EdgeId, Elem, Elems, Ends, List, NodeId, OutOfMemory,
@@ -83,7 +83,7 @@ fn shown(answer: Result<Value, EvalError>) -> Result<Option<i64>, EvalError> {
 fn value_of_example(alloc: Global, bound: &Bound, expr: &Expr) -> Result<Value, EvalError> {
     let scope = Scope {
         front: &[],
-        columns: &[],
+        header: Header::Listed(&[]),
         row: &[],
         bound: bound.as_slice(),
     };

@@ -11,7 +11,7 @@ ghost use Rattle.gql_eval.specs.ScopeMeaning.{scope_of};
 
 use crate::error::EvalError;
 use crate::evaluation::value_in;
-use crate::scope::Scope;
+use crate::scope::{Header, Scope};
 use crate::truths::truth_of_value;
 use gql_ast::Expr;
 use gql_values3::{Bound, Columns, OutOfMemory, Params, Row, Truth, View};
@@ -33,7 +33,7 @@ pub fn holds_in_pattern<V: View>(
 {
     let scope = Scope {
         front: &[],
-        columns: columns.as_slice(),
+        header: Header::Listed(columns.as_slice()),
         row: row.as_slice(),
         bound: bound.as_slice(),
     };

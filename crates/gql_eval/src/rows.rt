@@ -7,8 +7,9 @@ ghost use Rattle.gql_eval.specs.Held.{held_datum};
 
 use crate::error::EvalError;
 use crate::evaluation::value_in;
+use crate::heading::Heading;
 use crate::held::Held;
-use crate::scope::Scope;
+use crate::scope::{Header, Scope};
 use gql_ast::Expr;
 use gql_values3::{Columns, Params, Row, Value, View};
 use std::alloc::Global;
@@ -43,7 +44,28 @@ pub fn held_value<'a, V: View>(
 {
     let scope = Scope {
         front: &[],
-        columns: columns.as_slice(),
+        header: Header::Listed(columns.as_slice()),
+        row: row.as_slice(),
+        bound: &[],
+    };
+    value_in(alloc, view, &scope, params, expr)
+}
+
+/// The same under a heading: for many columns, since a name is then not searched among them in each row.
+#[tactic(auto, using(crate::proofs::ScopeLemmas::append_none), unfolding(crate::specs::ScopeMeaning::scope_of, crate::specs::ScopeMeaning::rest_of))]
+pub fn value_under<'a, V: View>(
+    alloc: Global,
+    view: &'a V,
+    heading: &'a Heading,
+    row: &'a Row,
+    params: &'a Params,
+    expr: &'a Expr,
+) -> Result<Held<'a>, EvalError>
+    ensures { Gives held_datum result (value_of (V.graph view.now) params.now (row_scope heading.now row.now) (tree_of expr.now)) }
+{
+    let scope = Scope {
+        front: &[],
+        header: Header::Indexed(heading),
         row: row.as_slice(),
         bound: &[],
     };
