@@ -49,14 +49,25 @@ fn measure(
     setting: Setting,
     nodes: u32,
 ) -> Result<()> {
-    let Some(graph) = Graph::of(setting.nodes, Sequence::new(alloc), nodes.saturating_add(1), 1) else {
+    let Some(graph) = Graph::of(
+        setting.nodes,
+        Sequence::new(alloc),
+        nodes.saturating_add(1),
+        1,
+    ) else {
         bail!("the nodes are no graph");
     };
     let begun = Instant::now(rt)?;
     let mut holding: u32 = 0;
     for row in setting.rows.as_slice() {
-        let answer = value(alloc, &graph, &setting.columns, row, &setting.params, &setting.condition);
-        match answer {
+        match answer(
+            alloc,
+            &graph,
+            &setting.columns,
+            row,
+            &setting.params,
+            &setting.condition,
+        ) {
             Ok(Value::Bool(true)) => holding = holding.saturating_add(1),
             Ok(_) => {}
             Err(EvalError::Fault(_)) => bail!("a fault"),
@@ -67,6 +78,18 @@ fn measure(
     println!(rt; "rows {} holding {holding}", setting.rows.len())?;
     eprintln!(rt; "{took} ms for {ROWS} rows over {nodes} nodes")?;
     Ok(())
+}
+
+/// The value of an expression over a row.
+pub fn answer(
+    alloc: Global,
+    graph: &Graph,
+    columns: &Columns,
+    row: &Row,
+    params: &Params,
+    condition: &Expr,
+) -> Result<Value, EvalError> {
+    value(alloc, graph, columns, row, params, condition)
 }
 
 fn make_setting(alloc: Global, nodes: u32) -> Result<Setting, OutOfMemory> {
@@ -91,7 +114,10 @@ fn node_records(alloc: Global, nodes: u32) -> Result<NodeRecords, OutOfMemory> {
 fn node_record(alloc: Global, number: u32) -> Result<NodeRecord, OutOfMemory> {
     let text = if number % 2 == 0 { "text" } else { "tent" };
     let mut items = Vec::new(alloc);
-    items.push((Text::from_str(alloc, "a")?, Value::Int(i64::from(number % 100))))?;
+    items.push((
+        Text::from_str(alloc, "a")?,
+        Value::Int(i64::from(number % 100)),
+    ))?;
     items.push((
         Text::from_str(alloc, "b")?,
         Value::Text(Text::from_str(alloc, text)?),
@@ -127,7 +153,13 @@ fn row(alloc: Global, number: u32, nodes: u32) -> Result<Row, OutOfMemory> {
 }
 
 fn node_at(number: u32, factor: u32, nodes: u32) -> NodeId {
-    NodeId(number.wrapping_mul(factor).checked_rem(nodes).unwrap_or(0).saturating_add(1))
+    NodeId(
+        number
+            .wrapping_mul(factor)
+            .checked_rem(nodes)
+            .unwrap_or(0)
+            .saturating_add(1),
+    )
 }
 
 fn params(alloc: Global) -> Result<Params, OutOfMemory> {

@@ -1,8 +1,9 @@
 //! Values of expressions over a small graph: what the rules say, by hand.
 
+use crate::evaluation::answer;
 use crate::postfix::expression;
 use gql_ast::{DataFault, Expr, Operator, Step, Steps, Sub};
-use gql_eval::{EvalError, value};
+use gql_eval::EvalError;
 use gql_graph::{EdgeRecords, Graph, NodeRecords};
 use gql_values3::{
     ColumnKind, Columns, EdgeId, EdgeRecord, Ends, List, Names, NodeId, NodeRecord, OutOfMemory,
@@ -48,7 +49,10 @@ fn edge(alloc: Global, number: u32, weight: i64) -> Result<EdgeRecord, OutOfMemo
     Ok(EdgeRecord {
         number: EdgeId(number),
         ends: if number == 1 {
-            Ends::Directed { source: a, target: b }
+            Ends::Directed {
+                source: a,
+                target: b,
+            }
         } else {
             Ends::Undirected { low: a, high: b }
         },
@@ -100,7 +104,14 @@ fn value_of(alloc: Global, expr: &Expr) -> Result<Value, EvalError> {
     let Some(graph) = small_graph(alloc)? else {
         return Err(EvalError::OutOfMemory);
     };
-    value(alloc, &graph, &columns(alloc)?, &row(alloc)?, &params(alloc)?, expr)
+    value_over(alloc, &graph, expr)
+}
+
+fn value_over(alloc: Global, graph: &Graph, expr: &Expr) -> Result<Value, EvalError> {
+    let columns = columns(alloc)?;
+    let row = row(alloc)?;
+    let params = params(alloc)?;
+    answer(alloc, graph, &columns, &row, &params, expr)
 }
 
 /// What an answer is, in a few words.
@@ -179,14 +190,20 @@ fn integers_have_64_bits(rt: HostRuntime) -> Result<(), Fail> {
 
 #[test]
 fn null_comes_first(rt: HostRuntime) -> Result<(), Fail> {
-    for operator in ["+", "-", "*", "/", "||", "MOD", "=", "<>", "<", ">", "<=", ">="] {
+    for operator in [
+        "+", "-", "*", "/", "||", "MOD", "=", "<>", "<", ">", "<=", ">=",
+    ] {
         for other in ["TRUE", "'a", "1", "NULL"] {
             let mut words = String::new(rt.alloc());
             words.push_str("NULL ")?;
             words.push_str(other)?;
             words.push_str(" ")?;
             words.push_str(operator)?;
-            assert_eq!(rt; short_of(rt.alloc(), words.as_str())?, Shown::Null, "{words}");
+            assert_eq!(rt;
+                short_of(rt.alloc(), words.as_str())?,
+                Shown::Null,
+                "{words}"
+            );
         }
     }
     for (words, given) in [

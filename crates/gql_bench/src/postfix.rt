@@ -57,7 +57,10 @@ fn compared(
 
 fn chain(alloc: Global, operator: Operator, a: Expr, b: Expr) -> Result<Expr, OutOfMemory> {
     let mut steps = Steps::new(alloc);
-    steps.push(Step { operator, operand: b })?;
+    steps.push(Step {
+        operator,
+        operand: b,
+    })?;
     let first = Sub::new(alloc, a)?;
     Ok(match operator {
         Operator::Add | Operator::Subtract | Operator::Concatenate => Expr::Sum(first, steps),
@@ -126,20 +129,12 @@ fn tested(alloc: Global, operands: &mut Vec<Expr>, word: &str) -> Result<Expr, O
     }
 }
 
-fn is_labeled(
-    alloc: Global,
-    operands: &mut Vec<Expr>,
-    label: &str,
-) -> Result<Expr, OutOfMemory> {
+fn is_labeled(alloc: Global, operands: &mut Vec<Expr>, label: &str) -> Result<Expr, OutOfMemory> {
     let label = LabelExpr::Name(Text::from_str(alloc, label)?);
     Ok(Expr::IsLabeled(operand(alloc, operands)?, Sense::Is, label))
 }
 
-fn is_source_of(
-    alloc: Global,
-    operands: &mut Vec<Expr>,
-    edge: &str,
-) -> Result<Expr, OutOfMemory> {
+fn is_source_of(alloc: Global, operands: &mut Vec<Expr>, edge: &str) -> Result<Expr, OutOfMemory> {
     let edge = Text::from_str(alloc, edge)?;
     Ok(Expr::IsEnd(operand(alloc, operands)?, Sense::Is, EdgeEnd::Source, edge))
 }

@@ -8,7 +8,6 @@ use Rattle.gql_values3.specs.Datum.{Datum}
 use Rattle.gql_values3.specs.Meaning.{datum_of}
 use Rattle.gql_values3.specs.PropertyGraph.{PropertyGraph}
 use Rattle.gql_values3.specs.declared.value.Value.{Value}
-use Rattle.gql_values3.specs.declared.truth.Truth.{Truth}
 use Rattle.gql_values3.specs.declared.truth.Truth.TheVariants as truth
 use Rattle.gql_ast.specs.declared.fault.DataFault.{DataFault}
 use Rattle.gql_ast.specs.Faults.{◌>>=◌, each}

@@ -1,13 +1,11 @@
 -- How deep two lists are nested that stand behind one another.
-use Rattle.std.proofs.Common.{◌≡◌, ℕ, zero, suc, ◌+◌, ◌≤◌, Bool, true, false, ◌&&◌, nat_le, max, List, [], ◌∷◌, ◌++◌, refl, ap, sym, ◌∙◌, arith}
-use Rattle.std.proofs.lemmas.Grind.{common_steps}
-use Rattle.gql_values3.specs.Datum.{Datum, data_of}
+use Rattle.std.proofs.Common.{◌≡◌, ℕ, Bool, true, false, ◌&&◌, nat_le, max, List, [], ◌∷◌, ◌++◌, refl, ap, sym, ◌∙◌, arith}
+use Rattle.gql_values3.specs.Datum.{Datum}
 use Rattle.gql_values3.specs.Nesting.{depth, depth_all}
 
 -- both are at most k where the greater is
 le_max : (a b k : ℕ) → nat_le (max a b) k ≡ (nat_le a k && nat_le b k)
 le_max a b k = grind arith
-
 
 regroup : (a b c : Bool) → (a && (b && c)) ≡ ((a && b) && c)
 regroup true b c = refl

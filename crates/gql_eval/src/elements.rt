@@ -45,11 +45,7 @@ fn element<V: View>(view: &V, value: &Value) -> Result<Option<Elem>, EvalError>
 }
 
 /// `x.p`: a property that isn't there is NULL.
-pub fn property<'a, V: View>(
-    view: &'a V,
-    value: &Value,
-    name: &Text,
-) -> Result<Held<'a>, EvalError>
+pub fn property<'a, V: View>(view: &'a V, value: &Value, name: &Text) -> Result<Held<'a>, EvalError>
     ensures { Gives held_datum result (property_value (V.graph view.now) (datum_of value.now) name.now) }
 {
     match value {

@@ -2,7 +2,6 @@ use Rattle.std.proofs.Common.{◌≡◌, ◌+◌, ◌*◌, max, map, nat_le, tru
 use Rattle.gql_values3.specs.Datum.{Datum}
 use Rattle.gql_ast.specs.declared.fault.DataFault.{DataFault}
 use Rattle.gql_values3.specs.Nesting.{depth}
-use Rattle.gql_values3.specs.Meaning.{datum_of}
 use Rattle.gql_ast.specs.Height.{height_of, highest, highest_link}
 use Rattle.gql_ast.specs.Meaning.{tree_of, link_of}
 use Rattle.gql_ast.specs.Scope.{with_item}

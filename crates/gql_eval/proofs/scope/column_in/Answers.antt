@@ -1,4 +1,4 @@
-use Rattle.std.proofs.Common.{◌≡◌, ◌∙◌, ◌<◌, sym, ap, map, length, arith}
+use Rattle.std.proofs.Common.{◌∙◌, ◌<◌, sym, ap, map, length}
 use Rattle.gql_values3.specs.Meaning.{datum_of}
 use Rattle.gql_eval.proofs.ScopeLemmas.{at_place, entry_at_place, place_below}
 use Rattle.gql_eval.proofs.scope.column_in.Goals as goal
