@@ -1,5 +1,5 @@
 -- Steps of the aggregates' loops.
-use Rattle.std.proofs.Common.{◌≡◌, ℕ, zero, suc, ◌+◌, ◌<◌, ℤ, pos, ◌+ℤ◌, Bool, true, false, not, cond, ◌&&◌, ◌||◌, List, [], ◌∷◌, ◌++◌, length, map, drop, get_or, Result, Ok, Err, refl, ap, sym, ◌∙◌, arith, append_assoc}
+use Rattle.std.proofs.Common.{◌≡◌, ℕ, ◌+◌, ◌<◌, ℤ, pos, ◌+ℤ◌, Bool, true, false, not, cond, ◌||◌, List, [], ◌∷◌, ◌++◌, length, map, drop, get_or, Result, Ok, Err, refl, ap, sym, ◌∙◌, arith, append_assoc}
 use Rattle.std.proofs.lemmas.List.{map-append}
 use Rattle.std.specs.Prelude.{filter}
 use Rattle.std.specs.List.{list_any}
@@ -14,7 +14,11 @@ use Rattle.gql_values3.proofs.OrderLaws.{exact_datum}
 use Rattle.gql_ast.specs.declared.fault.DataFault.{DataFault}
 use Rattle.gql_ast.specs.Faults.{◌>>=◌, each}
 use Rattle.gql_ast.specs.Operators.{fitted}
-use Rattle.gql_ast.specs.Aggregates.{addend, total, summed, distinct}
+use Rattle.gql_values3.specs.Nesting.{is_null}
+use Rattle.gql_ast.specs.Aggregates.{addend, total, summed, distinct, considered}
+use Rattle.gql_ast.specs.declared.words.SetQuantifier.{SetQuantifier}
+use Rattle.gql_ast.specs.declared.words.SetQuantifier.TheVariants as quantifier
+use Rattle.gql_eval.specs.Kept.{kept}
 use Rattle.gql_eval.specs.WholeSum.{total_of}
 
 -- the values from i on
@@ -145,3 +149,27 @@ total_from_more f xs i x so_far z next below here added sum =
     let rest = map f (drop (i + 1) xs) in
     ap (λ s. total_from s rest) sum ∙ sym (ap (λ r. r >>= λ y. total_from (so_far +ℤ y) rest) added)
     ∙ sym (total_from_step so_far (f x) rest) ∙ ap (λ ds. total_from so_far ds) (sym (mapped_step f xs i x below here))
+
+-- one more is seen
+any_more : {A : Type 0} (f : A → Bool) (xs : List A) (x : A) → list_any f (xs ++ x ∷ []) ≡ (f x || list_any f xs)
+any_more f [] x = refl
+any_more f (y ∷ ys) x = grind (arith, any_more f ys x)
+
+chosen : (b c : Bool) → cond b true c ≡ (b || c)
+chosen true c = refl
+chosen false c = refl
+
+pub seen_more : {A : Type 0} (f : A → Bool) (xs : List A) (x : A) (c : Bool) → c ≡ list_any f xs → cond (f x) true c ≡ list_any f (xs ++ x ∷ [])
+seen_more f xs x c same = chosen (f x) c ∙ ap (λ b. f x || b) same ∙ sym (any_more f xs x)
+
+pub not_true : (b : Bool) → not b ≡ true → b ≡ false
+not_true true p = absurd (cc)
+not_true false p = refl
+
+pub not_false : (b : Bool) → not b ≡ false → b ≡ true
+not_false true p = refl
+not_false false p = absurd (cc)
+
+pub considered_kept : (q : SetQuantifier) (ds : List Datum) → considered q ds ≡ kept q (filter (λ d. not (is_null d)) ds)
+considered_kept quantifier.All ds = refl
+considered_kept quantifier.Distinct ds = refl

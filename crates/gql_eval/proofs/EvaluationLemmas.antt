@@ -8,7 +8,6 @@ use Rattle.gql_values3.specs.Datum.{Datum}
 use Rattle.gql_values3.specs.Meaning.{datum_of}
 use Rattle.gql_values3.specs.PropertyGraph.{PropertyGraph}
 use Rattle.gql_values3.specs.declared.value.Value.{Value}
-use Rattle.gql_values3.specs.declared.truth.Truth.{Truth}
 use Rattle.gql_values3.specs.declared.truth.Truth.TheVariants as truth
 use Rattle.gql_ast.specs.declared.fault.DataFault.{DataFault}
 use Rattle.gql_ast.specs.Faults.{◌>>=◌, each}
@@ -78,3 +77,10 @@ unfolding value_of
 aggregate_is g params scope word quantifier e x items found same =
     ap (λ o. over_group o (λ y. each (λ item. value_of g params (with_item scope y item) e) (group_items (datum_of_name scope y)) >>= λ ds. aggregated word (considered quantifier ds))) (sym found)
     ∙ ap (λ is. each (λ item. value_of g params (with_item scope x item) e) is >>= λ ds. aggregated word (considered quantifier ds)) (sym same)
+
+-- the same, with the values of its items
+pub aggregate_then : (g : PropertyGraph) (params : List (List ℕ × Datum)) (scope : Scope) (word : Aggregate) (quantifier : SetQuantifier) (e : Tree) (x : List ℕ) (items ds : List Datum)
+    → Some x ≡ group_of scope e → items ≡ group_items (datum_of_name scope x) → each (λ item. value_of g params (with_item scope x item) e) items ≡ Ok ds
+    → value_of g params scope (aggregate word quantifier e) ≡ aggregated word (considered quantifier ds)
+aggregate_then g params scope word quantifier e x items ds found same given =
+    aggregate_is g params scope word quantifier e x items found same ∙ ap (λ r. r >>= λ vs. aggregated word (considered quantifier vs)) given

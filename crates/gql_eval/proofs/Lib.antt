@@ -1,5 +1,8 @@
 pub mod ItemLemmas
 pub mod LabelLemmas
+pub mod ElementLemmas
+pub mod HeadingLemmas
+pub mod JoiningLemmas
 pub mod ScopeLemmas
 pub mod PartLemmas
 pub mod AggregateLemmas

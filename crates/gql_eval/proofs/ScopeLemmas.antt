@@ -1,5 +1,5 @@
 -- Entries by name.
-use Rattle.std.proofs.Common.{◌≡◌, ℕ, zero, suc, ◌+◌, ◌<◌, Bool, true, false, cond, List, [], ◌∷◌, ◌++◌, length, map, drop, get_or, min, Option, Some, None, refl, ap, ◌∙◌, arith}
+use Rattle.std.proofs.Common.{◌≡◌, ℕ, zero, suc, ◌+◌, ◌<◌, ◌≤◌, Bool, true, false, cond, List, [], ◌∷◌, ◌++◌, length, map, drop, get_or, min, Option, Some, None, refl, ap, ◌∙◌, arith}
 use Rattle.std.specs.Prelude.{find, option_map, unwrap_or}
 use Rattle.std.proofs.lemmas.Grind.{common_steps}
 use Rattle.gql_values3.specs.Datum.{Datum, null}
@@ -10,7 +10,8 @@ use Rattle.gql_values3.specs.declared.table.ColumnKind.{ColumnKind}
 use Rattle.gql_ast.specs.Scope.{Scope, Entry, entry_of, datum_in, group_in, row_scope, holds_group}
 use Rattle.gql_values3.specs.declared.table.Binding.{Binding}
 use Rattle.gql_eval.specs.declared.scope.Item.{Item}
-use Rattle.gql_eval.specs.ScopeMeaning.{item_entry}
+use Rattle.gql_eval.specs.Places.{place_among}
+use Rattle.gql_eval.specs.ScopeMeaning.{item_entry, column_entry}
 use Rattle.gql_eval.specs.Bound.{bound_scope, bound_entry, bound_datum, is_bound_group}
 
 -- the first that is there
@@ -85,3 +86,51 @@ item_step items x i e h p = grind (arith, common_steps)
 pub append_none : {A : Type 0} (xs : List A) → xs ++ [] ≡ xs
 append_none [] = refl
 append_none (x ∷ xs) = ap (λ ys. x ∷ ys) (append_none xs)
+
+-- what stands at the place of the first column of a name
+abbrev pub at_place : List (List ℕ × ColumnKind) → List Datum → Option ℕ → Option Entry
+at_place cs ds None = None
+at_place cs ds (Some i) = column_entry cs ds i
+
+moved : (c : List ℕ × ColumnKind) (cs : List (List ℕ × ColumnKind)) (d : Datum) (ds : List Datum) (o : Option ℕ)
+    → at_place (c ∷ cs) (d ∷ ds) (option_map suc o) ≡ at_place cs ds o
+moved c cs d ds None = refl
+moved c cs d ds (Some i) = refl
+
+nothing_there : (c : List ℕ × ColumnKind) (cs : List (List ℕ × ColumnKind)) (o : Option ℕ) → at_place (c ∷ cs) [] o ≡ None
+nothing_there c cs None = refl
+nothing_there c cs (Some i) = refl
+
+either_place : (b : Bool) (c : List ℕ × ColumnKind) (cs : List (List ℕ × ColumnKind)) (d : Datum) (ds : List Datum) (o : Option ℕ) (e : Option Entry) → at_place cs ds o ≡ e
+    → at_place (c ∷ cs) (d ∷ ds) (cond b (Some 0) (option_map suc o)) ≡ cond b (Some (record { name = c.0; is_group = holds_group c.1; datum = d })) e
+either_place true c cs d ds o e same = refl
+either_place false c cs d ds o e same = moved c cs d ds o ∙ same
+
+pub entry_at_place : (cs : List (List ℕ × ColumnKind)) (ds : List Datum) (x : List ℕ)
+    → at_place cs ds (place_among cs x) ≡ entry_of (row_scope cs ds) x
+entry_at_place [] ds x = refl
+entry_at_place (c ∷ cs) [] x = nothing_there c cs (place_among (c ∷ cs) x)
+entry_at_place (c ∷ cs) (d ∷ ds) x =
+    either_place (same_text x c.0) c cs d ds (place_among cs x) (entry_of (row_scope cs ds) x) (entry_at_place cs ds x)
+
+placed_below : (b : Bool) (o : Option ℕ) (n i : ℕ) → cond b (Some 0) (option_map suc o) ≡ Some i → ((j : ℕ) → o ≡ Some j → j < n) → i < suc n
+placed_below true o n i h below = let e : 0 ≡ i = cc in omega (arith, e)
+placed_below false None n i h below = absurd (cc)
+placed_below false (Some j) n i h below = let e : suc j ≡ i = cc in omega (arith, e, below j refl)
+
+pub place_below : (cs : List (List ℕ × ColumnKind)) (x : List ℕ) (i : ℕ) → place_among cs x ≡ Some i → i < length cs
+place_below [] x i h = absurd (cc)
+place_below (c ∷ cs) x i h = placed_below (same_text x c.0) (place_among cs x) (length cs) i h (λ j p. place_below cs x j p)
+
+pub entry_there : (cs : List (List ℕ × ColumnKind)) (row : List Value) (i : ℕ) (c : List ℕ × ColumnKind) (v : Value) → i < length cs → i < length row → c ≡ get_or cs i c → v ≡ get_or row i v
+    → column_entry cs (map datum_of row) i ≡ Some (record { name = c.0; is_group = holds_group c.1; datum = datum_of v })
+entry_there [] row i c v h k p q = absurd (omega arith)
+entry_there (x ∷ xs) [] i c v h k p q = absurd (omega arith)
+entry_there (x ∷ xs) (y ∷ ys) zero c v h k p q = rw (p, q) refl
+entry_there (x ∷ xs) (y ∷ ys) (suc i) c v h k p q = entry_there xs ys i c v (omega arith) (omega arith) p q
+
+pub no_entry : (cs : List (List ℕ × ColumnKind)) (row : List Value) (i : ℕ) → length row ≤ i → column_entry cs (map datum_of row) i ≡ None
+no_entry [] row i h = refl
+no_entry (x ∷ xs) [] i h = refl
+no_entry (x ∷ xs) (y ∷ ys) zero h = absurd (omega arith)
+no_entry (x ∷ xs) (y ∷ ys) (suc i) h = no_entry xs ys i (omega arith)

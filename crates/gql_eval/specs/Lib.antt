@@ -3,6 +3,10 @@ pub mod Bound
 pub mod ScopeMeaning
 pub mod WholeSum
 pub mod JoinedTruth
+pub mod Kept
 pub mod Next
-pub mod NumbersFit
+pub mod Held
+pub mod Operations
 pub mod PatternTest
+pub mod Places
+pub mod Ranked

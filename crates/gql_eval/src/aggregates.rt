@@ -1,24 +1,24 @@
 //! Aggregates of values.
 
 ghost use Rattle.std.specs.Prelude.{◌≡◌, map, filter, not, IfOk};
-ghost use Rattle.std.specs.List.{list_any};
-ghost use Rattle.std.specs.Ordering.{is_eq};
 ghost use Rattle.gql_values3.specs.Meaning.{datum_of};
-ghost use Rattle.gql_values3.specs.ValueOrder.{datum_cmp};
 ghost use Rattle.gql_values3.specs.Nesting.{is_null};
 ghost use Rattle.gql_ast.specs.Aggregates.{considered, distinct, aggregated, addend, summed, lesser, greater, least, least_of, greatest, greatest_of};
+ghost use Rattle.gql_eval.specs.Kept.{kept};
 ghost use Rattle.gql_eval.specs.WholeSum.{total_of};
 ghost use Rattle.gql_eval.specs.Gives.{Gives};
 
 use crate::arithmetic::count_value;
+use crate::distinct::distinct_values;
 use crate::error::EvalError;
 use crate::making::list_value;
 use gql_ast::{Aggregate, DataFault, SetQuantifier};
 use gql_values3::{List, OutOfMemory, Value, total_cmp};
 use std::alloc::Global;
 
-/// The aggregate of these values. NULL is skipped, and DISTINCT drops equal values first, in time that grows with the
-/// square of their number.
+/// The aggregate of these values. NULL is skipped, and DISTINCT drops equal values first, by n log n comparisons. No
+/// value is copied but the answer's.
+#[tactic(auto, using(crate::proofs::AggregateLemmas::considered_kept))]
 pub fn aggregate(
     alloc: Global,
     word: Aggregate,
@@ -27,8 +27,40 @@ pub fn aggregate(
 ) -> Result<Value, EvalError>
     ensures { Gives datum_of result (aggregated word (considered quantifier (map datum_of values.now))) }
 {
-    let left = considered_values(alloc, quantifier, values)?;
-    aggregate_left(alloc, word, left.as_slice())
+    let present = present_values(alloc, values)?;
+    aggregate_present(alloc, word, quantifier, present.as_slice())
+}
+
+/// The same of values that stand elsewhere.
+#[tactic(auto, using(crate::proofs::AggregateLemmas::considered_kept))]
+pub fn aggregate_of(
+    alloc: Global,
+    word: Aggregate,
+    quantifier: SetQuantifier,
+    values: &[&Value],
+) -> Result<Value, EvalError>
+    ensures { Gives datum_of result (aggregated word (considered quantifier (map (λ v. datum_of v.now) values.now))) }
+{
+    let present = present_among(alloc, values)?;
+    aggregate_present(alloc, word, quantifier, present.as_slice())
+}
+
+/// The aggregate of values of which none is NULL.
+fn aggregate_present(
+    alloc: Global,
+    word: Aggregate,
+    quantifier: SetQuantifier,
+    present: &[&Value],
+) -> Result<Value, EvalError>
+    ensures { Gives datum_of result (aggregated word (kept quantifier (map (λ v. datum_of v.now) present.now))) }
+{
+    match quantifier {
+        SetQuantifier::All => aggregate_left(alloc, word, present),
+        SetQuantifier::Distinct => {
+            let left = distinct_values(alloc, present)?;
+            aggregate_left(alloc, word, left.as_slice())
+        }
+    }
 }
 
 /// The aggregate of the values that are left.
@@ -44,22 +76,8 @@ fn aggregate_left(alloc: Global, word: Aggregate, values: &[&Value]) -> Result<V
     }
 }
 
-/// The values that count.
-fn considered_values<'a>(
-    alloc: Global,
-    quantifier: SetQuantifier,
-    values: &'a [Value],
-) -> Result<Vec<&'a Value>, OutOfMemory>
-    ensures { IfOk result (λ left. map (λ v. datum_of v.now) left.items ≡ considered quantifier (map datum_of values.now)) }
-{
-    let present = without_nulls(alloc, values)?;
-    match quantifier {
-        SetQuantifier::All => Ok(present),
-        SetQuantifier::Distinct => distinct_values(alloc, present.as_slice()),
-    }
-}
-
-fn without_nulls<'a>(alloc: Global, values: &'a [Value]) -> Result<Vec<&'a Value>, OutOfMemory>
+/// The values that are not NULL.
+fn present_values<'a>(alloc: Global, values: &'a [Value]) -> Result<Vec<&'a Value>, OutOfMemory>
     ensures { IfOk result (λ left. map (λ v. datum_of v.now) left.items ≡ filter (λ d. not (is_null d)) (map datum_of values.now)) }
 {
     let mut left = Vec::new(alloc);
@@ -72,31 +90,17 @@ fn without_nulls<'a>(alloc: Global, values: &'a [Value]) -> Result<Vec<&'a Value
     Ok(left)
 }
 
-/// The first of equal values.
-fn distinct_values<'a>(alloc: Global, values: &[&'a Value]) -> Result<Vec<&'a Value>, OutOfMemory>
-    ensures { IfOk result (λ left. map (λ v. datum_of v.now) left.items ≡ distinct (map (λ v. datum_of v.now) values.now)) }
+fn present_among<'a>(alloc: Global, values: &[&'a Value]) -> Result<Vec<&'a Value>, OutOfMemory>
+    ensures { IfOk result (λ left. map (λ v. datum_of v.now) left.items ≡ filter (λ d. not (is_null d)) (map (λ v. datum_of v.now) values.now)) }
 {
     let mut left = Vec::new(alloc);
     for i in 0..values.len() {
         let value = values[i];
-        if !is_among(left.as_slice(), value) {
+        if !value.is_null() {
             left.push(value)?;
         }
     }
     Ok(left)
-}
-
-/// Whether one of these is equal to the value.
-fn is_among(values: &[&Value], value: &Value) -> bool
-    ensures { result ≡ list_any (λ v. is_eq (datum_cmp (datum_of v.now) (datum_of value.now))) values.now }
-{
-    for i in 0..values.len() {
-        let other = values[i];
-        if total_cmp(other, value).is_eq() {
-            return true;
-        }
-    }
-    false
 }
 
 /// SUM. What counts is whether the whole sum fits, so it is taken in 128 bits.

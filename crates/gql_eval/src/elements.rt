@@ -1,18 +1,21 @@
 //! What is asked of elements. NULL comes first, then a wrong kind, then a deleted element.
 
-ghost use Rattle.std.specs.Prelude.{◌≡◌};
+ghost use Rattle.std.specs.Prelude.{◌≡◌, Ok};
+ghost use Rattle.gql_values3.specs.Lookup.{property_of};
 ghost use Rattle.gql_values3.specs.Meaning.{datum_of};
 ghost use Rattle.gql_ast.specs.LabelMeaning.{label_of};
-ghost use Rattle.gql_ast.specs.ElementTests.{is_there, undeleted, element_in, property_value, labeled_value, is_directed, directed_value, is_end, end_value};
+ghost use Rattle.gql_ast.specs.ElementTests.{is_there, undeleted, element_in, or_null, property_value, labeled_value, is_directed, directed_value, is_end, end_value};
 ghost use Rattle.gql_ast.specs.Evaluation.{quality_value};
 ghost use Rattle.gql_eval.specs.Gives.{Gives};
+ghost use Rattle.gql_eval.specs.Held.{held_datum};
+ghost use Rattle.gql_eval.specs.Next.{next};
 
 use crate::error::EvalError;
+use crate::held::Held;
 use crate::labels::satisfies;
 use crate::truths::{names_truth, truth_of_value};
 use gql_ast::{DataFault, EdgeEnd, LabelExpr, Quality};
 use gql_values3::{Elem, Ends, NodeId, Text, Value, View};
-use std::alloc::Global;
 
 /// The element, if it is in the graph.
 fn alive<V: View>(view: &V, elem: Elem) -> Result<Elem, EvalError>
@@ -42,21 +45,32 @@ fn element<V: View>(view: &V, value: &Value) -> Result<Option<Elem>, EvalError>
 }
 
 /// `x.p`: a property that isn't there is NULL.
-pub fn property<V: View>(
-    alloc: Global,
-    view: &V,
-    value: &Value,
-    name: &Text,
-) -> Result<Value, EvalError>
-    ensures { Gives datum_of result (property_value (V.graph view.now) (datum_of value.now) name.now) }
+pub fn property<'a, V: View>(view: &'a V, value: &Value, name: &Text) -> Result<Held<'a>, EvalError>
+    ensures { Gives held_datum result (property_value (V.graph view.now) (datum_of value.now) name.now) }
 {
-    let Some(elem) = element(view, value)? else {
-        return Ok(Value::Null);
-    };
-    match view.property(elem, name.as_str()) {
-        None => Ok(Value::Null),
-        Some(found) => Ok(found.try_copy(alloc)?),
+    match value {
+        Value::Null => Ok(Held::Own(Value::Null)),
+        Value::Node(node) => property_of_element(view, Elem::Node(*node), name),
+        Value::Edge(edge) => property_of_element(view, Elem::Edge(*edge), name),
+        _ => Err(EvalError::Fault(DataFault::WrongKind)),
     }
+}
+
+/// A property of an element, if the element is in the graph.
+#[tactic(auto, using(crate::proofs::ElementLemmas::there_with_property))]
+fn property_of_element<'a, V: View>(
+    view: &'a V,
+    elem: Elem,
+    name: &Text,
+) -> Result<Held<'a>, EvalError>
+    ensures { Gives held_datum result (next (undeleted (V.graph view.now) elem) (λ e. Ok (or_null (property_of (V.graph view.now) e name.now)))) }
+{
+    // An element with a property is there, so most are searched once.
+    if let Some(found) = view.property(elem, name.as_str()) {
+        return Ok(Held::Lent(found));
+    }
+    alive(view, elem)?;
+    Ok(Held::Own(Value::Null))
 }
 
 /// IS LABELED; None is NULL.

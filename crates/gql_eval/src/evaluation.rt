@@ -1,112 +1,84 @@
 ghost use Rattle.std.specs.Prelude.{◌≡◌, map, Ok};
 ghost use Rattle.gql_values3.specs.Meaning.{datum_of};
-ghost use Rattle.gql_ast.specs.Tree.{trees_of, links_of, aggregate as aggregate_tree};
+ghost use Rattle.gql_ast.specs.Tree.{trees_of, links_of, coalesce as coalesce_tree, sum as sum_tree, conjunction, disjunction, aggregate as aggregate_tree};
 ghost use Rattle.gql_ast.specs.Meaning.{tree_of, link_of};
 ghost use Rattle.gql_ast.specs.Faults.{each};
-ghost use Rattle.gql_ast.specs.Scope.{with_item, group_of, datum_of_name};
-ghost use Rattle.gql_ast.specs.Operators.{truth_in, datum_of_truth};
-ghost use Rattle.gql_ast.specs.Aggregates.{considered, aggregated};
-ghost use Rattle.gql_ast.specs.Evaluation.{value_of, values_of, chained, all_of, any_of, first_of, or_else, group_items};
+ghost use Rattle.gql_ast.specs.Scope.{with_item};
+ghost use Rattle.gql_ast.specs.Evaluation.{value_of, values_of};
+ghost use Rattle.gql_eval.specs.Held.{held_datum};
 ghost use Rattle.gql_eval.specs.ScopeMeaning.{scope_of};
 ghost use Rattle.gql_eval.specs.Gives.{Gives};
-ghost use Rattle.gql_eval.specs.Next.{next};
 
 use crate::aggregates::aggregate;
 use crate::elements::property;
 use crate::error::EvalError;
-use crate::functions::apply;
 use crate::groups::{group_name, items_in};
+use crate::held::Held;
 use crate::leaves::{number_value, parameter};
 use crate::making::list_value;
-use crate::operators::{modulo, operate, signed};
-use crate::predicates::{compare, is_end, is_labeled, is_quality, negate};
+use crate::operations::{binary_value, operation_value};
+use crate::operators::operate;
 use crate::scope::{Item, Scope, look_up, with_front};
 use crate::truths::{is_skipped, join_truths, truth_of_value, truth_value};
-use gql_ast::{Aggregate, Expr, SetQuantifier, Step};
+use gql_ast::{Aggregate, Expr, Operator, SetQuantifier, Step};
 use gql_values3::{List, Params, Text, Truth, Value, View, and3};
 use std::alloc::Global;
 
-/// The value of an expression in a scope.
+/// The value of an expression in a scope. What is lent stands in the graph, the scope, the parameters or the expression.
 #[cycle(evaluation)]
 #[tactic(auto, unfolding(gql_ast::specs::Evaluation::value_of))]
-pub fn value_in<V: View>(
+pub fn value_in<'a, V: View>(
     alloc: Global,
-    view: &V,
-    scope: &Scope,
-    params: &Params,
-    expr: &Expr,
-) -> Result<Value, EvalError>
-    ensures { Gives datum_of result (value_of (V.graph view.now) params.now (scope_of scope.now) (tree_of expr.now)) }
+    view: &'a V,
+    scope: &Scope<'a>,
+    params: &'a Params,
+    expr: &'a Expr,
+) -> Result<Held<'a>, EvalError>
+    ensures { Gives held_datum result (value_of (V.graph view.now) params.now (scope_of scope.now) (tree_of expr.now)) }
 {
     match expr {
-        Expr::Constant(value) => Ok(value.try_copy(alloc)?),
-        Expr::Unknown => Ok(Value::Null),
-        Expr::Number(digits) => number_value(digits),
-        Expr::Parameter(name) => Ok(parameter(alloc, params, name)?),
+        Expr::Constant(value) => Ok(Held::Lent(value)),
+        Expr::Unknown | Expr::CountAll => Ok(Held::Own(Value::Null)),
+        Expr::Number(digits) => Ok(Held::Own(number_value(digits)?)),
+        Expr::Parameter(name) => Ok(parameter(params, name)),
         Expr::Name(name) => Ok(look_up(alloc, scope, name)?),
         Expr::Property(name, key) => {
-            let value = look_up(alloc, scope, name)?;
-            property(alloc, view, &value, key)
+            let element = look_up(alloc, scope, name)?;
+            property(view, element.value(), key)
         }
         Expr::Paren(part) => value_in(alloc, view, scope, params, part.expr()),
         Expr::List(parts) => {
             let items = values_in(alloc, view, scope, params, parts.as_slice())?;
-            list_value(items)
+            Ok(Held::Own(list_value(items)?))
         }
-        Expr::CountAll => Ok(Value::Null),
         Expr::Aggregate(word, quantifier, part) => {
             over_group(alloc, view, scope, params, *word, *quantifier, part.expr())
         }
-        Expr::Call(function, part) => {
+        Expr::Call(_, part)
+        | Expr::Signed(_, part)
+        | Expr::Is(part, _, _)
+        | Expr::IsLabeled(part, _, _)
+        | Expr::IsEnd(part, _, _, _)
+        | Expr::Not(part) => {
             let value = value_in(alloc, view, scope, params, part.expr())?;
-            apply(alloc, *function, &value)
+            Ok(Held::Own(operation_value(alloc, view, scope, expr, value.value())?))
         }
-        Expr::Mod(a, b) => {
+        Expr::Mod(a, b) | Expr::Compare(_, a, b) => {
             let a = value_in(alloc, view, scope, params, a.expr())?;
             let b = value_in(alloc, view, scope, params, b.expr())?;
-            modulo(&a, &b)
+            Ok(Held::Own(binary_value(expr, a.value(), b.value())?))
         }
         Expr::Coalesce(first, rest) => {
-            let value = value_in(alloc, view, scope, params, first.expr())?;
-            coalesce(alloc, view, scope, params, value, rest.as_slice())
-        }
-        Expr::Signed(sign, part) => {
-            let value = value_in(alloc, view, scope, params, part.expr())?;
-            signed(*sign, &value)
+            coalesce(alloc, view, scope, params, first.expr(), rest.as_slice())
         }
         Expr::Product(first, steps) | Expr::Sum(first, steps) => {
-            let value = value_in(alloc, view, scope, params, first.expr())?;
-            chain(alloc, view, scope, params, value, steps.as_slice())
-        }
-        Expr::Compare(comparison, a, b) => {
-            let a = value_in(alloc, view, scope, params, a.expr())?;
-            let b = value_in(alloc, view, scope, params, b.expr())?;
-            compare(*comparison, &a, &b)
-        }
-        Expr::Is(part, sense, quality) => {
-            let value = value_in(alloc, view, scope, params, part.expr())?;
-            is_quality(view, *sense, *quality, &value)
-        }
-        Expr::IsLabeled(part, sense, labels) => {
-            let value = value_in(alloc, view, scope, params, part.expr())?;
-            is_labeled(view, *sense, labels, &value)
-        }
-        Expr::IsEnd(part, sense, end, edge) => {
-            let value = value_in(alloc, view, scope, params, part.expr())?;
-            let edge = look_up(alloc, scope, edge)?;
-            is_end(view, *sense, *end, &value, &edge)
-        }
-        Expr::Not(part) => {
-            let value = value_in(alloc, view, scope, params, part.expr())?;
-            negate(&value)
+            chain(alloc, view, scope, params, first.expr(), steps.as_slice())
         }
         Expr::And(first, steps) => {
-            let value = value_in(alloc, view, scope, params, first.expr())?;
-            all(alloc, view, scope, params, &value, steps.as_slice())
+            all(alloc, view, scope, params, first.expr(), steps.as_slice())
         }
         Expr::Or(first, steps) => {
-            let value = value_in(alloc, view, scope, params, first.expr())?;
-            any(alloc, view, scope, params, &value, steps.as_slice())
+            any(alloc, view, scope, params, first.expr(), steps.as_slice())
         }
     }
 }
@@ -114,19 +86,20 @@ pub fn value_in<V: View>(
 /// The values of a list's items.
 #[cycle(evaluation)]
 #[tactic(auto, unfolding(gql_ast::specs::Evaluation::value_of))]
-fn values_in<V: View>(
+fn values_in<'a, V: View>(
     alloc: Global,
-    view: &V,
-    scope: &Scope,
-    params: &Params,
-    parts: &[Expr],
+    view: &'a V,
+    scope: &Scope<'a>,
+    params: &'a Params,
+    parts: &'a [Expr],
 ) -> Result<List, EvalError>
     ensures { Gives (λ l. l) result (values_of (V.graph view.now) params.now (scope_of scope.now) (trees_of (map tree_of parts.now))) }
 {
     let mut items = List::new(alloc);
     for i in 0..parts.len() {
         let part = &parts[i];
-        items.push(value_in(alloc, view, scope, params, part)?)?;
+        let value = value_in(alloc, view, scope, params, part)?;
+        items.push(value.into_value(alloc)?)?;
     }
     Ok(items)
 }
@@ -134,47 +107,50 @@ fn values_in<V: View>(
 /// The first value that is not NULL; the others are not looked at.
 #[cycle(evaluation)]
 #[tactic(auto, unfolding(gql_ast::specs::Evaluation::value_of))]
-fn coalesce<V: View>(
+fn coalesce<'a, V: View>(
     alloc: Global,
-    view: &V,
-    scope: &Scope,
-    params: &Params,
-    first: Value,
-    rest: &[Expr],
-) -> Result<Value, EvalError>
-    ensures { Gives datum_of result (or_else (datum_of first) (first_of (V.graph view.now) params.now (scope_of scope.now) (trees_of (map tree_of rest.now)))) }
+    view: &'a V,
+    scope: &Scope<'a>,
+    params: &'a Params,
+    first: &'a Expr,
+    rest: &'a [Expr],
+) -> Result<Held<'a>, EvalError>
+    ensures { Gives held_datum result (value_of (V.graph view.now) params.now (scope_of scope.now) (coalesce_tree (tree_of first.now) (trees_of (map tree_of rest.now)))) }
 {
-    if !first.is_null() {
-        return Ok(first);
+    let value = value_in(alloc, view, scope, params, first)?;
+    if !value.value().is_null() {
+        return Ok(value);
     }
     for i in 0..rest.len() {
         let part = &rest[i];
         let value = value_in(alloc, view, scope, params, part)?;
-        if !value.is_null() {
+        if !value.value().is_null() {
             return Ok(value);
         }
     }
-    Ok(Value::Null)
+    Ok(Held::Own(Value::Null))
 }
 
 /// A sum or a product, from the left.
 #[cycle(evaluation)]
 #[tactic(auto, unfolding(gql_ast::specs::Evaluation::value_of))]
-fn chain<V: View>(
+fn chain<'a, V: View>(
     alloc: Global,
-    view: &V,
-    scope: &Scope,
-    params: &Params,
-    first: Value,
-    steps: &[Step],
-) -> Result<Value, EvalError>
-    ensures { Gives datum_of result (chained (V.graph view.now) params.now (scope_of scope.now) (datum_of first) (links_of (map link_of steps.now))) }
+    view: &'a V,
+    scope: &Scope<'a>,
+    params: &'a Params,
+    first: &'a Expr,
+    steps: &'a [Step],
+) -> Result<Held<'a>, EvalError>
+    ensures { Gives held_datum result (value_of (V.graph view.now) params.now (scope_of scope.now) (sum_tree (tree_of first.now) (links_of (map link_of steps.now)))) }
 {
-    let mut so_far = first;
+    let mut so_far = value_in(alloc, view, scope, params, first)?;
+    let mut is_joined = false;
     for i in 0..steps.len() {
         let step = &steps[i];
         let side = value_in(alloc, view, scope, params, &step.operand)?;
-        so_far = operate(alloc, step.operator, so_far, side)?;
+        so_far = Held::Own(operate(alloc, step.operator, so_far, is_joined, side.value())?);
+        is_joined = step.operator == Operator::Concatenate;
     }
     Ok(so_far)
 }
@@ -182,86 +158,89 @@ fn chain<V: View>(
 /// AND, which stops at the first False.
 #[cycle(evaluation)]
 #[tactic(auto, unfolding(gql_ast::specs::Evaluation::value_of))]
-fn all<V: View>(
+fn all<'a, V: View>(
     alloc: Global,
-    view: &V,
-    scope: &Scope,
-    params: &Params,
-    first: &Value,
-    steps: &[Step],
-) -> Result<Value, EvalError>
-    ensures { Gives datum_of result (next (truth_in (datum_of first.now)) (λ t. next (all_of (V.graph view.now) params.now (scope_of scope.now) t (links_of (map link_of steps.now))) (λ u. Ok (datum_of_truth u)))) }
+    view: &'a V,
+    scope: &Scope<'a>,
+    params: &'a Params,
+    first: &'a Expr,
+    steps: &'a [Step],
+) -> Result<Held<'a>, EvalError>
+    ensures { Gives held_datum result (value_of (V.graph view.now) params.now (scope_of scope.now) (conjunction (tree_of first.now) (links_of (map link_of steps.now)))) }
 {
-    let mut truth = truth_of_value(first)?;
+    let value = value_in(alloc, view, scope, params, first)?;
+    let mut truth = truth_of_value(value.value())?;
     for i in 0..steps.len() {
         if let Truth::False = truth {
-            return Ok(Value::Bool(false));
+            return Ok(Held::Own(Value::Bool(false)));
         }
         let step = &steps[i];
         let side = value_in(alloc, view, scope, params, &step.operand)?;
-        truth = and3(truth, truth_of_value(&side)?);
+        truth = and3(truth, truth_of_value(side.value())?);
     }
-    Ok(truth_value(truth))
+    Ok(Held::Own(truth_value(truth)))
 }
 
 /// OR and XOR. A side after OR is skipped while the sides before it are True.
 #[cycle(evaluation)]
 #[tactic(auto, unfolding(gql_ast::specs::Evaluation::value_of))]
-fn any<V: View>(
+fn any<'a, V: View>(
     alloc: Global,
-    view: &V,
-    scope: &Scope,
-    params: &Params,
-    first: &Value,
-    steps: &[Step],
-) -> Result<Value, EvalError>
-    ensures { Gives datum_of result (next (truth_in (datum_of first.now)) (λ t. next (any_of (V.graph view.now) params.now (scope_of scope.now) t (links_of (map link_of steps.now))) (λ u. Ok (datum_of_truth u)))) }
+    view: &'a V,
+    scope: &Scope<'a>,
+    params: &'a Params,
+    first: &'a Expr,
+    steps: &'a [Step],
+) -> Result<Held<'a>, EvalError>
+    ensures { Gives held_datum result (value_of (V.graph view.now) params.now (scope_of scope.now) (disjunction (tree_of first.now) (links_of (map link_of steps.now)))) }
 {
-    let mut truth = truth_of_value(first)?;
+    let value = value_in(alloc, view, scope, params, first)?;
+    let mut truth = truth_of_value(value.value())?;
     for i in 0..steps.len() {
         let step = &steps[i];
         if is_skipped(step.operator, truth) {
             continue;
         }
         let side = value_in(alloc, view, scope, params, &step.operand)?;
-        truth = join_truths(step.operator, truth, truth_of_value(&side)?);
+        truth = join_truths(step.operator, truth, truth_of_value(side.value())?);
     }
-    Ok(truth_value(truth))
+    Ok(Held::Own(truth_value(truth)))
 }
 
 /// An aggregate over the group that its argument names first. There is none over rows within a row.
 #[cycle(evaluation)]
 #[tactic(auto, unfolding(gql_ast::specs::Evaluation::value_of))]
-fn over_group<V: View>(
+fn over_group<'a, V: View>(
     alloc: Global,
-    view: &V,
-    scope: &Scope,
-    params: &Params,
+    view: &'a V,
+    scope: &Scope<'a>,
+    params: &'a Params,
     word: Aggregate,
     quantifier: SetQuantifier,
-    part: &Expr,
-) -> Result<Value, EvalError>
-    ensures { Gives datum_of result (value_of (V.graph view.now) params.now (scope_of scope.now) (aggregate_tree word quantifier (tree_of part.now))) }
+    part: &'a Expr,
+) -> Result<Held<'a>, EvalError>
+    ensures { Gives held_datum result (value_of (V.graph view.now) params.now (scope_of scope.now) (aggregate_tree word quantifier (tree_of part.now))) }
 {
     let Some(name) = group_name(scope, part) else {
-        return Ok(Value::Null);
+        return Ok(Held::Own(Value::Null));
     };
     let group = look_up(alloc, scope, name)?;
-    let values = over_items(alloc, view, scope, params, name, items_in(&group), part)?;
-    aggregate(alloc, word, quantifier, values.as_slice())
+    let items = items_in(group.value());
+    let values = over_items(alloc, view, scope, params, name, items, part)?;
+    Ok(Held::Own(aggregate(alloc, word, quantifier, values.as_slice())?))
 }
 
 /// The values of an expression with the name standing for each of the items in turn.
 #[cycle(evaluation)]
 #[tactic(auto, unfolding(gql_ast::specs::Evaluation::value_of))]
-fn over_items<V: View>(
+fn over_items<'a, V: View>(
     alloc: Global,
-    view: &V,
-    scope: &Scope,
-    params: &Params,
+    view: &'a V,
+    scope: &Scope<'a>,
+    params: &'a Params,
     name: &Text,
     items: &[Value],
-    part: &Expr,
+    part: &'a Expr,
 ) -> Result<List, EvalError>
     ensures { Gives (λ l. l) result (each (λ item. value_of (V.graph view.now) params.now (with_item (scope_of scope.now) name.now item) (tree_of part.now)) (map datum_of items.now)) }
 {
@@ -274,7 +253,8 @@ fn over_items<V: View>(
         };
         let front = with_front(alloc, item, scope.front)?;
         let inner = scope.under(front.as_slice());
-        values.push(value_in(alloc, view, &inner, params, part)?)?;
+        let value = value_in(alloc, view, &inner, params, part)?;
+        values.push(value.into_value(alloc)?)?;
     }
     Ok(values)
 }

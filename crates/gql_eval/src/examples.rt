@@ -1,16 +1,15 @@
+//! Values over the names of a match. Tests over a graph stand in gql_bench.
+
 ghost use Rattle.std.specs.Prelude.{[]};
 
 use crate::error::EvalError;
 use crate::evaluation::value_in;
-use crate::operators::{modulo, operate, signed};
 use crate::pattern::holds_in_pattern;
-use crate::scope::Scope;
-use gql_ast::{
-    Aggregate, DataFault, Expr, Operator, Quality, Sense, SetQuantifier, Sign, Step, Steps, Sub,
-};
+use crate::scope::{Header, Scope};
+use gql_ast::{Aggregate, DataFault, Expr, Operator, SetQuantifier, Step, Steps, Sub};
 use gql_values3::{
-    Binding, Bound, Columns, EdgeId, Elem, Elems, Ends, List, NodeId, OutOfMemory, Properties,
-    Text, Value, View,
+    Binding, Bound, Columns, Comparison, EdgeId, Elem, Elems, Ends, List, NodeId, OutOfMemory,
+    Properties, Text, Value, View,
 };
 use std::alloc::Global;
 use std::test::Fail;
@@ -81,119 +80,16 @@ fn shown(answer: Result<Value, EvalError>) -> Result<Option<i64>, EvalError> {
     }
 }
 
-const OVERFLOW: Result<Option<i64>, EvalError> = Err(EvalError::Fault(DataFault::Overflow));
-
-const BY_ZERO: Result<Option<i64>, EvalError> = Err(EvalError::Fault(DataFault::DivideByZero));
-
-#[test]
-fn integers_have_64_bits(rt: HostRuntime) {
-    for (operator, a, b, given) in [
-        (Operator::Subtract, -i64::MAX, 1, Ok(Some(i64::MIN))),
-        (Operator::Add, i64::MAX, 1, OVERFLOW),
-        (Operator::Subtract, 0, i64::MIN, OVERFLOW),
-        (Operator::Multiply, i64::MIN, -1, OVERFLOW),
-        (Operator::Divide, i64::MIN, -1, OVERFLOW),
-        (Operator::Divide, -7, 2, Ok(Some(-3))),
-        (Operator::Divide, 1, 0, BY_ZERO),
-    ] {
-        let answer = operate(rt.alloc(), operator, Value::Int(a), Value::Int(b));
-        assert_eq!(rt; shown(answer), given);
-    }
-    for (a, b, given) in [
-        (i64::MIN, -1, Ok(Some(0))),
-        (-7, 2, Ok(Some(-1))),
-        (7, -2, Ok(Some(1))),
-        (1, 0, BY_ZERO),
-    ] {
-        assert_eq!(rt; shown(modulo(&Value::Int(a), &Value::Int(b))), given);
-    }
-    assert_eq!(rt; shown(signed(Sign::Minus, &Value::Int(i64::MIN))), OVERFLOW);
-}
-
-#[test]
-fn null_comes_before_kinds(rt: HostRuntime) -> Result<(), Fail> {
-    for operator in [
-        Operator::Add,
-        Operator::Subtract,
-        Operator::Concatenate,
-        Operator::Multiply,
-        Operator::Divide,
-    ] {
-        let text = Value::Text(Text::from_str(rt.alloc(), "a")?);
-        assert_eq!(rt;
-            shown(operate(rt.alloc(), operator, Value::Null, text)),
-            Ok(None)
-        );
-        assert_eq!(rt;
-            shown(operate(rt.alloc(), operator, Value::Bool(true), Value::Null)),
-            Ok(None)
-        );
-    }
-    Ok(())
-}
-
-fn one(alloc: Global) -> Result<Expr, OutOfMemory> {
-    Ok(Expr::Number(Text::from_str(alloc, "1")?))
-}
-
-fn repeated(
-    alloc: Global,
-    operator: Operator,
-    count: u32,
-    side: &Expr,
-) -> Result<Steps, OutOfMemory> {
-    let mut steps = Steps::new(alloc);
-    for _ in 0..count {
-        steps.push(Step {
-            operator,
-            operand: side.try_copy(alloc)?,
-        })?;
-    }
-    Ok(steps)
-}
-
 fn value_of_example(alloc: Global, bound: &Bound, expr: &Expr) -> Result<Value, EvalError> {
     let scope = Scope {
         front: &[],
-        columns: &[],
+        header: Header::Listed(&[]),
         row: &[],
         bound: bound.as_slice(),
     };
-    value_in(alloc, &Empty, &scope, &Properties::new(alloc), expr)
-}
-
-fn sum_of_ones(alloc: Global) -> Result<Expr, OutOfMemory> {
-    let first = one(alloc)?;
-    let ones = repeated(alloc, Operator::Add, 100_000, &first)?;
-    Ok(Expr::Sum(Sub::new(alloc, first)?, ones))
-}
-
-fn either_of_falses(alloc: Global) -> Result<Expr, OutOfMemory> {
-    let first = Expr::Constant(Value::Bool(false));
-    let sides = repeated(alloc, Operator::Or, 100_000, &first)?;
-    Ok(Expr::Or(Sub::new(alloc, first)?, sides))
-}
-
-#[test]
-fn a_long_sum_is_a_loop(rt: HostRuntime) -> Result<(), Fail> {
-    let alloc = rt.alloc();
-    let sum = sum_of_ones(alloc)?;
-    assert_eq!(rt;
-        shown(value_of_example(alloc, &Bound::new(alloc), &sum)),
-        Ok(Some(100_001))
-    );
-    Ok(())
-}
-
-#[test]
-fn a_long_or_is_a_loop(rt: HostRuntime) -> Result<(), Fail> {
-    let alloc = rt.alloc();
-    let either = either_of_falses(alloc)?;
-    assert_eq!(rt;
-        shown(value_of_example(alloc, &Bound::new(alloc), &either)),
-        Ok(Some(0))
-    );
-    Ok(())
+    let params = Properties::new(alloc);
+    let held = value_in(alloc, &Empty, &scope, &params, expr)?;
+    Ok(held.into_value(alloc)?)
 }
 
 fn two_edges(alloc: Global) -> Result<Bound, OutOfMemory> {
@@ -221,5 +117,48 @@ fn aggregates_go_over_groups(rt: HostRuntime) -> Result<(), Fail> {
     let sum = Expr::Aggregate(Aggregate::Sum, SetQuantifier::All, Sub::new(alloc, weight)?);
     let deleted = Err(EvalError::Fault(DataFault::Deleted));
     assert_eq!(rt; shown(value_of_example(alloc, &bound, &sum)), deleted);
+    Ok(())
+}
+
+fn holds(alloc: Global, expr: &Expr) -> Result<bool, OutOfMemory> {
+    holds_in_pattern(
+        alloc,
+        &Empty,
+        &Columns::new(alloc),
+        &List::new(alloc),
+        &Bound::new(alloc),
+        &Properties::new(alloc),
+        expr,
+    )
+}
+
+/// `9223372036854775807 + x > 0`
+fn sum_is_above(alloc: Global, x: Value) -> Result<Expr, OutOfMemory> {
+    let mut steps = Steps::new(alloc);
+    steps.push(Step {
+        operator: Operator::Add,
+        operand: Expr::Constant(x),
+    })?;
+    let most = Expr::Number(Text::from_str(alloc, "9223372036854775807")?);
+    let sum = Expr::Sum(Sub::new(alloc, most)?, steps);
+    let zero = Expr::Constant(Value::Int(0));
+    Ok(Expr::Compare(
+        Comparison::Gt,
+        Sub::new(alloc, sum)?,
+        Sub::new(alloc, zero)?,
+    ))
+}
+
+#[test]
+fn a_fault_does_not_hold_in_a_pattern(rt: HostRuntime) -> Result<(), Fail> {
+    let alloc = rt.alloc();
+    for (x, given) in [
+        (Value::Int(0), true),
+        (Value::Int(1), false),
+        (Value::Null, false),
+        (Value::Bool(true), false),
+    ] {
+        assert_eq!(rt; holds(alloc, &sum_is_above(alloc, x)?)?, given);
+    }
     Ok(())
 }

@@ -1,22 +1,23 @@
-ghost use Rattle.std.specs.Prelude.{◌≡◌, pos, Ok, IfOk};
+ghost use Rattle.std.specs.Prelude.{◌≡◌, pos, Ok};
 ghost use Rattle.std.specs.Str.{all_ascii_digits};
 ghost use Rattle.gql_values3.specs.Datum.{integer};
 ghost use Rattle.gql_values3.specs.IntegerLiterals.{value_of_digits};
 ghost use Rattle.gql_values3.specs.Meaning.{datum_of};
 ghost use Rattle.gql_ast.specs.Evaluation.{parameter_value};
 ghost use Rattle.gql_eval.specs.Gives.{Gives};
+ghost use Rattle.gql_eval.specs.Held.{held_datum};
 
 use crate::error::EvalError;
-use gql_values3::{OutOfMemory, Params, Text, Value, int_of};
-use std::alloc::Global;
+use crate::held::Held;
+use gql_values3::{Params, Text, Value, int_of};
 
 /// The value of a parameter; one that isn't set is NULL.
-pub fn parameter(alloc: Global, params: &Params, name: &Text) -> Result<Value, OutOfMemory>
-    ensures { IfOk result (λ value. datum_of value ≡ parameter_value params.now name.now) }
+pub fn parameter<'a>(params: &'a Params, name: &Text) -> Held<'a>
+    ensures { held_datum result ≡ parameter_value params.now name.now }
 {
     match params.get(name.as_str()) {
-        Some(value) => value.try_copy(alloc),
-        None => Ok(Value::Null),
+        Some(value) => Held::Lent(value),
+        None => Held::Own(Value::Null),
     }
 }
 

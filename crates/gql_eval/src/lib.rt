@@ -6,6 +6,7 @@
 
 pub mod aggregates;
 pub mod arithmetic;
+pub mod distinct;
 pub mod elements;
 pub mod error;
 pub mod evaluation;
@@ -13,18 +14,24 @@ pub mod evaluation;
 mod examples;
 pub mod functions;
 pub mod groups;
+pub mod heading;
+pub mod held;
 pub mod joining;
 pub mod labels;
 pub mod leaves;
 pub mod making;
+pub mod operations;
 pub mod operators;
 pub mod pattern;
 pub mod predicates;
+pub mod ranked;
 pub mod rows;
 pub mod scope;
 pub mod truths;
 
-pub use aggregates::aggregate;
+pub use aggregates::{aggregate, aggregate_of};
 pub use error::EvalError;
+pub use heading::Heading;
+pub use held::Held;
 pub use pattern::holds_in_pattern;
-pub use rows::value;
+pub use rows::{held_value, value, value_under};

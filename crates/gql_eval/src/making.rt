@@ -18,7 +18,7 @@ pub const MOST_TEXT: usize = 16_777_216;
 pub const MOST_ITEMS: usize = 1_048_576;
 
 /// How deep lists are nested at most.
-const MOST_DEPTH: u32 = 64;
+pub const MOST_DEPTH: u32 = 64;
 
 /// The list as a value, unless it is too long, or else nested too deep.
 pub fn list_value(items: List) -> Result<Value, EvalError>

@@ -1,25 +1,38 @@
-ghost use Rattle.std.specs.Prelude.{◌+ℤ◌, ◌-ℤ◌, ◌*ℤ◌};
+ghost use Rattle.std.specs.Prelude.{◌≡◌, ◌+ℤ◌, ◌-ℤ◌, ◌*ℤ◌, true, nat_le, IfOk};
+ghost use Rattle.gql_values3.specs.Nesting.{depth};
 ghost use Rattle.gql_values3.specs.Meaning.{datum_of};
 ghost use Rattle.gql_ast.specs.Operators.{operated, arithmetic, fitted, divided, remaining, sign_of};
+ghost use Rattle.gql_ast.specs.declared.words.Operator.TheVariants.{Concatenate};
 ghost use Rattle.gql_eval.specs.Gives.{Gives};
+ghost use Rattle.gql_eval.specs.Held.{held_datum};
 
 use crate::arithmetic::{add, divide, multiply, remainder, subtract};
 use crate::error::EvalError;
+use crate::held::Held;
 use crate::joining::join;
 use gql_ast::{DataFault, Operator, Sign};
 use gql_values3::Value;
 use std::alloc::Global;
 
 /// An operator between two sides of a sum or a product.
-pub fn operate(alloc: Global, operator: Operator, a: Value, b: Value) -> Result<Value, EvalError>
-    ensures { Gives datum_of result (operated operator (datum_of a) (datum_of b)) }
+/// A left side that is known to be within the limit of nesting isn't looked through again; what `||` gives is.
+pub fn operate(
+    alloc: Global,
+    operator: Operator,
+    a: Held,
+    is_within: bool,
+    b: &Value,
+) -> Result<Value, EvalError>
+    requires within { is_within ≡ true → nat_le (depth (held_datum a)) 64 ≡ true }
+    ensures value { Gives datum_of result (operated operator (held_datum a.entry) (datum_of b.now)) }
+    ensures within { operator ≡ Concatenate → IfOk result (λ value. nat_le (depth (datum_of value)) 64 ≡ true) }
 {
     match operator {
-        Operator::Add => sum(&a, &b),
-        Operator::Subtract => difference(&a, &b),
-        Operator::Concatenate => join(alloc, a, b),
-        Operator::Multiply => product(&a, &b),
-        Operator::Divide => quotient(&a, &b),
+        Operator::Add => sum(a.value(), b),
+        Operator::Subtract => difference(a.value(), b),
+        Operator::Concatenate => join(alloc, a.into_value(alloc)?, is_within, b),
+        Operator::Multiply => product(a.value(), b),
+        Operator::Divide => quotient(a.value(), b),
         Operator::Or | Operator::Xor | Operator::And => Err(EvalError::Fault(DataFault::WrongKind)),
     }
 }

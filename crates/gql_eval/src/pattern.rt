@@ -1,4 +1,4 @@
-ghost use Rattle.std.specs.Prelude.{◌≡◌, ◌++◌, IsTrue, IfOk};
+ghost use Rattle.std.specs.Prelude.{◌≡◌, ◌++◌, IfOk};
 ghost use Rattle.gql_ast.specs.Meaning.{tree_of};
 ghost use Rattle.gql_ast.specs.Scope.{row_scope};
 ghost use Rattle.gql_ast.specs.Operators.{truth_in};
@@ -6,13 +6,12 @@ ghost use Rattle.gql_ast.specs.Evaluation.{value_of, pattern_truth};
 ghost use Rattle.gql_eval.specs.Bound.{bound_scope};
 ghost use Rattle.gql_eval.specs.Gives.{Gives};
 ghost use Rattle.gql_eval.specs.Next.{next};
-ghost use Rattle.gql_eval.specs.NumbersFit.{numbers_fit};
 ghost use Rattle.gql_eval.specs.PatternTest.{is_true_truth};
 ghost use Rattle.gql_eval.specs.ScopeMeaning.{scope_of};
 
 use crate::error::EvalError;
 use crate::evaluation::value_in;
-use crate::scope::Scope;
+use crate::scope::{Header, Scope};
 use crate::truths::truth_of_value;
 use gql_ast::Expr;
 use gql_values3::{Bound, Columns, OutOfMemory, Params, Row, Truth, View};
@@ -30,12 +29,11 @@ pub fn holds_in_pattern<V: View>(
     params: &Params,
     expr: &Expr,
 ) -> Result<bool, OutOfMemory>
-    requires numbers { IsTrue (numbers_fit (tree_of expr.now)) }
     ensures { IfOk result (λ holds. holds ≡ is_true_truth (pattern_truth (V.graph view.now) params.now (row_scope columns.now row.now ++ bound_scope bound.now) (tree_of expr.now))) }
 {
     let scope = Scope {
         front: &[],
-        columns: columns.as_slice(),
+        header: Header::Listed(columns.as_slice()),
         row: row.as_slice(),
         bound: bound.as_slice(),
     };
@@ -58,5 +56,5 @@ fn truth_in_scope<V: View>(
     ensures { Gives (λ t. t) result (next (value_of (V.graph view.now) params.now (scope_of scope.now) (tree_of expr.now)) truth_in) }
 {
     let value = value_in(alloc, view, scope, params, expr)?;
-    truth_of_value(&value)
+    truth_of_value(value.value())
 }

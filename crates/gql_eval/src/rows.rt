@@ -1,21 +1,21 @@
-ghost use Rattle.std.specs.Prelude.{IsTrue};
 ghost use Rattle.gql_values3.specs.Meaning.{datum_of};
 ghost use Rattle.gql_ast.specs.Meaning.{tree_of};
 ghost use Rattle.gql_ast.specs.Scope.{row_scope};
 ghost use Rattle.gql_ast.specs.Evaluation.{value_of};
 ghost use Rattle.gql_eval.specs.Gives.{Gives};
-ghost use Rattle.gql_eval.specs.NumbersFit.{numbers_fit};
+ghost use Rattle.gql_eval.specs.Held.{held_datum};
 
 use crate::error::EvalError;
 use crate::evaluation::value_in;
-use crate::scope::Scope;
+use crate::heading::Heading;
+use crate::held::Held;
+use crate::scope::{Header, Scope};
 use gql_ast::Expr;
 use gql_values3::{Columns, Params, Row, Value, View};
 use std::alloc::Global;
 
 /// The value of an expression over a graph, a row under its columns, and parameters, or its first fault. Values past
 /// the last column and columns past the last value are not seen.
-#[tactic(auto, using(crate::proofs::ScopeLemmas::append_none), unfolding(crate::specs::ScopeMeaning::scope_of, crate::specs::ScopeMeaning::rest_of))]
 pub fn value<V: View>(
     alloc: Global,
     view: &V,
@@ -24,12 +24,48 @@ pub fn value<V: View>(
     params: &Params,
     expr: &Expr,
 ) -> Result<Value, EvalError>
-    requires numbers { IsTrue (numbers_fit (tree_of expr.now)) }
     ensures { Gives datum_of result (value_of (V.graph view.now) params.now (row_scope columns.now row.now) (tree_of expr.now)) }
+{
+    let held = held_value(alloc, view, columns, row, params, expr)?;
+    Ok(held.into_value(alloc)?)
+}
+
+/// The same, without a copy of a value that stands in the graph, the row, the parameters or the expression.
+#[tactic(auto, using(crate::proofs::ScopeLemmas::append_none), unfolding(crate::specs::ScopeMeaning::scope_of, crate::specs::ScopeMeaning::rest_of))]
+pub fn held_value<'a, V: View>(
+    alloc: Global,
+    view: &'a V,
+    columns: &'a Columns,
+    row: &'a Row,
+    params: &'a Params,
+    expr: &'a Expr,
+) -> Result<Held<'a>, EvalError>
+    ensures { Gives held_datum result (value_of (V.graph view.now) params.now (row_scope columns.now row.now) (tree_of expr.now)) }
 {
     let scope = Scope {
         front: &[],
-        columns: columns.as_slice(),
+        header: Header::Listed(columns.as_slice()),
+        row: row.as_slice(),
+        bound: &[],
+    };
+    value_in(alloc, view, &scope, params, expr)
+}
+
+/// The same under a heading: for many columns, since a name is then not searched among them in each row.
+#[tactic(auto, using(crate::proofs::ScopeLemmas::append_none), unfolding(crate::specs::ScopeMeaning::scope_of, crate::specs::ScopeMeaning::rest_of))]
+pub fn value_under<'a, V: View>(
+    alloc: Global,
+    view: &'a V,
+    heading: &'a Heading,
+    row: &'a Row,
+    params: &'a Params,
+    expr: &'a Expr,
+) -> Result<Held<'a>, EvalError>
+    ensures { Gives held_datum result (value_of (V.graph view.now) params.now (row_scope heading.now row.now) (tree_of expr.now)) }
+{
+    let scope = Scope {
+        front: &[],
+        header: Header::Indexed(heading),
         row: row.as_slice(),
         bound: &[],
     };

@@ -1,10 +1,10 @@
-use Rattle.std.proofs.Common.{◌≡◌, ◌∙◌, ◌<◌, ◌+◌, ◌+ℤ◌, map, drop, length, arith, to_z}
+use Rattle.std.proofs.Common.{◌∙◌, ◌<◌, length, arith, to_z}
 use mir.Syntax.{w128}
 use Rattle.std.proofs.lemmas.Int.{ints}
 use Rattle.std.specs.Borrow.{Bor}
 use Rattle.gql_values3.specs.Meaning.{datum_of}
 use Rattle.gql_values3.specs.declared.value.Value.{Value}
-use Rattle.gql_eval.proofs.AggregateLemmas.{total_from, total_from_more}
+use Rattle.gql_eval.proofs.AggregateLemmas.{total_from_more}
 use Rattle.gql_eval.proofs.aggregates.whole_sum.Goals as goal
 
 pub loop-i-preserved : goal.loop-i-preserved

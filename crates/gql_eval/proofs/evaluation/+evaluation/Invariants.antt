@@ -1,11 +1,15 @@
-use Rattle.std.proofs.Common.{◌≡◌, ◌+◌, ◌*◌, map, Result}
+use Rattle.std.proofs.Common.{◌≡◌, ◌+◌, ◌*◌, max, map, nat_le, true, Ok, Result}
 use Rattle.gql_values3.specs.Datum.{Datum}
 use Rattle.gql_ast.specs.declared.fault.DataFault.{DataFault}
-use Rattle.gql_values3.specs.Meaning.{datum_of}
+use Rattle.gql_values3.specs.Nesting.{depth}
 use Rattle.gql_ast.specs.Height.{height_of, highest, highest_link}
 use Rattle.gql_ast.specs.Meaning.{tree_of, link_of}
 use Rattle.gql_ast.specs.Scope.{with_item}
+use Rattle.gql_ast.specs.Tree.{trees_of, links_of, coalesce, sum, conjunction, disjunction}
+use Rattle.gql_ast.specs.Operators.{datum_of_truth}
 use Rattle.gql_ast.specs.Evaluation.{value_of, values_of, first_of, chained, all_of, any_of}
+use Rattle.gql_eval.specs.Held.{held_datum}
+use Rattle.gql_eval.specs.Next.{next}
 use Rattle.gql_eval.specs.ScopeMeaning.{scope_of}
 use Rattle.gql_eval.proofs.PartLemmas.{parts_from, sides_from}
 use Rattle.gql_eval.proofs.EvaluationLemmas.{with_values, each_from}
@@ -18,16 +22,16 @@ abbrev pub decreases-values_in : goal.decreases-values_in
 decreases-values_in g l = 4 * highest (map tree_of l.parts.now) + 1
 
 abbrev pub decreases-coalesce : goal.decreases-coalesce
-decreases-coalesce g l = 4 * highest (map tree_of l.rest.now) + 1
+decreases-coalesce g l = 4 * max (height_of (tree_of l.first.now)) (highest (map tree_of l.rest.now)) + 1
 
 abbrev pub decreases-chain : goal.decreases-chain
-decreases-chain g l = 4 * highest_link (map link_of l.steps.now) + 1
+decreases-chain g l = 4 * max (height_of (tree_of l.first.now)) (highest_link (map link_of l.steps.now)) + 1
 
 abbrev pub decreases-all : goal.decreases-all
-decreases-all g l = 4 * highest_link (map link_of l.steps.now) + 1
+decreases-all g l = 4 * max (height_of (tree_of l.first.now)) (highest_link (map link_of l.steps.now)) + 1
 
 abbrev pub decreases-any : goal.decreases-any
-decreases-any g l = 4 * highest_link (map link_of l.steps.now) + 1
+decreases-any g l = 4 * max (height_of (tree_of l.first.now)) (highest_link (map link_of l.steps.now)) + 1
 
 abbrev pub decreases-over_group : goal.decreases-over_group
 decreases-over_group g l = 4 * height_of (tree_of l.part.now) + 2
@@ -42,23 +46,25 @@ invariant-values_in-loop-i g l =
 
 abbrev pub invariant-coalesce-loop-i : goal.invariant-coalesce-loop-i
 invariant-coalesce-loop-i g l =
-    let first = first_of (g.V.View.graph l.view) l.params (scope_of l.scope) in
-    first (parts_from l.rest l.i) ≡ first (parts_from l.rest 0)
+    first_of (g.V.View.graph l.view) l.params (scope_of l.scope) (parts_from l.rest l.i)
+    ≡ value_of (g.V.View.graph l.view) l.params (scope_of l.scope) (coalesce (tree_of l.first) (trees_of (map tree_of l.rest)))
 
 abbrev pub invariant-chain-loop-i : goal.invariant-chain-loop-i
-invariant-chain-loop-i g l =
-    let onward = chained (g.V.View.graph l.view) l.params (scope_of l.scope) in
-    onward (datum_of l.so_far) (sides_from l.steps l.i) ≡ onward (datum_of l.fn.first) (sides_from l.steps 0)
+invariant-chain-loop-i g l = record {
+  so_far : chained (g.V.View.graph l.view) l.params (scope_of l.scope) (held_datum l.so_far) (sides_from l.steps l.i)
+      ≡ value_of (g.V.View.graph l.view) l.params (scope_of l.scope) (sum (tree_of l.first) (links_of (map link_of l.steps)));
+  within : l.is_joined ≡ true → nat_le (depth (held_datum l.so_far)) 64 ≡ true;
+}
 
 abbrev pub invariant-all-loop-i : goal.invariant-all-loop-i
 invariant-all-loop-i g l =
-    let onward = all_of (g.V.View.graph l.view) l.params (scope_of l.scope) in
-    onward l.truth (sides_from l.steps l.i) ≡ onward l.initial.truth (sides_from l.steps 0)
+    next (all_of (g.V.View.graph l.view) l.params (scope_of l.scope) l.truth (sides_from l.steps l.i)) (λ u. Ok (datum_of_truth u))
+    ≡ value_of (g.V.View.graph l.view) l.params (scope_of l.scope) (conjunction (tree_of l.first) (links_of (map link_of l.steps)))
 
 abbrev pub invariant-any-loop-i : goal.invariant-any-loop-i
 invariant-any-loop-i g l =
-    let onward = any_of (g.V.View.graph l.view) l.params (scope_of l.scope) in
-    onward l.truth (sides_from l.steps l.i) ≡ onward l.initial.truth (sides_from l.steps 0)
+    next (any_of (g.V.View.graph l.view) l.params (scope_of l.scope) l.truth (sides_from l.steps l.i)) (λ u. Ok (datum_of_truth u))
+    ≡ value_of (g.V.View.graph l.view) l.params (scope_of l.scope) (disjunction (tree_of l.first) (links_of (map link_of l.steps)))
 
 abbrev pub invariant-over_items-loop-i : goal.invariant-over_items-loop-i
 invariant-over_items-loop-i g l =

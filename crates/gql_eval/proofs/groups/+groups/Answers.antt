@@ -1,5 +1,4 @@
-use Rattle.std.proofs.Common.{arith, rules, ◌<◌, ◌+◌, ◌≡◌, ◌∙◌, length, ap, sym, List, ℕ}
-use Rattle.std.specs.Option.{option_copied}
+use Rattle.std.proofs.Common.{arith, ◌<◌, ◌+◌, ◌∙◌, length, ap, sym}
 use Rattle.gql_ast.specs.Scope.{is_group_name}
 use Rattle.gql_eval.specs.ScopeMeaning.{scope_of}
 use Rattle.gql_eval.proofs.ScopeLemmas.{first}

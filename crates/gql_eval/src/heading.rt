@@ -1,0 +1,67 @@
+ghost use Rattle.std.specs.Prelude.{◌≡◌, IfOk};
+ghost use Rattle.gql_eval.specs.Places.{place_among, ArePlaces};
+
+use gql_values3::{ColumnKind, Columns, OutOfMemory, Text};
+use std::alloc::Global;
+use std::collections::HashMap;
+use std::marker::Model;
+
+/// The columns of a table with the place of each name, so that a name is found among a thousand as fast as among two.
+/// It is seen as the columns.
+#[derive(Drop)]
+pub struct Heading {
+    columns: Columns,
+    places: HashMap<String, usize>,
+}
+
+impl Model for Heading {
+    ghost use Rattle.std.specs.Prelude.{List, ℕ};
+    ghost use Rattle.gql_values3.specs.declared.table.ColumnKind.{ColumnKind};
+    ghost use Rattle.gql_eval.specs.Places.{ArePlaces};
+
+    ghost Value = { List (List ℕ × ColumnKind) };
+
+    ghost view = { λ h. h.columns };
+
+    ghost invariant = { λ h. ArePlaces h.places h.columns };
+}
+
+impl Heading {
+    /// The heading of these columns.
+    pub fn new(alloc: Global, columns: Columns) -> Result<Heading, OutOfMemory>
+        ensures { IfOk result (λ heading. heading ≡ columns) }
+    {
+        let places = places_of(alloc, columns.as_slice())?;
+        Ok(Heading { columns, places })
+    }
+
+    /// The columns in order.
+    pub fn columns(&self) -> &[(Text, ColumnKind)]
+        ensures { result.now ≡ self.now }
+    {
+        self.columns.as_slice()
+    }
+
+    /// The place of the first column of a name, from 0.
+    pub fn place_of(&self, name: &str) -> Option<usize>
+        ensures { result ≡ place_among self.now name.now }
+    {
+        self.places.get(name).copied()
+    }
+}
+
+/// The place of the first column of each name.
+fn places_of(
+    alloc: Global,
+    columns: &[(Text, ColumnKind)],
+) -> Result<HashMap<String, usize>, OutOfMemory>
+    ensures { IfOk result (λ places. ArePlaces places columns.now) }
+{
+    let mut places = HashMap::new(alloc);
+    // From the last column on, so that the first of a name stays.
+    for i in (0..columns.len()).rev() {
+        let (name, _) = &columns[i];
+        places.insert(String::from_str(alloc, name.as_str())?, i)?;
+    }
+    Ok(places)
+}
