@@ -1,0 +1,4 @@
+pub mod KnowingLemmas
+pub mod PartLemmas
+pub mod FirstLemmas
+pub mod MisuseLemmas

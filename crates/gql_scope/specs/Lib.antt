@@ -1,0 +1,4 @@
+pub mod Knowing
+pub mod Sought
+pub mod First
+pub mod Places
