@@ -6,3 +6,4 @@ pub mod NumberLemmas
 pub mod PatternLemmas
 mod EvaluationExamples
 mod NameExamples
+mod RefusalExamples
