@@ -1,5 +1,5 @@
 -- The first refusal of two lists, and what a check that stops at it answers.
-use Rattle.std.proofs.Common.{◌≡◌, ℕ, Bool, true, false, not, cond, ◌||◌, List, [], ◌∷◌, ◌++◌, map, filter, Option, Some, None, refl, sym, ap, ◌∙◌}
+use Rattle.std.proofs.Common.{◌≡◌, ℕ, ◌+◌, ◌<◌, Bool, true, false, not, cond, ◌||◌, List, [], ◌∷◌, ◌++◌, length, map, filter, drop, get_or, Option, Some, None, Result, Ok, Err, refl, sym, ap, subst, ◌∙◌, true≢false, arith}
 use Rattle.std.specs.Prelude.{find, option_map}
 use Rattle.std.specs.List.{list_any}
 use Rattle.std.specs.Option.{option_or}
@@ -14,7 +14,9 @@ use Rattle.gql_values3.specs.Datum.{Datum}
 use Rattle.gql_ast.specs.declared.refusal.Refusal.TheVariants as refusal
 use Rattle.gql_ast.specs.declared.refusal.Refusal.{Refusal}
 use Rattle.gql_scope.specs.First.{first}
-use Rattle.gql_scope.specs.Answers.{Refuses}
+use Rattle.std.specs.Result.{IsErr, IsErrAnd}
+use Rattle.std.proofs.lemmas.Grind.{common_steps}
+use Rattle.gql_scope.specs.Answers.{Answers, Refuses}
 use Rattle.gql_scope.proofs.FirstLemmas.{first-filter}
 use Rattle.gql_scope.specs.declared.fault.ScopeFault.{ScopeFault}
 use Rattle.gql_scope.specs.declared.fault.ScopeFault.TheVariants as fault
@@ -65,4 +67,11 @@ unset_of_two params (x ∷ xs) ys = by (not (is_set params x)) (unset_of_two par
 
 pub ruleset first_of_first = (first_of-first)
 
-pub ruleset unset_steps = (unset_of_two, first_of_in_two)
+-- what `?` gives back is the fault that it met
+pub answers_fault : (r : Result (Unit {0}) ScopeFault) (e : ScopeFault) (o : Option Refusal) → IsErr r → IsErrAnd r (λ f. f ≡ e) → Refuses e o → Answers r o
+answers_fault (Ok u) e o h same refuses = absurd (true≢false (sym h))
+answers_fault (Err f) e o h same refuses = subst (λ g. Refuses g o) (sym same) refuses
+
+-- the items from i on are the item there and those behind it
+pub drop_step : {A : Type 0} (xs : List A) (i : ℕ) (x : A) → i < length xs → x ≡ get_or xs i x → drop i xs ≡ x ∷ drop (i + 1) xs
+drop_step xs i x h p = grind (arith, common_steps)

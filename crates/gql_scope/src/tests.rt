@@ -1,4 +1,4 @@
-use crate::check::check;
+use crate::codes::check;
 use crate::fault::ScopeFault;
 use gql_ast::{
     Clause, ColumnRef, Condition, Counting, Expr, Exprs, Filler, For, GraphPattern, LetItem,

@@ -46,7 +46,6 @@ fn check_if(alloc: Global, params: &Params, expr: &Option<Expr>) -> Result<(), S
 }
 
 /// Checks the parameters of a map's values.
-#[tactic(auto, using(crate::proofs::RefusalLemmas::unset_steps))]
 fn check_map(alloc: Global, params: &Params, items: &[MapItem]) -> Result<(), ScopeFault>
     ensures { Answers result (first_of Refusal.Parameter (unset params.now (flat_map (λ i. parameters_of i.value) items.now))) }
 {
@@ -85,7 +84,7 @@ fn check_node(
 }
 
 /// Checks the parameters of a pattern.
-#[tactic(auto, using(crate::proofs::RefusalLemmas::unset_steps))]
+#[tactic(auto, using(crate::proofs::RefusalLemmas::unset_of_two))]
 fn check_pattern(
     alloc: Global,
     params: &Params,
@@ -98,7 +97,6 @@ fn check_pattern(
 }
 
 /// Checks the parameters of LET.
-#[tactic(auto, using(crate::proofs::RefusalLemmas::unset_steps))]
 fn check_let(alloc: Global, params: &Params, items: &[LetItem]) -> Result<(), ScopeFault>
     ensures { Answers result (first_of Refusal.Parameter (unset params.now (flat_map (λ i. parameters_of i.value) items.now))) }
 {
@@ -109,7 +107,6 @@ fn check_let(alloc: Global, params: &Params, items: &[LetItem]) -> Result<(), Sc
 }
 
 /// Checks the parameters of sort keys.
-#[tactic(auto, using(crate::proofs::RefusalLemmas::unset_steps))]
 fn check_keys(alloc: Global, params: &Params, keys: &[SortItem]) -> Result<(), ScopeFault>
     ensures { Answers result (first_of Refusal.Parameter (unset params.now (parameters_of_keys keys.now))) }
 {
@@ -157,7 +154,7 @@ fn check_count_if(
 }
 
 /// Checks the parameters of sort keys, and then those of OFFSET and LIMIT.
-#[tactic(auto, using(crate::proofs::RefusalLemmas::unset_steps))]
+#[tactic(auto, using(crate::proofs::RefusalLemmas::unset_of_two))]
 fn check_ordered(
     alloc: Global,
     params: &Params,
@@ -173,7 +170,7 @@ fn check_ordered(
 }
 
 /// Checks the parameters of OFFSET, and then those of LIMIT.
-#[tactic(auto, using(crate::proofs::RefusalLemmas::unset_steps))]
+#[tactic(auto, using(crate::proofs::RefusalLemmas::unset_of_two))]
 fn check_skip(
     alloc: Global,
     params: &Params,
@@ -200,7 +197,6 @@ fn check_page(alloc: Global, params: &Params, page: &Page) -> Result<(), ScopeFa
 }
 
 /// Checks the parameters of RETURN's items.
-#[tactic(auto, using(crate::proofs::RefusalLemmas::unset_steps))]
 fn check_listed(alloc: Global, params: &Params, items: &[ReturnItem]) -> Result<(), ScopeFault>
     ensures { Answers result (first_of Refusal.Parameter (unset params.now (flat_map (λ i. parameters_of i.value) items.now))) }
 {
@@ -220,7 +216,7 @@ fn check_items(alloc: Global, params: &Params, items: &ReturnItems) -> Result<()
 }
 
 /// Checks the parameters of RETURN.
-#[tactic(auto, using(crate::proofs::RefusalLemmas::unset_steps))]
+#[tactic(auto, using(crate::proofs::RefusalLemmas::unset_of_two))]
 fn check_return(alloc: Global, params: &Params, clause: &Return) -> Result<(), ScopeFault>
     ensures { Answers result (first_of Refusal.Parameter (unset params.now (parameters_of_return clause.now))) }
 {
@@ -246,7 +242,6 @@ fn check_clause(alloc: Global, params: &Params, clause: &Clause) -> Result<(), S
 }
 
 /// Checks the parameters of a query's clauses.
-#[tactic(auto, using(crate::proofs::RefusalLemmas::unset_steps))]
 pub fn unset_parameters(
     alloc: Global,
     params: &Params,
