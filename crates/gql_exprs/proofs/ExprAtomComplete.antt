@@ -1,9 +1,9 @@
 -- What derives as an atom is read, or more is.
-use Rattle.std.proofs.Common.{◌≡◌, ℕ, zero, suc, ◌<◌, ◌≤◌, ◌⊎◌, inl, inr, Bool, true, false, cond, nat_eq, eqb-true, List, [], ◌∷◌, length, Option, Some, None, refl, sym, ap, subst, ◌∙◌, arith}
+use Rattle.std.proofs.Common.{◌≡◌, ℕ, ◌<◌, ◌≤◌, inl, inr, true, false, List, ◌∷◌, length, Option, Some, None, refl, sym, ap, subst, ◌∙◌, arith}
 use Rattle.gql_lexer.specs.declared.lexeme.Lexeme.{Lexeme}
 use Rattle.gql_lexer.specs.declared.lexeme.Lexeme.TheVariants as lex
 use Rattle.gql_values3.specs.Datum.{Datum, null, boolean, integer, text, list, node, edge, path}
-use Rattle.gql_ast.specs.Tree.{Tree, Trees, trees_of, items_of_trees, constant, unknown, number, parameter, name, property, paren, listing, count_all, aggregate, call, modulo, coalesce, signed, product, sum, comparing, test, label_test, end_test, negation, conjunction, disjunction, no_trees, more_trees}
+use Rattle.gql_ast.specs.Tree.{Tree, Trees, items_of_trees, constant, unknown, number, parameter, name, property, paren, listing, count_all, aggregate, call, modulo, coalesce, signed, product, sum, comparing, test, label_test, end_test, negation, conjunction, disjunction, no_trees, more_trees}
 use Rattle.gql_ast.specs.declared.words.Aggregate.{Aggregate}
 use Rattle.gql_ast.specs.declared.words.Aggregate.TheVariants as aggregates
 use Rattle.gql_ast.specs.declared.words.Function.{Function}
@@ -11,18 +11,17 @@ use Rattle.gql_ast.specs.declared.words.SetQuantifier.{SetQuantifier}
 use Rattle.gql_ast.specs.declared.words.SetQuantifier.TheVariants as quantifier
 use Rattle.gql_exprs.specs.declared.atom_word.AtomWord.{AtomWord}
 use Rattle.gql_exprs.specs.declared.atom_word.AtomWord.TheVariants as atom
-use Rattle.gql_front.specs.SymbolPlaces.{opening, closing, opening_bracket, closing_bracket, comma, dot, star}
-use Rattle.gql_front.specs.WordPlaces.{ALL, DISTINCT}
-use Rattle.gql_front.specs.Tables.{entry, Begins}
-use Rattle.gql_front.specs.Reading.{◌>>=◌, Reader, is_sign, any_name_in, after, op_at, ended}
-use Rattle.gql_front.proofs.Found.{Goes, Found, exact, longer, Sound, Complete, some_is, bind_some, exact_at}
+use Rattle.gql_front.specs.SymbolPlaces.{opening, closing, opening_bracket, closing_bracket, comma, star}
+use Rattle.gql_front.specs.Tables.{Begins}
+use Rattle.gql_front.specs.Reading.{◌>>=◌, Reader, is_sign, after, op_at}
+use Rattle.gql_front.proofs.Found.{Found, exact, longer, Complete, exact_at}
 use Rattle.gql_front.proofs.LexemeTests.{after_sign}
-use Rattle.gql_front.proofs.TableLemmas.{read_begins, begins_read, begins_shorter, word_row}
-use Rattle.gql_exprs.specs.ExprWords.{atom_words, atom_word, quantifier_words, quantifier_op}
+use Rattle.gql_front.proofs.TableLemmas.{read_begins, begins_shorter, word_row}
+use Rattle.gql_exprs.specs.ExprWords.{atom_word, quantifier_words, quantifier_op}
 use Rattle.gql_exprs.specs.Grammar.{at_atom, OpensList, IsQuantifier, Is, IsItems, IsList}
-use Rattle.gql_exprs.specs.Readers.{field, named, quantifier_or_all, quantifier_of, star_of, closed_of, paren_of, list_of, empty_or_items, listing_of, word_listing_of, all_or_item, aggregate_of, call_of, first_of, modulo_of, coalesce_of, word_atom_of, atom_of}
+use Rattle.gql_exprs.specs.Readers.{quantifier_of, star_of, closed_of, paren_of, list_of, listing_of, word_listing_of, aggregate_of, call_of, first_of, modulo_of, coalesce_of, word_atom_of, atom_of}
 use Rattle.gql_exprs.proofs.ExprChains.{At, trees_of-items_of_trees}
-use Rattle.gql_exprs.proofs.ExprLists.{goes_atom, goes_or, goes_list, Inner, list_sound, list_found}
+use Rattle.gql_exprs.proofs.ExprLists.{goes_atom, goes_or, goes_list, Inner, list_found}
 use Rattle.gql_exprs.proofs.ExprShorter.{is_shorter}
 use Rattle.gql_exprs.proofs.ExprAtomSound.{name_found, property_read, quantifier_word, star_is}
 

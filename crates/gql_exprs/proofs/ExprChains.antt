@@ -1,11 +1,11 @@
 -- Chains of expressions: a level that is read by sides and operators is sound and complete where its sides are.
-use Rattle.std.proofs.Common.{◌≡◌, ℕ, ◌<◌, ◌≤◌, ◌⊎◌, inl, inr, Bool, true, List, [], ◌∷◌, length, Option, Some, None, refl, sym, ap, subst, ◌∙◌, arith}
+use Rattle.std.proofs.Common.{◌≡◌, ℕ, ◌≤◌, ◌⊎◌, inl, inr, Bool, true, List, [], ◌∷◌, length, Option, Some, refl, sym, ap, subst, arith}
 use Rattle.gql_lexer.specs.declared.lexeme.Lexeme.{Lexeme}
 use Rattle.gql_ast.specs.Tree.{Tree, Trees, Link, Links, trees_of, links_of, items_of_trees, items_of_links, link, no_trees, more_trees, no_links, more_links}
 use Rattle.gql_ast.specs.declared.words.Operator.{Operator}
 use Rattle.gql_front.specs.Reading.{Reader, step, chain}
 use Rattle.gql_front.proofs.Found.{Found, Sound, Complete, Shrinks, or_op_of, is_there, StepIs, step_goes, step_sound, step_complete}
-use Rattle.gql_front.proofs.Chains.{Consumes, Apart, Many, Read, operators_apart, sequence_read, sequence_found}
+use Rattle.gql_front.proofs.Chains.{Consumes, Many, Read, operators_apart, sequence_read, sequence_found}
 use Rattle.gql_exprs.specs.Grammar.{rank, IsMany, Is, IsSteps}
 use Rattle.gql_exprs.specs.Readers.{chain_or_side}
 use Rattle.gql_exprs.proofs.ExprShorter.{is_shorter}

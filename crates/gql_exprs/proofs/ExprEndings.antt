@@ -1,10 +1,9 @@
 -- What stands behind a comparison is read soundly and completely.
-use Rattle.std.proofs.Common.{◌≡◌, ℕ, zero, suc, ◌<◌, ◌≤◌, ◌⊎◌, inl, inr, Bool, true, false, ◌||◌, cond, nat_eq, eqb-true, List, [], ◌∷◌, length, Option, Some, None, refl, sym, ap, subst, ◌∙◌, arith}
+use Rattle.std.proofs.Common.{◌≡◌, ℕ, ◌≤◌, ◌⊎◌, inl, inr, Bool, true, false, cond, nat_eq, eqb-true, List, [], ◌∷◌, length, Option, Some, None, refl, sym, ap, subst, ◌∙◌, arith}
 use Rattle.gql_lexer.specs.declared.lexeme.Lexeme.{Lexeme}
 use Rattle.gql_lexer.specs.declared.lexeme.Lexeme.TheVariants as lex
 use Rattle.gql_ast.specs.Label.{Label}
 use Rattle.gql_ast.specs.declared.words.EdgeEnd.{EdgeEnd}
-use Rattle.gql_ast.specs.declared.words.EdgeEnd.TheVariants as ends
 use Rattle.gql_ast.specs.declared.words.Sense.{Sense}
 use Rattle.gql_ast.specs.declared.words.Sense.TheVariants as sense
 use Rattle.gql_exprs.specs.declared.test_word.TestWord.{TestWord}
@@ -12,8 +11,8 @@ use Rattle.gql_exprs.specs.declared.test_word.TestWord.TheVariants as asked
 use Rattle.gql_front.specs.SymbolPlaces.{colon}
 use Rattle.gql_front.specs.WordPlaces.{IS, NOT, OF}
 use Rattle.gql_front.specs.Tables.{Begins}
-use Rattle.gql_front.specs.Reading.{◌>>=◌, is_sign, is_word, name_in, after, op_at}
-use Rattle.gql_front.proofs.Found.{Goes, Found, exact, longer, Sound, Shrinks, some_is, bind_some}
+use Rattle.gql_front.specs.Reading.{◌>>=◌, is_word, name_in, after, op_at}
+use Rattle.gql_front.proofs.Found.{Goes, Found, exact, Sound, Shrinks, some_is, bind_some}
 use Rattle.gql_front.proofs.LexemeTests.{after_word, name_is}
 use Rattle.gql_front.proofs.Parts.{last_found}
 use Rattle.gql_front.proofs.TableLemmas.{begins_read, read_begins, word_row}

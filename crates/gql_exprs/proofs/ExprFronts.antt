@@ -1,10 +1,9 @@
 -- A derivation of an expression rests on its front alone: the same front derives the same before anything.
-use Rattle.std.proofs.Common.{◌≡◌, ℕ, ◌⊎◌, inl, inr, Bool, true, false, List, [], ◌∷◌, ◌++◌, length, Option, Some, refl, sym, ap, subst, ◌∙◌, append_assoc}
+use Rattle.std.proofs.Common.{ℕ, inl, inr, true, false, List, [], ◌∷◌, Option, refl}
 use Rattle.gql_lexer.specs.declared.lexeme.Lexeme.{Lexeme}
 use Rattle.gql_lexer.specs.declared.lexeme.Lexeme.TheVariants as lex
 use Rattle.gql_values3.specs.Datum.{Datum, null, boolean, integer, text, list, node, edge, path}
-use Rattle.gql_ast.specs.Tree.{Tree, Trees, Link, Links, constant, unknown, number, parameter, name, property, paren, listing, count_all, aggregate, call, modulo, coalesce, signed, product, sum, comparing, test, label_test, end_test, negation, conjunction, disjunction, link, no_trees, more_trees, no_links, more_links}
-use Rattle.gql_ast.specs.declared.words.Aggregate.TheVariants as aggregates
+use Rattle.gql_ast.specs.Tree.{Tree, Trees, Links, constant, unknown, number, parameter, name, property, paren, listing, count_all, aggregate, call, modulo, coalesce, signed, product, sum, comparing, test, label_test, end_test, negation, conjunction, disjunction, link, no_trees, more_trees, no_links, more_links}
 use Rattle.gql_ast.specs.declared.words.Operator.{Operator}
 use Rattle.gql_ast.specs.declared.words.Sense.{Sense}
 use Rattle.gql_ast.specs.declared.words.Sense.TheVariants as sense

@@ -1,5 +1,5 @@
 -- Lists of expressions between commas, and what is asked of the reader of expressions inside brackets.
-use Rattle.std.proofs.Common.{◌≡◌, ℕ, zero, suc, ◌<◌, ◌≤◌, Bool, true, false, ◌||◌, List, [], ◌∷◌, length, Option, Some, None, refl, sym, ap, subst, ◌∙◌, arith}
+use Rattle.std.proofs.Common.{◌≡◌, ℕ, ◌<◌, Bool, true, false, ◌||◌, List, ◌∷◌, length, Some, None, refl, sym, ap, subst, ◌∙◌, arith}
 use Rattle.gql_lexer.specs.declared.lexeme.Lexeme.{Lexeme}
 use Rattle.gql_lexer.specs.declared.lexeme.Lexeme.TheVariants as lex
 use Rattle.gql_ast.specs.Tree.{Tree, Trees, trees_of, items_of_trees, no_trees, more_trees}
@@ -7,10 +7,10 @@ use Rattle.gql_front.specs.SymbolPlaces.{comma, colon, dot, star, closing_bracke
 use Rattle.gql_front.specs.WordPlaces.{IS, ALL, DISTINCT}
 use Rattle.gql_front.specs.Reading.{Reader, is_sign, is_word, step}
 use Rattle.gql_front.proofs.Found.{Found, Sound, Complete, Shrinks, is_there, StepIs, step_goes, step_sound, step_complete}
-use Rattle.gql_front.proofs.Chains.{Consumes, Apart, Many, operators_apart, sequence_read, sequence_found}
+use Rattle.gql_front.proofs.Chains.{Consumes, Many, operators_apart, sequence_read, sequence_found}
 use Rattle.gql_front.proofs.LexemeTests.{cond_some_is, sign_is}
 use Rattle.gql_exprs.specs.ExprWords.{product_op, sum_op, comparison_op, and_op, or_op}
-use Rattle.gql_exprs.specs.Grammar.{Is, IsItems, IsList, IsOthers}
+use Rattle.gql_exprs.specs.Grammar.{Is, IsList, IsOthers}
 use Rattle.gql_exprs.specs.Readers.{comma_op, operand, items, list_of}
 use Rattle.gql_exprs.proofs.LabelLevels.{goes_label}
 use Rattle.gql_exprs.proofs.ExprChains.{trees_of-items_of_trees}

@@ -1,9 +1,9 @@
 -- What derives an expression takes a lexeme at least.
-use Rattle.std.proofs.Common.{◌≡◌, ℕ, ◌<◌, ◌≤◌, ◌⊎◌, inl, inr, Bool, true, false, List, ◌∷◌, length, Option, ap, arith}
+use Rattle.std.proofs.Common.{ℕ, ◌<◌, ◌≤◌, inl, inr, true, false, List, ◌∷◌, length, Option, ap, arith}
 use Rattle.gql_lexer.specs.declared.lexeme.Lexeme.{Lexeme}
 use Rattle.gql_lexer.specs.declared.lexeme.Lexeme.TheVariants as lex
 use Rattle.gql_values3.specs.Datum.{Datum, null, boolean, integer, text, list, node, edge, path}
-use Rattle.gql_ast.specs.Tree.{Tree, Trees, Link, Links, constant, unknown, number, parameter, name, property, paren, listing, count_all, aggregate, call, modulo, coalesce, signed, product, sum, comparing, test, label_test, end_test, negation, conjunction, disjunction, link, no_trees, more_trees, no_links, more_links}
+use Rattle.gql_ast.specs.Tree.{Tree, Trees, Links, constant, unknown, number, parameter, name, property, paren, listing, count_all, aggregate, call, modulo, coalesce, signed, product, sum, comparing, test, label_test, end_test, negation, conjunction, disjunction, link, no_trees, more_trees, no_links, more_links}
 use Rattle.gql_ast.specs.declared.words.Aggregate.TheVariants as aggregates
 use Rattle.gql_ast.specs.declared.words.Operator.{Operator}
 use Rattle.gql_ast.specs.declared.words.Sense.{Sense}
@@ -14,7 +14,6 @@ use Rattle.gql_exprs.specs.declared.atom_word.AtomWord.TheVariants as atom
 use Rattle.gql_exprs.specs.declared.test_word.TestWord.TheVariants as asked
 use Rattle.gql_front.specs.SymbolPlaces.{opening, closing, opening_bracket, closing_bracket, comma, star}
 use Rattle.gql_front.specs.WordPlaces.{OF}
-use Rattle.gql_front.specs.Tables.{Begins}
 use Rattle.gql_front.proofs.TableLemmas.{begins_shorter}
 use Rattle.gql_exprs.specs.ExprWords.{or_op, and_op, sum_op, product_op, sign_op, comparison_op, atom_word, test_word}
 use Rattle.gql_exprs.specs.Grammar.{at_signed, at_product, at_not, at_and, IsConstant, OpensList, IsQuantifier, Asks, AsksLabels, Ending, has_quality, has_labels, is_end, IsEnding, Is, IsSteps, IsItems, IsList, IsOthers}

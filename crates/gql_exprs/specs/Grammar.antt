@@ -14,12 +14,12 @@
 --             COUNT, SUM, MIN, MAX or COLLECT_LIST "(" [DISTINCT or ALL] Expr ")",
 --             ABS, CHAR_LENGTH, CARDINALITY, PATH_LENGTH or ELEMENTS "(" Expr ")", MOD "(" Expr "," Expr ")",
 --             COALESCE "(" Expr "," Expr {"," Expr}* ")"
-use Rattle.std.specs.Prelude.{◌≡◌, ◌≤◌, ◌⊎◌, ℕ, Bool, true, false, List, [], ◌∷◌, Option, Some, ⊤}
+use Rattle.std.specs.Prelude.{◌≡◌, ◌≤◌, ◌⊎◌, ℕ, true, false, List, [], ◌∷◌, Option, Some, ⊤}
 use Rattle.gql_lexer.specs.declared.lexeme.Lexeme.{Lexeme}
 use Rattle.gql_lexer.specs.declared.lexeme.Lexeme.TheVariants as lex
 use Rattle.gql_values3.specs.Datum.{Datum, null, boolean, text}
 use Rattle.gql_ast.specs.Label.{Label}
-use Rattle.gql_ast.specs.Tree.{Tree, Trees, Link, Links, constant, unknown, number, parameter, name, property, paren, listing, count_all, aggregate, call, modulo, coalesce, signed, product, sum, comparing, test, label_test, end_test, negation, conjunction, disjunction, link, no_trees, more_trees, no_links, more_links}
+use Rattle.gql_ast.specs.Tree.{Tree, Trees, Links, constant, unknown, number, parameter, name, property, paren, listing, count_all, aggregate, call, modulo, coalesce, signed, product, sum, comparing, test, label_test, end_test, negation, conjunction, disjunction, link, no_trees, more_trees, no_links, more_links}
 use Rattle.gql_ast.specs.declared.words.Aggregate.TheVariants as aggregates
 use Rattle.gql_ast.specs.declared.words.EdgeEnd.{EdgeEnd}
 use Rattle.gql_ast.specs.declared.words.Operator.{Operator}

@@ -4,7 +4,7 @@ use Rattle.gql_lexer.specs.declared.lexeme.Lexeme.{Lexeme}
 use Rattle.gql_lexer.specs.declared.lexeme.Lexeme.TheVariants as lex
 use Rattle.gql_values3.specs.Datum.{null, boolean, text}
 use Rattle.gql_values3.specs.declared.comparison.Comparison.{Comparison}
-use Rattle.gql_ast.specs.Tree.{Tree, Trees, Link, Links, trees_of, links_of, constant, unknown, number, parameter, name, property, paren, listing, count_all, aggregate, call, modulo, coalesce, signed, product, sum, comparing, test, label_test, end_test, negation, conjunction, disjunction, link}
+use Rattle.gql_ast.specs.Tree.{Tree, Link, Links, trees_of, links_of, constant, unknown, number, parameter, name, property, paren, listing, count_all, aggregate, call, modulo, coalesce, signed, product, sum, comparing, test, label_test, end_test, negation, conjunction, disjunction, link}
 use Rattle.gql_ast.specs.declared.words.Aggregate.{Aggregate}
 use Rattle.gql_ast.specs.declared.words.Aggregate.TheVariants as aggregates
 use Rattle.gql_ast.specs.declared.words.EdgeEnd.{EdgeEnd}

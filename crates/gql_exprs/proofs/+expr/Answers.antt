@@ -1,10 +1,10 @@
-use Rattle.std.proofs.Common.{◌≡◌, Some, ◌∷◌, ◌++◌, [], sym, subst, arith}
+use Rattle.std.proofs.Common.{◌≡◌, Some, sym, subst, arith}
 use Rattle.gql_ast.specs.Tree.{link}
 use Rattle.gql_ast.specs.Meaning.{tree_of}
 use Rattle.gql_front.specs.Gives.{Fails}
 use Rattle.gql_front.proofs.Found.{no_operator, no_operand, one_step}
 use Rattle.gql_front.proofs.Loops.{with_front}
-use Rattle.gql_exprs.specs.Readers.{comma_op, operand, operator_in, side_of, steps_of, list_of, read_expr}
+use Rattle.gql_exprs.specs.Readers.{comma_op, operand, operator_in, side_of, steps_of, read_expr}
 use Rattle.gql_exprs.proofs.ExprLoops.{steps_from, steps_stop, steps_next, list_from, others_from, others_stop, others_next, comma_none, comma_some}
 use Rattle.gql_exprs.proofs.+expr.Goals as goal
 

@@ -1,4 +1,4 @@
-use Rattle.std.proofs.Common.{◌≡◌, Some, ◌+◌, ◌*◌, ◌<◌, ◌≤◌, length, List, ◌++◌}
+use Rattle.std.proofs.Common.{◌≡◌, Some, ◌+◌, ◌*◌, ◌<◌, ◌≤◌, length}
 use Rattle.gql_front.proofs.Loops.{with_front}
 use Rattle.gql_exprs.proofs.ExprLoops.{above, steps_from, others_from, list_from}
 use Rattle.gql_exprs.proofs.+expr.Given as goal
