@@ -135,18 +135,27 @@ fn a_limit_has_a_number(rt: HostRuntime) -> Result<(), Fail> {
     Ok(())
 }
 
-/// `->{least,most}`
-fn repeated(alloc: Global, least: &str, most: &str) -> Result<PathExpr, OutOfMemory> {
-    let edge = PathExpr::Edge(
+/// `->`
+fn edge() -> PathExpr {
+    PathExpr::Edge(
         Direction::Right,
         Filler {
             variable: None,
             labels: None,
             condition: None,
         },
-    );
-    let bounds = Quantifier::Between(Some(text(alloc, least)?), Some(text(alloc, most)?));
-    Ok(PathExpr::Repeat(PathSub::new(alloc, edge)?, bounds))
+    )
+}
+
+/// `{least,most}`
+fn bounds(alloc: Global, least: &str, most: &str) -> Result<Quantifier, OutOfMemory> {
+    Ok(Quantifier::Between(Some(text(alloc, least)?), Some(text(alloc, most)?)))
+}
+
+/// `->{least,most}`
+fn repeated(alloc: Global, least: &str, most: &str) -> Result<PathExpr, OutOfMemory> {
+    let bounds = bounds(alloc, least, most)?;
+    Ok(PathExpr::Repeat(PathSub::new(alloc, edge())?, bounds))
 }
 
 /// `MATCH SHORTEST count ->{least,most}`
