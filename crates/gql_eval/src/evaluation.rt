@@ -24,6 +24,9 @@ use gql_ast::{Aggregate, Expr, Operator, SetQuantifier, Step};
 use gql_values3::{List, Params, Text, Truth, Value, View, and3};
 use std::alloc::Global;
 
+// A function pays at entry for the size of its locals, and `value_in` is entered at each node: what it calls is kept out
+// of line.
+
 /// The value of an expression in a scope. What is lent stands in the graph, the scope, the parameters or the expression.
 #[cycle(evaluation)]
 #[tactic(auto, unfolding(gql_ast::specs::Evaluation::value_of))]
@@ -84,6 +87,7 @@ pub fn value_in<'a, V: View>(
 }
 
 /// The values of a list's items.
+#[inline(never)]
 #[cycle(evaluation)]
 #[tactic(auto, unfolding(gql_ast::specs::Evaluation::value_of))]
 fn values_in<'a, V: View>(
@@ -105,6 +109,7 @@ fn values_in<'a, V: View>(
 }
 
 /// The first value that is not NULL; the others are not looked at.
+#[inline(never)]
 #[cycle(evaluation)]
 #[tactic(auto, unfolding(gql_ast::specs::Evaluation::value_of))]
 fn coalesce<'a, V: View>(
@@ -132,6 +137,7 @@ fn coalesce<'a, V: View>(
 }
 
 /// A sum or a product, from the left.
+#[inline(never)]
 #[cycle(evaluation)]
 #[tactic(auto, unfolding(gql_ast::specs::Evaluation::value_of))]
 fn chain<'a, V: View>(
@@ -156,6 +162,7 @@ fn chain<'a, V: View>(
 }
 
 /// AND, which stops at the first False.
+#[inline(never)]
 #[cycle(evaluation)]
 #[tactic(auto, unfolding(gql_ast::specs::Evaluation::value_of))]
 fn all<'a, V: View>(
@@ -182,6 +189,7 @@ fn all<'a, V: View>(
 }
 
 /// OR and XOR. A side after OR is skipped while the sides before it are True.
+#[inline(never)]
 #[cycle(evaluation)]
 #[tactic(auto, unfolding(gql_ast::specs::Evaluation::value_of))]
 fn any<'a, V: View>(
@@ -208,6 +216,7 @@ fn any<'a, V: View>(
 }
 
 /// An aggregate over the group that its argument names first. There is none over rows within a row.
+#[inline(never)]
 #[cycle(evaluation)]
 #[tactic(auto, unfolding(gql_ast::specs::Evaluation::value_of))]
 fn over_group<'a, V: View>(
@@ -231,6 +240,7 @@ fn over_group<'a, V: View>(
 }
 
 /// The values of an expression with the name standing for each of the items in turn.
+#[inline(never)]
 #[cycle(evaluation)]
 #[tactic(auto, unfolding(gql_ast::specs::Evaluation::value_of))]
 fn over_items<'a, V: View>(

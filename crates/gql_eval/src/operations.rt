@@ -16,6 +16,7 @@ use gql_values3::{Value, View};
 use std::alloc::Global;
 
 /// What the expression makes of its operand's value. Any other expression is of a wrong kind.
+#[inline(never)]
 pub fn operation_value<V: View>(
     alloc: Global,
     view: &V,
@@ -40,6 +41,7 @@ pub fn operation_value<V: View>(
 }
 
 /// What the expression makes of its two operands' values. Any other expression is of a wrong kind.
+#[inline(never)]
 pub fn binary_value(expr: &Expr, a: &Value, b: &Value) -> Result<Value, EvalError>
     ensures { Gives datum_of result (of_operands (tree_of expr.now) (datum_of a.now) (datum_of b.now)) }
 {
