@@ -26,9 +26,7 @@ pub fn parse(
     let took = begun.elapsed(rt)?.as_millis();
     println!(rt;
         "expressions {} lexemes {} refused {}",
-        counts.expressions,
-        counts.lexemes,
-        counts.refused
+        counts.expressions, counts.lexemes, counts.refused
     )?;
     eprintln!(rt; "{took} ms for {} lexemes", counts.lexemes)?;
     Ok(())

@@ -78,11 +78,7 @@ fn value_of(alloc: Global, short: Short) -> Result<Expr, OutOfMemory> {
     }
 }
 
-fn node(
-    alloc: Global,
-    name: &str,
-    condition: Option<Condition>,
-) -> Result<Clause, OutOfMemory> {
+fn node(alloc: Global, name: &str, condition: Option<Condition>) -> Result<Clause, OutOfMemory> {
     let mut paths = PathPatterns::new(alloc);
     paths.push(PathPattern {
         name: None,
@@ -177,9 +173,7 @@ fn clause_of(alloc: Global, part: Part) -> Result<Clause, OutOfMemory> {
         Part::Let(name, short) => let_clause(alloc, name, short),
         Part::Filter(short) => Ok(Clause::Filter(value_of(alloc, short)?)),
         Part::For(name, short, counter) => for_clause(alloc, name, short, counter),
-        Part::Limit(name) => Ok(Clause::Page(Page::Limit(RowCount::Parameter(text(
-            alloc, name,
-        )?)))),
+        Part::Limit(name) => Ok(Clause::Page(Page::Limit(RowCount::Parameter(text(alloc, name)?)))),
         Part::Return(short, name) => listed(alloc, short, name),
         Part::Grouped(name) => grouped(alloc, name),
         Part::All => Ok(return_clause(ReturnItems::All, None)),
@@ -237,22 +231,119 @@ struct Case {
 }
 
 const CASES: [Case; 16] = [
-    Case { parts: &[Part::Let("x", Short::One), Part::Return(Short::Name("x"), "")], code: "", name: "" },
-    Case { parts: &[Part::Let("x", Short::Name("x")), Part::All], code: "E08", name: "x" },
-    Case { parts: &[Part::For("i", Short::ListOf("i"), "i"), Part::All], code: "E08", name: "i" },
-    Case { parts: &[Part::Match("n"), Part::For("i", Short::ListOf("n"), "i"), Part::All], code: "E08", name: "i" },
-    Case { parts: &[Part::Map("n", "a", "a"), Part::Filter(Short::Name("m")), Part::All], code: "E08", name: "m" },
-    Case { parts: &[Part::Let("n", Short::One), Part::Match("n"), Part::All], code: "E09", name: "n" },
-    Case { parts: &[Part::Match("n"), Part::Let("m", Short::Name("n")), Part::Match("m"), Part::All], code: "", name: "" },
-    Case { parts: &[Part::Match("n"), Part::For("m", Short::ListOf("n"), ""), Part::Match("m"), Part::All], code: "E09", name: "m" },
-    Case { parts: &[Part::Filter(Short::CountAll), Part::All], code: "E15", name: "" },
-    Case { parts: &[Part::Return(Short::CountAll, "c")], code: "", name: "" },
-    Case { parts: &[Part::All], code: "E16 *", name: "" },
-    Case { parts: &[Part::Map("n", "a", "a"), Part::Limit("q"), Part::All], code: "E16 property", name: "a" },
-    Case { parts: &[Part::Match("n"), Part::Return(Short::Plus("n"), "c")], code: "E16", name: "n" },
-    Case { parts: &[Part::Match("n"), Part::Let("m", Short::One), Part::Grouped("n")], code: "E16", name: "m" },
-    Case { parts: &[Part::Let("x", Short::Parameter("p")), Part::Limit("q"), Part::All], code: "E23", name: "q" },
-    Case { parts: &[Part::Let("x", Short::Parameter("r")), Part::Limit("q"), Part::All], code: "E23", name: "r" },
+    Case {
+        parts: &[
+            Part::Let("x", Short::One),
+            Part::Return(Short::Name("x"), ""),
+        ],
+        code: "",
+        name: "",
+    },
+    Case {
+        parts: &[Part::Let("x", Short::Name("x")), Part::All],
+        code: "E08",
+        name: "x",
+    },
+    Case {
+        parts: &[Part::For("i", Short::ListOf("i"), "i"), Part::All],
+        code: "E08",
+        name: "i",
+    },
+    Case {
+        parts: &[
+            Part::Match("n"),
+            Part::For("i", Short::ListOf("n"), "i"),
+            Part::All,
+        ],
+        code: "E08",
+        name: "i",
+    },
+    Case {
+        parts: &[
+            Part::Map("n", "a", "a"),
+            Part::Filter(Short::Name("m")),
+            Part::All,
+        ],
+        code: "E08",
+        name: "m",
+    },
+    Case {
+        parts: &[Part::Let("n", Short::One), Part::Match("n"), Part::All],
+        code: "E09",
+        name: "n",
+    },
+    Case {
+        parts: &[
+            Part::Match("n"),
+            Part::Let("m", Short::Name("n")),
+            Part::Match("m"),
+            Part::All,
+        ],
+        code: "",
+        name: "",
+    },
+    Case {
+        parts: &[
+            Part::Match("n"),
+            Part::For("m", Short::ListOf("n"), ""),
+            Part::Match("m"),
+            Part::All,
+        ],
+        code: "E09",
+        name: "m",
+    },
+    Case {
+        parts: &[Part::Filter(Short::CountAll), Part::All],
+        code: "E15",
+        name: "",
+    },
+    Case {
+        parts: &[Part::Return(Short::CountAll, "c")],
+        code: "",
+        name: "",
+    },
+    Case {
+        parts: &[Part::All],
+        code: "E16 *",
+        name: "",
+    },
+    Case {
+        parts: &[Part::Map("n", "a", "a"), Part::Limit("q"), Part::All],
+        code: "E16 property",
+        name: "a",
+    },
+    Case {
+        parts: &[Part::Match("n"), Part::Return(Short::Plus("n"), "c")],
+        code: "E16",
+        name: "n",
+    },
+    Case {
+        parts: &[
+            Part::Match("n"),
+            Part::Let("m", Short::One),
+            Part::Grouped("n"),
+        ],
+        code: "E16",
+        name: "m",
+    },
+    Case {
+        parts: &[
+            Part::Let("x", Short::Parameter("p")),
+            Part::Limit("q"),
+            Part::All,
+        ],
+        code: "E23",
+        name: "q",
+    },
+    Case {
+        parts: &[
+            Part::Let("x", Short::Parameter("r")),
+            Part::Limit("q"),
+            Part::All,
+        ],
+        code: "E23",
+        name: "r",
+    },
 ];
 
 #[test]

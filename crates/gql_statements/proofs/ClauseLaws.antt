@@ -1,26 +1,25 @@
 -- The laws of LET, FILTER and FOR.
-use Rattle.std.proofs.Common.{◌≡◌, ◌<◌, ◌≤◌, Bool, true, false, ℕ, List, [], ◌∷◌, length, Option, Some, None, refl, sym, ap, subst, ◌∙◌, arith}
+use Rattle.std.proofs.Common.{◌≡◌, ◌<◌, ◌≤◌, ℕ, List, length, Option, Some, refl, ap, ◌∙◌, arith}
 use Rattle.gql_lexer.specs.declared.lexeme.Lexeme.{Lexeme}
 use Rattle.gql_ast.specs.declared.clause.LetItem.{LetItem}
 use Rattle.gql_ast.specs.declared.clause.Counting.{Counting}
 use Rattle.gql_ast.specs.declared.clause.For.{For}
 use Rattle.gql_ast.specs.declared.expr.Expr.{Expr}
 use Rattle.gql_front.specs.SymbolPlaces.{comma, equal}
-use Rattle.gql_front.specs.WordPlaces.{FILTER, FOR, IN, LET, WHERE, WITH}
+use Rattle.gql_front.specs.WordPlaces.{IN, WHERE, WITH}
 use Rattle.gql_front.specs.Tables.{Begins}
-use Rattle.gql_front.specs.Reading.{◌>>=◌, Reader, is_sign, is_word, name_in, after, op_at}
-use Rattle.gql_front.proofs.Found.{Sound, Shrinks}
+use Rattle.gql_front.specs.Reading.{is_sign, is_word, name_in, after, op_at}
+use Rattle.gql_front.proofs.Found.{Sound}
 use Rattle.gql_front.proofs.TableLemmas.{begins_read, read_begins, begins_shorter}
 use Rattle.gql_exprs.proofs.ExprLists.{goes_or}
 use Rattle.gql_statements.specs.Parts.{Passes, MayPass, IsOptional, IsListOf}
 use Rattle.gql_statements.specs.Values.{IsValue}
 use Rattle.gql_statements.specs.PartWords.{counting_word}
-use Rattle.gql_statements.specs.LetGrammar.{IsLetItem, IsLet}
-use Rattle.gql_statements.specs.FilterGrammar.{IsFilter}
-use Rattle.gql_statements.specs.ForGrammar.{IsCounter, IsFor}
-use Rattle.gql_statements.specs.PartReaders.{read_value, led, past, listed}
+use Rattle.gql_statements.specs.LetGrammar.{IsLetItem}
+use Rattle.gql_statements.specs.ForGrammar.{IsCounter}
+use Rattle.gql_statements.specs.PartReaders.{read_value, past}
 use Rattle.gql_statements.specs.ClauseReaders.{let_item_of, let_of, filter_of, counted_of, counter_of, for_of}
-use Rattle.gql_statements.proofs.PartLaws.{Stops, Apart, Led, bind_then, finish, passes_after, after_passes, passes_shorter, may_pass_shorter, word_apart, sign_apart, passes_stops, optional_shorter, led_sound, led_exact, led_stops, past_sound, past_exact}
+use Rattle.gql_statements.proofs.PartLaws.{Stops, Led, bind_then, finish, passes_after, after_passes, passes_shorter, may_pass_shorter, word_apart, optional_shorter, led_sound, led_exact, led_stops, past_sound, past_exact}
 use Rattle.gql_statements.proofs.ListLaws.{listed_sound, listed_exact, list_shorter}
 use Rattle.gql_statements.proofs.ValueLaws.{value_sound, value_exact, value_shorter, value_begins}
 

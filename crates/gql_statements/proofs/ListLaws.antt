@@ -4,8 +4,8 @@ use Rattle.gql_lexer.specs.declared.lexeme.Lexeme.{Lexeme}
 use Rattle.gql_lexer.specs.declared.lexeme.Lexeme.TheVariants as lex
 use Rattle.gql_front.specs.SymbolPlaces.{comma}
 use Rattle.gql_front.specs.Reading.{◌>>=◌, Reader, is_sign, op_at, step, with_step, many, sequence}
-use Rattle.gql_front.proofs.Found.{Sound, Shrinks, StepIs, step_sound, no_operator, one_step}
-use Rattle.gql_front.proofs.Chains.{Many, Read, sequence_read}
+use Rattle.gql_front.proofs.Found.{Sound, StepIs, step_sound, no_operator, one_step}
+use Rattle.gql_front.proofs.Chains.{Many, sequence_read}
 use Rattle.gql_front.proofs.LexemeTests.{cond_some_is}
 use Rattle.gql_exprs.specs.Readers.{comma_op}
 use Rattle.gql_statements.specs.Parts.{Passes, AreOthers, IsListOf}

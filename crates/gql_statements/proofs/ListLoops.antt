@@ -1,9 +1,9 @@
 -- The loop over items between commas: what was read so far and what is still read are the list.
-use Rattle.std.proofs.Common.{◌≡◌, ◌<◌, ◌≤◌, Bool, true, false, cond, ℕ, zero, suc, List, [], ◌∷◌, ◌++◌, length, Option, Some, None, refl, sym, ap, subst, ◌∙◌, append_assoc, arith}
+use Rattle.std.proofs.Common.{◌≡◌, ◌<◌, ◌≤◌, Bool, true, false, cond, ℕ, zero, suc, List, [], ◌∷◌, ◌++◌, length, Option, Some, None, refl, sym, ap, ◌∙◌, append_assoc, arith}
 use Rattle.std.proofs.lemmas.List.{append-nil}
 use Rattle.gql_lexer.specs.declared.lexeme.Lexeme.{Lexeme}
 use Rattle.gql_front.specs.SymbolPlaces.{comma}
-use Rattle.gql_front.specs.Reading.{◌>>=◌, Reader, is_sign, before, after, op_at, step, with_step, many, sequence}
+use Rattle.gql_front.specs.Reading.{◌>>=◌, Reader, is_sign, before, after, op_at, step, many, sequence}
 use Rattle.gql_front.proofs.Found.{no_operator, no_operand, one_step}
 use Rattle.gql_front.proofs.Loops.{with_front}
 use Rattle.gql_exprs.specs.Readers.{comma_op}

@@ -1,5 +1,5 @@
 -- The laws of MATCH of one node.
-use Rattle.std.proofs.Common.{◌≡◌, ◌<◌, ◌≤◌, ◌⊎◌, inl, inr, Bool, true, false, ◌||◌, ℕ, List, [], ◌∷◌, length, Option, Some, None, option_map, refl, sym, ap, subst, ◌∙◌, arith}
+use Rattle.std.proofs.Common.{◌≡◌, ◌<◌, ◌≤◌, Bool, true, false, ◌||◌, ℕ, List, [], ◌∷◌, length, Option, Some, None, option_map, refl, sym, ap, subst, ◌∙◌, arith}
 use Rattle.gql_lexer.specs.declared.lexeme.Lexeme.{Lexeme}
 use Rattle.gql_lexer.specs.declared.lexeme.Lexeme.TheVariants as lex
 use Rattle.gql_ast.specs.declared.clause.Match.{Match}
@@ -9,7 +9,6 @@ use Rattle.gql_ast.specs.declared.filler.Condition.{Condition}
 use Rattle.gql_ast.specs.declared.filler.Condition.TheVariants as condition
 use Rattle.gql_ast.specs.declared.filler.Filler.{Filler}
 use Rattle.gql_ast.specs.declared.filler.MapItem.{MapItem}
-use Rattle.gql_ast.specs.declared.path.GraphPattern.{GraphPattern}
 use Rattle.gql_ast.specs.declared.path.PathPattern.{PathPattern}
 use Rattle.gql_ast.specs.declared.path.Prefix.{Prefix}
 use Rattle.gql_ast.specs.declared.pattern.PathExpr.{PathExpr}
@@ -17,7 +16,7 @@ use Rattle.gql_ast.specs.declared.pattern.PathExpr.TheVariants as path
 use Rattle.gql_front.specs.SymbolPlaces.{opening, closing, opening_brace, closing_brace, colon, comma}
 use Rattle.gql_front.specs.WordPlaces.{IS, WHERE}
 use Rattle.gql_front.specs.Tables.{Begins}
-use Rattle.gql_front.specs.Reading.{◌>>=◌, Reader, is_sign, is_word, name_in, any_name_in, before, after, op_at, maybe, opted}
+use Rattle.gql_front.specs.Reading.{◌>>=◌, is_sign, is_word, name_in, any_name_in, before, after, op_at, maybe, opted}
 use Rattle.gql_front.proofs.Found.{Sound, is_there}
 use Rattle.gql_front.proofs.TableLemmas.{begins_read, read_begins, begins_shorter}
 use Rattle.gql_exprs.proofs.ExprLists.{goes_or}
@@ -25,10 +24,10 @@ use Rattle.gql_exprs.proofs.LabelLevels.{goes_label}
 use Rattle.gql_statements.specs.Parts.{Passes, IsOptional, IsListOf}
 use Rattle.gql_statements.specs.Values.{IsValue, IsLabels}
 use Rattle.gql_statements.specs.PartWords.{is_colon}
-use Rattle.gql_statements.specs.MatchGrammar.{IsWhere, IsMapItem, AreMapItems, IsMap, IsCondition, AsksLabels, IsFiller, IsPathExpr, ArePaths, IsPattern}
-use Rattle.gql_statements.specs.PartReaders.{read_value, read_labels, led, listed}
+use Rattle.gql_statements.specs.MatchGrammar.{IsWhere, IsMapItem, AreMapItems, IsCondition, AsksLabels, IsFiller, IsPathExpr, IsPattern}
+use Rattle.gql_statements.specs.PartReaders.{read_value, read_labels, listed}
 use Rattle.gql_statements.specs.MatchReaders.{where_of, map_item_of, map_items_of, empty_or_items, map_of, map_or_where, condition_of, variable_of, filler_labels_of, filler_of, node_of, alone, match_of}
-use Rattle.gql_statements.proofs.PartLaws.{Stops, left_stops, right_stops, Apart, Led, bind_then, finish, passes_after, after_passes, passes_shorter, stops_after, word_apart, sign_apart, passes_stops, begins_stops, optional_stops, optional_shorter, led_sound, led_exact, led_stops}
+use Rattle.gql_statements.proofs.PartLaws.{Stops, Apart, bind_then, finish, passes_after, after_passes, passes_shorter, stops_after, word_apart, sign_apart, passes_stops, begins_stops, optional_stops, optional_shorter, led_sound, led_exact}
 use Rattle.gql_statements.proofs.ListLaws.{listed_sound, listed_exact, list_shorter}
 use Rattle.gql_statements.proofs.ValueLaws.{value_sound, value_exact, value_shorter, labels_sound, labels_exact, labels_shorter}
 

@@ -1,5 +1,5 @@
 -- The laws of ORDER BY, OFFSET and LIMIT.
-use Rattle.std.proofs.Common.{◌≡◌, ◌<◌, ◌≤◌, ◌⊎◌, inl, inr, Bool, true, false, ◌||◌, ℕ, List, [], ◌∷◌, length, Option, Some, None, refl, sym, ap, subst, ◌∙◌, arith}
+use Rattle.std.proofs.Common.{◌≡◌, ◌<◌, ◌≤◌, inl, inr, Bool, true, false, ◌||◌, ℕ, List, [], ◌∷◌, length, Option, Some, None, refl, sym, ap, subst, ◌∙◌, arith}
 use Rattle.gql_lexer.specs.declared.lexeme.Lexeme.{Lexeme}
 use Rattle.gql_lexer.specs.declared.lexeme.Lexeme.TheVariants as lex
 use Rattle.gql_ast.specs.declared.page.SortDirection.{SortDirection}
@@ -10,20 +10,18 @@ use Rattle.gql_ast.specs.declared.page.RowCount.{RowCount}
 use Rattle.gql_ast.specs.declared.page.Page.{Page}
 use Rattle.gql_ast.specs.declared.page.Page.TheVariants as page
 use Rattle.gql_front.specs.SymbolPlaces.{comma}
-use Rattle.gql_front.specs.WordPlaces.{BY, LIMIT, NULLS, OFFSET, ORDER, SKIP}
+use Rattle.gql_front.specs.WordPlaces.{BY, LIMIT, NULLS, OFFSET, SKIP}
 use Rattle.gql_front.specs.Tables.{Begins}
-use Rattle.gql_front.specs.Reading.{◌>>=◌, Reader, is_sign, is_word, after, op_at}
-use Rattle.gql_front.proofs.Found.{Goes, Sound, is_there}
-use Rattle.gql_front.proofs.LexemeTests.{word_is}
+use Rattle.gql_front.specs.Reading.{is_sign, is_word, after, op_at}
+use Rattle.gql_front.proofs.Found.{Sound, is_there}
 use Rattle.gql_front.proofs.TableLemmas.{begins_read, read_begins, begins_shorter, word_row}
 use Rattle.gql_exprs.proofs.ExprLists.{goes_or}
 use Rattle.gql_statements.specs.Parts.{Passes, IsOptional, IsListOf}
-use Rattle.gql_statements.specs.Values.{IsValue}
 use Rattle.gql_statements.specs.PartWords.{direction_words, direction_word, null_word, count_in, is_skip}
-use Rattle.gql_statements.specs.PageGrammar.{IsDirection, IsNullOrder, IsSortItem, IsOrder, IsSkip, IsLimit, IsPage}
-use Rattle.gql_statements.specs.PartReaders.{read_value, led, listed}
+use Rattle.gql_statements.specs.PageGrammar.{IsDirection, IsNullOrder, IsSortItem, IsSkip, IsLimit}
+use Rattle.gql_statements.specs.PartReaders.{read_value, led}
 use Rattle.gql_statements.specs.PageReaders.{or_ascending, direction_of, sort_item_of, sort_items_of, order_of, skip_of, limit_of, order_page_of, skip_page_of, limit_page_of}
-use Rattle.gql_statements.proofs.PartLaws.{Stops, left_stops, right_stops, Apart, Led, bind_then, finish, passes_after, after_passes, passes_shorter, word_apart, passes_stops, begins_stops, optional_stops, optional_shorter, led_sound, led_exact, led_stops}
+use Rattle.gql_statements.proofs.PartLaws.{Stops, left_stops, right_stops, Apart, bind_then, finish, passes_after, after_passes, passes_shorter, word_apart, passes_stops, begins_stops, optional_stops, optional_shorter, led_sound, led_exact}
 use Rattle.gql_statements.proofs.ListLaws.{listed_sound, listed_exact, list_shorter}
 use Rattle.gql_statements.proofs.ValueLaws.{value_sound, value_exact, value_shorter}
 

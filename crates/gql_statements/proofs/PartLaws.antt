@@ -1,10 +1,10 @@
 -- The parts of productions, as they are derived and as they are read: what is read is derived, and what is derived is read
 -- exactly, where no lexeme with which it may go on stands behind it.
-use Rattle.std.proofs.Common.{◌≡◌, ◌<◌, ◌≤◌, ◌⊎◌, inl, inr, Bool, true, false, ◌||◌, cond, ℕ, List, [], ◌∷◌, length, Option, Some, None, refl, sym, ap, subst, ◌∙◌, arith}
+use Rattle.std.proofs.Common.{◌≡◌, ◌<◌, ◌≤◌, inl, inr, Bool, true, false, ◌||◌, cond, ℕ, List, [], ◌∷◌, length, Option, Some, None, refl, sym, ap, subst, ◌∙◌, arith}
 use Rattle.gql_lexer.specs.declared.lexeme.Lexeme.{Lexeme}
 use Rattle.gql_lexer.specs.declared.lexeme.Lexeme.TheVariants as lex
 use Rattle.gql_front.specs.Tables.{Begins}
-use Rattle.gql_front.specs.Reading.{◌>>=◌, Reader, is_sign, is_word, after, op_at}
+use Rattle.gql_front.specs.Reading.{◌>>=◌, Reader, is_sign, is_word, after}
 use Rattle.gql_front.proofs.Found.{Goes, Goes-left, Goes-right, Sound, some_is}
 use Rattle.gql_front.proofs.LexemeTests.{sign_is, word_is, after_is}
 use Rattle.gql_statements.specs.Parts.{Passes, MayPass, IsOptional}

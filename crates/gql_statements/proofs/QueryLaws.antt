@@ -1,5 +1,5 @@
 -- The laws of clauses and queries.
-use Rattle.std.proofs.Common.{◌≡◌, ◌<◌, ◌≤◌, ◌⊎◌, inl, inr, Bool, true, false, not, ◌||◌, ◌&&◌, cond, ℕ, zero, suc, List, [], ◌∷◌, ◌++◌, length, Option, Some, None, refl, sym, ap, subst, ◌∙◌, arith}
+use Rattle.std.proofs.Common.{◌≡◌, ◌<◌, ◌≤◌, ◌⊎◌, inl, inr, Bool, true, false, not, ◌||◌, ◌&&◌, ℕ, zero, suc, List, [], ◌∷◌, ◌++◌, length, Option, Some, None, refl, sym, ap, subst, ◌∙◌, arith}
 use Rattle.gql_lexer.specs.declared.lexeme.Lexeme.{Lexeme}
 use Rattle.gql_lexer.specs.declared.lexeme.Lexeme.TheVariants as lex
 use Rattle.gql_ast.specs.declared.clause.Clause.{Clause}
@@ -10,8 +10,8 @@ use Rattle.gql_ast.specs.declared.page.Page.TheVariants as page
 use Rattle.gql_front.specs.SymbolPlaces.{comma}
 use Rattle.gql_front.specs.WordPlaces.{FILTER, FOR, LET, LIMIT, MATCH, OFFSET, ORDER, RETURN, SESSION, SKIP, WHERE, WITH}
 use Rattle.gql_front.specs.Tables.{Begins}
-use Rattle.gql_front.specs.Reading.{◌>>=◌, Reader, is_sign, is_word, before, after, op_at, many, with_step}
-use Rattle.gql_front.proofs.Found.{Sound, Shrinks, some_is}
+use Rattle.gql_front.specs.Reading.{◌>>=◌, is_sign, is_word, after, op_at, many, with_step}
+use Rattle.gql_front.proofs.Found.{Sound, Shrinks}
 use Rattle.gql_front.proofs.LexemeTests.{word_is, cond_some_is}
 use Rattle.gql_front.proofs.TableLemmas.{begins_read, read_begins, begins_shorter, word_row}
 use Rattle.gql_exprs.proofs.ExprLists.{goes_or}
@@ -22,17 +22,17 @@ use Rattle.gql_statements.specs.PartWords.{is_skip, count_in}
 use Rattle.gql_statements.specs.ClauseWords.{clause_words, clause_word}
 use Rattle.gql_statements.specs.ClauseGrammar.{IsClause, IsLast}
 use Rattle.gql_statements.specs.QueryGrammar.{is_page, no_pages_meet, AreClauses, IsQuery}
-use Rattle.gql_statements.specs.ClauseReaders.{let_of, filter_of, for_of, as_clause, begun, clause_of}
+use Rattle.gql_statements.specs.ClauseReaders.{let_of, filter_of, for_of, begun, clause_of}
 use Rattle.gql_statements.specs.PageReaders.{order_page_of, skip_page_of, limit_page_of}
 use Rattle.gql_statements.specs.MatchReaders.{match_of}
 use Rattle.gql_statements.specs.ReturnReaders.{return_of}
-use Rattle.gql_statements.specs.QueryReaders.{clauses_of, last_of, checked, query_of}
-use Rattle.gql_statements.proofs.PartLaws.{Stops, left_stops, right_stops, Apart, bind_then, finish, passes_after, after_passes, passes_shorter, word_apart, passes_stops, begins_stops, optional_shorter}
+use Rattle.gql_statements.specs.QueryReaders.{clauses_of, last_of, query_of}
+use Rattle.gql_statements.proofs.PartLaws.{Stops, left_stops, right_stops, bind_then, finish, passes_after, after_passes, word_apart, passes_stops}
 use Rattle.gql_statements.proofs.ListLaws.{many_none, many_next}
 use Rattle.gql_statements.proofs.ClauseLaws.{LetList, let_sound, let_exact, let_shorter, Filtered, filter_sound, filter_exact, filter_shorter, Fors, for_sound, for_exact, for_shorter}
 use Rattle.gql_statements.proofs.PageLaws.{goes_page, OrderPage, SkipPage, LimitPage, order_page_sound, order_page_exact, order_shorter, skip_page_sound, skip_page_exact, skip_shorter, limit_page_sound, limit_page_exact, limit_shorter}
 use Rattle.gql_statements.proofs.MatchLaws.{Matched, match_sound, match_exact, match_shorter}
-use Rattle.gql_statements.proofs.ReturnLaws.{Returned, return_sound, return_exact}
+use Rattle.gql_statements.proofs.ReturnLaws.{return_sound, return_exact}
 
 -- A clause by its first word, and what stands behind it
 

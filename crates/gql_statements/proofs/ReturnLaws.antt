@@ -1,8 +1,7 @@
 -- The laws of RETURN.
-use Rattle.std.proofs.Common.{◌≡◌, ◌<◌, ◌≤◌, ◌⊎◌, inl, inr, Bool, true, false, ◌||◌, ℕ, List, [], ◌∷◌, length, Option, Some, None, refl, sym, ap, subst, ◌∙◌, arith}
+use Rattle.std.proofs.Common.{◌≡◌, ◌<◌, ◌≤◌, inl, inr, Bool, true, false, ◌||◌, ℕ, List, [], ◌∷◌, length, Option, Some, None, refl, ap, ◌∙◌, arith}
 use Rattle.gql_lexer.specs.declared.lexeme.Lexeme.{Lexeme}
 use Rattle.gql_lexer.specs.declared.lexeme.Lexeme.TheVariants as lex
-use Rattle.gql_ast.specs.declared.page.RowCount.{RowCount}
 use Rattle.gql_ast.specs.declared.page.SortItem.{SortItem}
 use Rattle.gql_ast.specs.declared.projection.Return.{Return}
 use Rattle.gql_ast.specs.declared.projection.ReturnItem.{ReturnItem}
@@ -13,24 +12,22 @@ use Rattle.gql_ast.specs.declared.words.SetQuantifier.TheVariants as quantifier
 use Rattle.gql_front.specs.SymbolPlaces.{comma, star}
 use Rattle.gql_front.specs.WordPlaces.{ALL, AS, BY, DISTINCT, GROUP, LIMIT, ORDER}
 use Rattle.gql_front.specs.Tables.{Begins}
-use Rattle.gql_front.specs.Reading.{◌>>=◌, Reader, is_sign, is_word, name_in, after, op_at}
+use Rattle.gql_front.specs.Reading.{is_sign, is_word, name_in, after, op_at}
 use Rattle.gql_front.proofs.Found.{Sound}
-use Rattle.gql_front.proofs.LexemeTests.{word_is}
 use Rattle.gql_front.proofs.TableLemmas.{begins_read, read_begins, begins_shorter, word_row}
 use Rattle.gql_exprs.specs.ExprWords.{quantifier_words, quantifier_op}
 use Rattle.gql_exprs.specs.Grammar.{IsQuantifier}
 use Rattle.gql_exprs.specs.Readers.{quantifier_or_all, quantifier_of}
 use Rattle.gql_exprs.proofs.ExprLists.{goes_or}
 use Rattle.gql_statements.specs.Parts.{Passes, IsOptional, IsListOf}
-use Rattle.gql_statements.specs.Values.{IsValue}
 use Rattle.gql_statements.specs.PartWords.{is_skip}
 use Rattle.gql_statements.specs.PageGrammar.{IsOrder, IsSkip, IsLimit}
 use Rattle.gql_statements.specs.ReturnGrammar.{IsAlias, IsReturnItem, AreReturnItems, IsGrouping}
-use Rattle.gql_statements.specs.PartReaders.{read_value, led, listed}
+use Rattle.gql_statements.specs.PartReaders.{read_value, listed}
 use Rattle.gql_statements.specs.PageReaders.{order_of, skip_of, limit_of}
 use Rattle.gql_statements.specs.ReturnReaders.{alias_of, return_item_of, return_list_of, all_or_listed, return_items_of, names_of, grouped_of, grouping_of, ordering_of, return_of}
 use Rattle.gql_statements.proofs.PartLaws.{Stops, left_stops, right_stops, Apart, Led, bind_then, finish, passes_after, after_passes, passes_shorter, stops_after, word_apart, sign_apart, passes_stops, optional_stops, optional_shorter, led_sound, led_exact, led_stops}
-use Rattle.gql_statements.proofs.ListLaws.{listed_sound, listed_exact, list_shorter}
+use Rattle.gql_statements.proofs.ListLaws.{listed_sound, listed_exact}
 use Rattle.gql_statements.proofs.ValueLaws.{value_sound, value_exact, value_shorter, value_begins}
 use Rattle.gql_statements.proofs.PageLaws.{Ordered, goes_order, order_sound, order_exact, skip_apart, skip_sound, skip_exact, skip_stops, limit_sound, limit_exact, limit_stops}
 

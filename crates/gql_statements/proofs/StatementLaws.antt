@@ -1,8 +1,7 @@
 -- The laws of statements.
-use Rattle.std.proofs.Common.{◌≡◌, ◌<◌, ◌≤◌, Bool, true, false, List, [], ◌∷◌, length, Option, Some, None, eqb-true, refl, sym, ap, subst, ◌∙◌, arith}
+use Rattle.std.proofs.Common.{◌≡◌, Bool, true, false, List, [], ◌∷◌, length, Option, Some, None, eqb-true, refl, sym, ap, ◌∙◌, arith}
 use Rattle.std.specs.Prelude.{◌==◌, Err}
 use Rattle.gql_lexer.specs.declared.lexeme.Lexeme.{Lexeme}
-use Rattle.gql_lexer.specs.declared.lexeme.Lexeme.TheVariants as lex
 use Rattle.gql_ast.specs.declared.statement.SessionStatement.{SessionStatement}
 use Rattle.gql_ast.specs.declared.statement.SessionStatement.TheVariants as session
 use Rattle.gql_ast.specs.declared.statement.Statement.{Statement}
@@ -13,7 +12,7 @@ use Rattle.gql_ast.specs.declared.parse_fault.ParseFault.{ParseFault}
 use Rattle.gql_ast.specs.declared.parse_fault.ParseFault.TheVariants as fault
 use Rattle.gql_front.specs.Gives.{Fails, IsSyntax, IsDeep}
 use Rattle.gql_front.specs.Tables.{Begins}
-use Rattle.gql_front.specs.Reading.{◌>>=◌, Reader, is_sign, is_word, after, op_at}
+use Rattle.gql_front.specs.Reading.{is_sign, is_word, after, op_at}
 use Rattle.gql_front.proofs.Found.{Sound, some_is}
 use Rattle.gql_front.proofs.LexemeTests.{word_is}
 use Rattle.gql_front.proofs.TableLemmas.{begins_read, read_begins, word_row}

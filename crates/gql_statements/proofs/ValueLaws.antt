@@ -1,5 +1,5 @@
 -- Expressions and label expressions as parts of statements.
-use Rattle.std.proofs.Common.{◌≡◌, ◌<◌, ◌≤◌, List, [], ◌∷◌, ℕ, length, Option, Some, None, refl, sym, ap, subst, ◌∙◌, arith}
+use Rattle.std.proofs.Common.{◌≡◌, ◌<◌, List, [], ◌∷◌, ℕ, length, Some, None, refl, sym, ap, subst, ◌∙◌, arith}
 use Rattle.gql_lexer.specs.declared.lexeme.Lexeme.{Lexeme}
 use Rattle.gql_lexer.specs.declared.lexeme.Lexeme.TheVariants as lex
 use Rattle.gql_values3.specs.Datum.{Datum, data_of, items_of, Data, no_data, more_data, null, boolean, integer, text, list, node, edge, path}
@@ -15,7 +15,7 @@ use Rattle.gql_ast.proofs.LabelLemmas.{label_expr_of, label_expr_of-label_of}
 use Rattle.gql_ast.proofs.MeaningLemmas.{value_of, expr_of, expr_of-tree_of}
 use Rattle.gql_front.specs.SymbolPlaces.{star}
 use Rattle.gql_front.specs.WordPlaces.{ALL, DISTINCT, WHERE}
-use Rattle.gql_front.specs.Reading.{◌>>=◌, is_word, is_sign, sequence, prefix, suffix}
+use Rattle.gql_front.specs.Reading.{is_word, is_sign, sequence, prefix, suffix}
 use Rattle.gql_front.proofs.LexemeTests.{sign_is, word_is}
 use Rattle.gql_front.proofs.Found.{Found, exact, longer, Sound, exact_at}
 use Rattle.gql_exprs.specs.Grammar.{Is}

@@ -1,5 +1,5 @@
 -- ClauseReaders: reading clauses, each behind its first word.
-use Rattle.std.specs.Prelude.{ℕ, List, Option, Some, None}
+use Rattle.std.specs.Prelude.{ℕ, List, Option, Some}
 use Rattle.gql_lexer.specs.declared.lexeme.Lexeme.{Lexeme}
 use Rattle.gql_ast.specs.declared.expr.Expr.{Expr}
 use Rattle.gql_ast.specs.declared.clause.Clause.{Clause}

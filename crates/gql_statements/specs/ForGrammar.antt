@@ -1,7 +1,7 @@
 -- FOR.
 --
 --   For = FOR Name IN Expr [WITH (ORDINALITY or OFFSET) Name]
-use Rattle.std.specs.Prelude.{◌≡◌, ℕ, List}
+use Rattle.std.specs.Prelude.{ℕ, List}
 use Rattle.gql_lexer.specs.declared.lexeme.Lexeme.{Lexeme}
 use Rattle.gql_ast.specs.declared.clause.Counting.{Counting}
 use Rattle.gql_ast.specs.declared.clause.For.{For}

@@ -1,7 +1,7 @@
 -- LET.
 --
 --   Let = LET list(Name "=" Expr)
-use Rattle.std.specs.Prelude.{◌≡◌, List}
+use Rattle.std.specs.Prelude.{List}
 use Rattle.gql_lexer.specs.declared.lexeme.Lexeme.{Lexeme}
 use Rattle.gql_ast.specs.declared.clause.LetItem.{LetItem}
 use Rattle.gql_front.specs.SymbolPlaces.{equal}

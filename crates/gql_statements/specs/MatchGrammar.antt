@@ -3,7 +3,7 @@
 --   Match  = MATCH "(" Filler ")" [WHERE Expr]
 --   Filler = [Name] [(":" or IS) LabelExpr] [Map; WHERE Expr]
 --   Map    = "{" [list(a name or a reserved word ":" Expr)] "}"
-use Rattle.std.specs.Prelude.{◌≡◌, ℕ, false, List, [], ◌∷◌, Option, None}
+use Rattle.std.specs.Prelude.{◌≡◌, false, List, [], ◌∷◌, None}
 use Rattle.gql_lexer.specs.declared.lexeme.Lexeme.{Lexeme}
 use Rattle.gql_ast.specs.declared.clause.Match.{Match}
 use Rattle.gql_ast.specs.declared.expr.Expr.{Expr}

@@ -8,9 +8,6 @@ use Rattle.gql_ast.specs.declared.filler.Condition.{Condition}
 use Rattle.gql_ast.specs.declared.filler.Condition.TheVariants as condition
 use Rattle.gql_ast.specs.declared.filler.Filler.{Filler}
 use Rattle.gql_ast.specs.declared.filler.MapItem.{MapItem}
-use Rattle.gql_ast.specs.declared.path.GraphPattern.{GraphPattern}
-use Rattle.gql_ast.specs.declared.path.PathPattern.{PathPattern}
-use Rattle.gql_ast.specs.declared.pattern.PathExpr.{PathExpr}
 use Rattle.gql_ast.specs.declared.pattern.PathExpr.TheVariants as path
 use Rattle.gql_front.specs.SymbolPlaces.{opening, closing, opening_brace, closing_brace, colon}
 use Rattle.gql_front.specs.WordPlaces.{WHERE}

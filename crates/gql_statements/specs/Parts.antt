@@ -1,7 +1,6 @@
 -- Parts: what productions are made of. P x ts r says that ts is a front that derives x, and then r.
 use Rattle.std.specs.Prelude.{◌≡◌, ◌⊎◌, Bool, IsTrue, List, [], ◌∷◌, Option, Some, None}
 use Rattle.gql_lexer.specs.declared.lexeme.Lexeme.{Lexeme}
-use Rattle.gql_lexer.specs.declared.lexeme.Lexeme.TheVariants as lex
 use Rattle.gql_front.specs.SymbolPlaces.{comma}
 use Rattle.gql_front.specs.Reading.{is_sign}
 

@@ -1,7 +1,7 @@
 -- RETURN.
 --
 --   Return = RETURN [DISTINCT or ALL] ("*"; list(Expr [AS Name])) [GROUP BY list(Name)] [Order] [Skip] [Limit]
-use Rattle.std.specs.Prelude.{◌≡◌, ℕ, List}
+use Rattle.std.specs.Prelude.{ℕ, List}
 use Rattle.gql_lexer.specs.declared.lexeme.Lexeme.{Lexeme}
 use Rattle.gql_ast.specs.declared.projection.Return.{Return}
 use Rattle.gql_ast.specs.declared.projection.ReturnItem.{ReturnItem}

@@ -1,13 +1,12 @@
 -- The first wide number of a list of several parts.
-use Rattle.std.proofs.Common.{◌≡◌, ℕ, ◌+◌, ◌<◌, List, [], ◌∷◌, refl, ◌++◌, length, drop, get_or, Option, ap, ◌∙◌, map, add-one, drop-cons, arith}
+use Rattle.std.proofs.Common.{◌≡◌, ℕ, ◌+◌, ◌<◌, List, [], ◌∷◌, refl, ◌++◌, length, drop, get_or, Option, ap, map, add-one, drop-cons}
 use Rattle.std.specs.List.{flat_map, find}
 use Rattle.std.specs.Option.{option_or}
 use Rattle.std.proofs.lemmas.List.Folds.{find-append}
-use Rattle.std.proofs.lemmas.Grind.{common_steps}
 use Rattle.gql_ast.specs.NumberLiterals.{Numerals, is_wide, numbers_in, numbers_in_trees, numbers_in_links, numbers_in_pattern, numbers_in_patterns, numbers_in_entry, numbers_in_named}
-use Rattle.gql_ast.specs.Tree.{trees_of, links_of, more_trees, more_links}
+use Rattle.gql_ast.specs.Tree.{trees_of, links_of}
 use Rattle.gql_ast.specs.Meaning.{tree_of, link_of}
-use Rattle.gql_ast.specs.Pattern.{patterns_of, more_patterns}
+use Rattle.gql_ast.specs.Pattern.{patterns_of}
 use Rattle.gql_ast.specs.PatternMeaning.{item_of, pattern_of}
 use Rattle.gql_ast.specs.declared.filler.MapItem.{MapItem}
 use Rattle.gql_ast.specs.declared.expr.Expr.{Expr}

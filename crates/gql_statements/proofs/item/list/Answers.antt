@@ -1,4 +1,4 @@
-use Rattle.std.proofs.Common.{◌≡◌, Some, ◌∷◌, ◌++◌, [], sym, ap, subst, ◌∙◌, arith}
+use Rattle.std.proofs.Common.{◌∷◌, ◌++◌, [], sym, ap, subst, ◌∙◌, arith}
 use Rattle.gql_front.specs.Gives.{Fails}
 use Rattle.gql_statements.proofs.ListLoops.{SoFar, list_begins, list_goes_on, list_ends, list_leaves}
 use Rattle.gql_statements.proofs.item.list.Goals as goal

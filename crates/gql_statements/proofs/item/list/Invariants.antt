@@ -1,4 +1,4 @@
-use Rattle.std.proofs.Common.{◌≡◌, ◌<◌, length}
+use Rattle.std.proofs.Common.{◌<◌, length}
 use Rattle.gql_statements.proofs.ListLoops.{SoFar}
 use Rattle.gql_statements.proofs.item.list.Given as goal
 

@@ -1,4 +1,4 @@
-use Rattle.std.proofs.Common.{◌≡◌, Some, ap, sym, ◌∙◌}
+use Rattle.std.proofs.Common.{Some, ap, sym, ◌∙◌}
 use Rattle.gql_ast.specs.declared.statement.Statement.{Statement}
 use Rattle.gql_statements.proofs.StatementLaws.{read_derives, left_over, empty_is, not_empty, fault_of_syntax, fault_of_depth}
 use Rattle.gql_statements.proofs.parser.parse.Goals as goal

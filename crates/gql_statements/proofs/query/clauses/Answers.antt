@@ -1,4 +1,4 @@
-use Rattle.std.proofs.Common.{◌≡◌, sym, subst, arith}
+use Rattle.std.proofs.Common.{sym, subst, arith}
 use Rattle.gql_front.specs.Gives.{Fails}
 use Rattle.gql_statements.specs.ClauseReaders.{clause_of}
 use Rattle.gql_statements.proofs.QueryLoops.{ClausesSoFar, clauses_begin, clauses_go_on, clauses_end}

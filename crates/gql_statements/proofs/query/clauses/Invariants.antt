@@ -1,4 +1,4 @@
-use Rattle.std.proofs.Common.{◌≡◌, ◌≤◌, length}
+use Rattle.std.proofs.Common.{◌≤◌, length}
 use Rattle.gql_statements.proofs.QueryLoops.{ClausesSoFar}
 use Rattle.gql_statements.proofs.query.clauses.Given as goal
 
