@@ -80,7 +80,7 @@ are_two-filter p xs x h = by (filter p xs) refl ∙ any_of_passing p (λ y. not 
         let one : y ≡ x = cc in
         ap are_two e ∙ ap (λ z. list_any (λ w. not (same_text z w)) ys) one
         ∙ sym (ap (list_any (λ w. not (same_text x w))) e ∙ ap (λ z. not (same_text x z) || list_any (λ w. not (same_text x w)) ys) one
-            ∙ ap (λ b. not b || list_any (λ w. not (same_text x w)) ys) (same_text-refl x))
+        ∙ ap (λ b. not b || list_any (λ w. not (same_text x w)) ys) (same_text-refl x))
 
 -- the first of two tests decides where it holds, and else the second
 pub or_first : (a b s : Bool) → a ≡ true → s ≡ (a || b) → a ≡ s

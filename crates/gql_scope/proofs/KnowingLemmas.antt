@@ -58,7 +58,7 @@ knows_new columns y k x none = by (same_text y x) refl ∙ sym (first_kind-push 
     by true p =
         ap (λ t. cond t (Some k) (first_kind columns x)) p
         ∙ sym (ap (λ o. option_or o (cond (same_text x y) (Some k) None)) (ap (first_kind columns) (sym ((bytes_eq-Decides y x).0 p)) ∙ none)
-            ∙ ap (λ t. cond t (Some k) None) (same_text-sym x y ∙ p))
+        ∙ ap (λ t. cond t (Some k) None) (same_text-sym x y ∙ p))
     by false p =
         ap (λ t. cond t (Some k) (first_kind columns x)) p
         ∙ or_none (first_kind columns x) ∙ sym (ap (λ t. option_or (first_kind columns x) (cond t (Some k) None)) (same_text-sym x y ∙ p))

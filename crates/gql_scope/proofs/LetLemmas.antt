@@ -14,7 +14,7 @@ use Rattle.gql_scope.proofs.RefusalLemmas.{first_of_in_two, misuse_in_two}
 pub unknown_in_let-item : (columns : ColumnList) (i : LetItem) (is : List LetItem)
     → first_of refusal.Variable (unknown_in_let columns (i ∷ is))
     ≡ option_or (first_of refusal.Variable (taken columns i.name ++ unknown_in_expr columns i.value))
-        (first_of refusal.Variable (unknown_in_let (columns ++ (i.name, kind_of columns (tree_of i.value)) ∷ []) is))
+    (first_of refusal.Variable (unknown_in_let (columns ++ (i.name, kind_of columns (tree_of i.value)) ∷ []) is))
 unknown_in_let-item columns i is =
     first_of_in_two refusal.Variable (taken columns i.name ++ unknown_in_expr columns i.value) (unknown_in_let (columns ++ (i.name, kind_of columns (tree_of i.value)) ∷ []) is)
 

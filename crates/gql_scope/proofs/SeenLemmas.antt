@@ -71,7 +71,7 @@ repeated_step seen x xs = by (is_among seen x)
 pub item_step : (columns : ColumnList) (seen : List (List ℕ)) (i : ReturnItem) (is : List ReturnItem)
     → first_of refusal.Column (faults_in_list columns seen (i ∷ is))
     ≡ option_or (first_of refusal.Column (columns_outside columns (tree_of i.value) ++ repeated_name columns seen (item_name i)))
-        (first_of refusal.Column (faults_in_list columns (item_name i ∷ seen) is))
+    (first_of refusal.Column (faults_in_list columns (item_name i ∷ seen) is))
 item_step columns seen i is =
     first_of_in_two refusal.Column (columns_outside columns (tree_of i.value) ++ repeated_name columns seen (item_name i)) (faults_in_list columns (item_name i ∷ seen) is)
 

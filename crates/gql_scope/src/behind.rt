@@ -9,7 +9,9 @@ ghost use Rattle.gql_ast.specs.Projections.{columns_behind, output_columns};
 
 use crate::columns::Scope;
 use crate::outputs::output_scope;
-use gql_ast::{Clause, Counting, Expr, Filler, For, GraphPattern, LetItem, PathExpr, PathPattern, ReturnItems};
+use gql_ast::{
+    Clause, Counting, Expr, Filler, For, GraphPattern, LetItem, PathExpr, PathPattern, ReturnItems,
+};
 use gql_values3::{ColumnKind, OutOfMemory, Text};
 use std::alloc::Global;
 
@@ -47,11 +49,7 @@ pub fn push_copy(
 }
 
 /// Adds the column of an item of LET.
-pub fn push_let_item(
-    alloc: Global,
-    scope: &mut Scope,
-    item: &LetItem,
-) -> Result<(), OutOfMemory>
+pub fn push_let_item(alloc: Global, scope: &mut Scope, item: &LetItem) -> Result<(), OutOfMemory>
     ensures { OnOk result (scope.new ≡ scope.old ++ (item.now.name, kind_of scope.old (tree_of item.now.value)) ∷ []) }
 {
     let kind = kind_of(scope, &item.value);
@@ -59,11 +57,7 @@ pub fn push_let_item(
 }
 
 /// Adds the columns of LET.
-pub fn push_let(
-    alloc: Global,
-    scope: &mut Scope,
-    items: &[LetItem],
-) -> Result<(), OutOfMemory>
+pub fn push_let(alloc: Global, scope: &mut Scope, items: &[LetItem]) -> Result<(), OutOfMemory>
     ensures { OnOk result (scope.new ≡ let_columns scope.old items.now) }
 {
     for item in items {

@@ -25,11 +25,7 @@ pub fn check(alloc: Global, statement: &Statement, params: &Params) -> Result<()
     check_statement(alloc, statement, params)
 }
 
-fn check_statement(
-    alloc: Global,
-    statement: &Statement,
-    params: &Params,
-) -> Result<(), ScopeFault>
+fn check_statement(alloc: Global, statement: &Statement, params: &Params) -> Result<(), ScopeFault>
     ensures { Answers result (static_refusal params.now statement.now) }
 {
     match statement {

@@ -79,12 +79,7 @@ fn name_scope(alloc: Global, names: &[Text]) -> Result<Scope, OutOfMemory>
 
 /// Checks that a name of GROUP BY is a key that was not seen before, and notes it.
 #[tactic(auto, using(crate::proofs::SeenLemmas::seen))]
-fn check_name(
-    alloc: Global,
-    keys: &Scope,
-    seen: &mut Scope,
-    name: &Text,
-) -> Result<(), ScopeFault>
+fn check_name(alloc: Global, keys: &Scope, seen: &mut Scope, name: &Text) -> Result<(), ScopeFault>
     ensures key { Answers result (first_of refusal.Column (if is_among (names_of keys.now) name.now && not (is_among (seen_names seen.old) name.now) then [] else column.Name name.now ∷ [])) }
     ensures noted { OnOk result (seen_names seen.new ≡ name.now ∷ seen_names seen.old) }
 {
@@ -96,12 +91,7 @@ fn check_name(
 
 /// Checks the names of GROUP BY in order.
 #[tactic(auto, using(crate::proofs::SeenLemmas::name_step))]
-fn check_names(
-    alloc: Global,
-    scope: &Scope,
-    keys: &Scope,
-    names: &[Text],
-) -> Result<(), ScopeFault>
+fn check_names(alloc: Global, scope: &Scope, keys: &Scope, names: &[Text]) -> Result<(), ScopeFault>
     ensures { Answers result (first_of refusal.Column (faults_in_names scope.now (names_of keys.now) [] names.now)) }
 {
     let mut seen = Scope::new(alloc);
@@ -140,12 +130,7 @@ fn check_omitted(
 
 /// Checks the names of GROUP BY against the keys.
 #[tactic(auto, using(crate::proofs::RefusalLemmas::first_of_in_two))]
-fn check_keys(
-    alloc: Global,
-    scope: &Scope,
-    keys: &Scope,
-    names: &[Text],
-) -> Result<(), ScopeFault>
+fn check_keys(alloc: Global, scope: &Scope, keys: &Scope, names: &[Text]) -> Result<(), ScopeFault>
     ensures { Answers result (first_of refusal.Column (faults_in_names scope.now (names_of keys.now) [] names.now ++ omitted scope.now (names_of keys.now) names.now)) }
 {
     check_names(alloc, scope, keys, names)?;

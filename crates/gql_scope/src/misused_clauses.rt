@@ -73,11 +73,7 @@ fn check_condition(scope: &Scope, condition: &Option<Condition>) -> Result<(), S
 }
 
 /// Checks a node, and adds its variable.
-fn check_node(
-    alloc: Global,
-    scope: &mut Scope,
-    node: Option<&Filler>,
-) -> Result<(), ScopeFault>
+fn check_node(alloc: Global, scope: &mut Scope, node: Option<&Filler>) -> Result<(), ScopeFault>
     ensures misuses { Answers result (misuse_if (misused_node scope.old (option_copied node.entry))) }
     ensures columns { OnOk result (scope.new ≡ with_filler scope.old (option_copied node.entry)) }
 {
@@ -92,11 +88,7 @@ fn check_node(
 
 /// Checks a pattern, and adds its variables.
 #[tactic(auto, using(crate::proofs::RefusalLemmas::misuse_in_two))]
-fn check_pattern(
-    alloc: Global,
-    scope: &mut Scope,
-    pattern: &GraphPattern,
-) -> Result<(), ScopeFault>
+fn check_pattern(alloc: Global, scope: &mut Scope, pattern: &GraphPattern) -> Result<(), ScopeFault>
     ensures misuses { Answers result (misuse_if (misused_pattern scope.old pattern.now)) }
     ensures columns { OnOk result (scope.new ≡ match_columns scope.old pattern.now) }
 {

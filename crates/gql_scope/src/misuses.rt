@@ -52,8 +52,7 @@ pub fn is_misused(scope: &Scope, place: &Place, expr: &Expr) -> bool
             is_misused(scope, place, a.expr()) || is_misused(scope, place, b.expr())
         }
         Expr::Coalesce(first, rest) => {
-            is_misused(scope, place, first.expr())
-                || any_is_misused(scope, place, rest.as_slice())
+            is_misused(scope, place, first.expr()) || any_is_misused(scope, place, rest.as_slice())
         }
         Expr::Product(first, steps)
         | Expr::Sum(first, steps)

@@ -76,11 +76,7 @@ pub fn push_columns(
 }
 
 /// The columns that RETURN gives.
-pub fn output_scope(
-    alloc: Global,
-    scope: &Scope,
-    items: &ReturnItems,
-) -> Result<Scope, OutOfMemory>
+pub fn output_scope(alloc: Global, scope: &Scope, items: &ReturnItems) -> Result<Scope, OutOfMemory>
     ensures { IfOk result (λ outputs. outputs ≡ output_columns scope.now items.now) }
 {
     let mut outputs = Scope::new(alloc);

@@ -80,11 +80,7 @@ fn check_condition(
 }
 
 /// Checks the names of a node, and adds its variable.
-fn check_node(
-    alloc: Global,
-    scope: &mut Scope,
-    node: Option<&Filler>,
-) -> Result<(), ScopeFault>
+fn check_node(alloc: Global, scope: &mut Scope, node: Option<&Filler>) -> Result<(), ScopeFault>
     ensures names { Answers result (first_of Refusal.Variable (unknown_in_node scope.old (option_copied node.entry))) }
     ensures columns { OnOk result (scope.new ≡ with_filler scope.old (option_copied node.entry)) }
 {
@@ -99,11 +95,7 @@ fn check_node(
 
 /// Checks the names of a pattern, and adds its variables.
 #[tactic(auto, using(crate::proofs::RefusalLemmas::first_of_in_two))]
-fn check_pattern(
-    alloc: Global,
-    scope: &mut Scope,
-    pattern: &GraphPattern,
-) -> Result<(), ScopeFault>
+fn check_pattern(alloc: Global, scope: &mut Scope, pattern: &GraphPattern) -> Result<(), ScopeFault>
     ensures names { Answers result (first_of Refusal.Variable (unknown_in_pattern scope.old pattern.now)) }
     ensures columns { OnOk result (scope.new ≡ match_columns scope.old pattern.now) }
 {

@@ -70,11 +70,7 @@ fn check_condition(
     }
 }
 
-fn check_node(
-    alloc: Global,
-    params: &Params,
-    node: Option<&Filler>,
-) -> Result<(), ScopeFault>
+fn check_node(alloc: Global, params: &Params, node: Option<&Filler>) -> Result<(), ScopeFault>
     ensures { Answers result (first_of Refusal.Parameter (unset params.now (parameters_of_node (option_copied node.entry)))) }
 {
     match node {
@@ -85,11 +81,7 @@ fn check_node(
 
 /// Checks the parameters of a pattern.
 #[tactic(auto, using(crate::proofs::RefusalLemmas::unset_of_two))]
-fn check_pattern(
-    alloc: Global,
-    params: &Params,
-    pattern: &GraphPattern,
-) -> Result<(), ScopeFault>
+fn check_pattern(alloc: Global, params: &Params, pattern: &GraphPattern) -> Result<(), ScopeFault>
     ensures { Answers result (first_of Refusal.Parameter (unset params.now (parameters_of_pattern pattern.now))) }
 {
     check_node(alloc, params, node_of(pattern))?;
@@ -116,11 +108,7 @@ fn check_keys(alloc: Global, params: &Params, keys: &[SortItem]) -> Result<(), S
     Ok(())
 }
 
-fn check_order(
-    alloc: Global,
-    params: &Params,
-    order: &Option<SortItems>,
-) -> Result<(), ScopeFault>
+fn check_order(alloc: Global, params: &Params, order: &Option<SortItems>) -> Result<(), ScopeFault>
     ensures { Answers result (first_of Refusal.Parameter (unset params.now (parameters_of_order order.now))) }
 {
     match order {

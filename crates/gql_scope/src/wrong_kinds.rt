@@ -22,11 +22,7 @@ fn holds_nodes(kind: ColumnKind) -> bool
 }
 
 /// Checks the variable of a node.
-fn check_variable(
-    alloc: Global,
-    scope: &Scope,
-    variable: &Option<Text>,
-) -> Result<(), ScopeFault>
+fn check_variable(alloc: Global, scope: &Scope, variable: &Option<Text>) -> Result<(), ScopeFault>
     ensures { Answers result (first_of Refusal.Kind (wrong_variable scope.now variable.now)) }
 {
     match variable {

@@ -22,7 +22,7 @@ unfolding row_aggregates
 any_has_aggregate-returns-then-has_aggregate t c =
     let below : c.loop-i.i < length c.args.parts.now = omega arith in
     let step = ap (λ ts. not (has_none (row_aggregates_of c.args.scope.now ts))) (parts_step c.args.parts.now c.loop-i.i c.index-parts-i.result below c.index-parts-i.is)
-      ∙ some_in_two (row_aggregates c.args.scope.now (tree_of c.index-parts-i.result)) (row_aggregates_of c.args.scope.now (parts_from c.args.parts.now (c.loop-i.i + 1))) in
+    ∙ some_in_two (row_aggregates c.args.scope.now (tree_of c.index-parts-i.result)) (row_aggregates_of c.args.scope.now (parts_from c.args.parts.now (c.loop-i.i + 1))) in
     sym c.if-has_aggregate.true ∙ c.has_aggregate.ensures ∙ or_first _ _ _ (sym c.has_aggregate.ensures ∙ c.if-has_aggregate.true) (sym c.loop-i.invariant ∙ step)
 
 pub any_has_aggregate-loop-i-preserved : goal.any_has_aggregate-loop-i-preserved
@@ -30,7 +30,7 @@ unfolding row_aggregates
 any_has_aggregate-loop-i-preserved t c =
     let below : c.loop-i.i < length c.args.parts.now = omega arith in
     let step = ap (λ ts. not (has_none (row_aggregates_of c.args.scope.now ts))) (parts_step c.args.parts.now c.loop-i.i c.index-parts-i.result below c.index-parts-i.is)
-      ∙ some_in_two (row_aggregates c.args.scope.now (tree_of c.index-parts-i.result)) (row_aggregates_of c.args.scope.now (parts_from c.args.parts.now (c.loop-i.i + 1))) in
+    ∙ some_in_two (row_aggregates c.args.scope.now (tree_of c.index-parts-i.result)) (row_aggregates_of c.args.scope.now (parts_from c.args.parts.now (c.loop-i.i + 1))) in
     or_second _ _ _ (sym c.has_aggregate.ensures ∙ c.if-has_aggregate.false) (sym c.loop-i.invariant ∙ step)
 
 pub side_has_aggregate-returns-then-has_aggregate : goal.side_has_aggregate-returns-then-has_aggregate
@@ -38,7 +38,7 @@ unfolding row_aggregates
 side_has_aggregate-returns-then-has_aggregate t c =
     let below : c.loop-i.i < length c.args.steps.now = omega arith in
     let step = ap (λ ts. not (has_none (row_aggregates_in c.args.scope.now ts))) (sides_step c.args.steps.now c.loop-i.i c.index-steps-i.result below c.index-steps-i.is)
-      ∙ some_in_two (row_aggregates c.args.scope.now (tree_of c.index-steps-i.result.operand)) (row_aggregates_in c.args.scope.now (sides_from c.args.steps.now (c.loop-i.i + 1))) in
+    ∙ some_in_two (row_aggregates c.args.scope.now (tree_of c.index-steps-i.result.operand)) (row_aggregates_in c.args.scope.now (sides_from c.args.steps.now (c.loop-i.i + 1))) in
     sym c.if-has_aggregate.true ∙ c.has_aggregate.ensures ∙ or_first _ _ _ (sym c.has_aggregate.ensures ∙ c.if-has_aggregate.true) (sym c.loop-i.invariant ∙ step)
 
 pub side_has_aggregate-loop-i-preserved : goal.side_has_aggregate-loop-i-preserved
@@ -46,5 +46,5 @@ unfolding row_aggregates
 side_has_aggregate-loop-i-preserved t c =
     let below : c.loop-i.i < length c.args.steps.now = omega arith in
     let step = ap (λ ts. not (has_none (row_aggregates_in c.args.scope.now ts))) (sides_step c.args.steps.now c.loop-i.i c.index-steps-i.result below c.index-steps-i.is)
-      ∙ some_in_two (row_aggregates c.args.scope.now (tree_of c.index-steps-i.result.operand)) (row_aggregates_in c.args.scope.now (sides_from c.args.steps.now (c.loop-i.i + 1))) in
+    ∙ some_in_two (row_aggregates c.args.scope.now (tree_of c.index-steps-i.result.operand)) (row_aggregates_in c.args.scope.now (sides_from c.args.steps.now (c.loop-i.i + 1))) in
     or_second _ _ _ (sym c.has_aggregate.ensures ∙ c.if-has_aggregate.false) (sym c.loop-i.invariant ∙ step)

@@ -20,9 +20,9 @@ returns-in_err-check_item c =
     let behind = first_of refusal.Column (faults_in_list s (item_name i ∷ seen) rest) in
     let whole = first_of refusal.Column (faults_in_list s [] c.args.items.now) in
     let cut = sym c.loop-item.invariant
-        ∙ ap (λ is. first_of refusal.Column (faults_in_list s seen is)) (drop_step c.args.items.now c.loop-item.item-index i below c.item-item.is) ∙ item_step s seen i rest in
+    ∙ ap (λ is. first_of refusal.Column (faults_in_list s seen is)) (drop_step c.args.items.now c.loop-item.item-index i below c.item-item.is) ∙ item_step s seen i rest in
     answers_fault c.from_residual.result c.in_err-check_item.field-0.0 whole c.from_residual.ensures.0 c.from_residual.ensures.1
-      (stops c.in_err-check_item.field-0.0 here behind whole c.in_err-check_item.ensures.faults cut)
+    (stops c.in_err-check_item.field-0.0 here behind whole c.in_err-check_item.ensures.faults cut)
 
 pub loop-item-preserved : goal.loop-item-preserved
 loop-item-preserved c =
@@ -35,5 +35,5 @@ loop-item-preserved c =
     let behind = first_of refusal.Column (faults_in_list s (item_name i ∷ seen) rest) in
     let whole = first_of refusal.Column (faults_in_list s [] c.args.items.now) in
     let cut = sym c.loop-item.invariant
-        ∙ ap (λ is. first_of refusal.Column (faults_in_list s seen is)) (drop_step c.args.items.now c.loop-item.item-index i below c.item-item.is) ∙ item_step s seen i rest in
+    ∙ ap (λ is. first_of refusal.Column (faults_in_list s seen is)) (drop_step c.args.items.now c.loop-item.item-index i below c.item-item.is) ∙ item_step s seen i rest in
     ap (λ ns. first_of refusal.Column (faults_in_list s ns rest)) c.in_ok-check_item.ensures.noted ∙ sym (goes_on here behind whole c.in_ok-check_item.ensures.faults cut)

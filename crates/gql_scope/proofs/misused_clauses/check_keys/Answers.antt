@@ -14,6 +14,6 @@ returns-in_err-check_expr c =
     let below : c.loop-item.item-index < length c.args.keys.now = omega arith in
     let whole = misuse_if (list_any misused c.args.keys.now) in
     let cut = sym c.loop-item.invariant
-        ∙ ap (λ is. misuse_if (list_any misused is)) (drop_step c.args.keys.now c.loop-item.item-index i below c.item-item.is) ∙ misuse_in_two (misused i) (list_any misused rest) in
+    ∙ ap (λ is. misuse_if (list_any misused is)) (drop_step c.args.keys.now c.loop-item.item-index i below c.item-item.is) ∙ misuse_in_two (misused i) (list_any misused rest) in
     answers_fault c.from_residual.result c.in_err-check_expr.field-0.0 whole c.from_residual.ensures.0 c.from_residual.ensures.1
-      (stops c.in_err-check_expr.field-0.0 (misuse_if (misused i)) (misuse_if (list_any misused rest)) whole c.in_err-check_expr.ensures cut)
+    (stops c.in_err-check_expr.field-0.0 (misuse_if (misused i)) (misuse_if (list_any misused rest)) whole c.in_err-check_expr.ensures cut)

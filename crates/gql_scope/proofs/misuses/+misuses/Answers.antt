@@ -28,10 +28,10 @@ pub argument_is_misused-returns-then-names_other_group : goal.argument_is_misuse
 argument_is_misused-returns-then-names_other_group t c =
     c.names_other_group.ensures
     ∙ or_first _ _ _ (sym c.names_other_group.ensures ∙ c.if-names_other_group.true)
-        (argument_over_group c.args.scope.now c.args.bars_rows (tree_of c.args.argument.now) c.in-Some.group.now (sym c.in-Some.ensures))
+    (argument_over_group c.args.scope.now c.args.bars_rows (tree_of c.args.argument.now) c.in-Some.group.now (sym c.in-Some.ensures))
 
 pub argument_is_misused-returns-else-names_other_group : goal.argument_is_misused-returns-else-names_other_group
 argument_is_misused-returns-else-names_other_group t c =
     c.is_misused-else-names_other_group.ensures
     ∙ or_second _ _ _ (sym c.names_other_group.ensures ∙ c.if-names_other_group.false)
-        (argument_over_group c.args.scope.now c.args.bars_rows (tree_of c.args.argument.now) c.in-Some.group.now (sym c.in-Some.ensures))
+    (argument_over_group c.args.scope.now c.args.bars_rows (tree_of c.args.argument.now) c.in-Some.group.now (sym c.in-Some.ensures))

@@ -18,6 +18,6 @@ returns-in_err-check_let_item-clause-names c =
     let behind = first_of refusal.Variable (unknown_in_let (s ++ (i.name, kind_of s (tree_of i.value)) ∷ []) rest) in
     let whole = first_of refusal.Variable (unknown_in_let c.args.scope.now c.args.items.now) in
     let cut = sym c.loop-item.invariant.names
-        ∙ ap (λ is. first_of refusal.Variable (unknown_in_let s is)) (drop_step c.args.items.now c.loop-item.item-index i below c.item-item.is) ∙ unknown_in_let-item s i rest in
+    ∙ ap (λ is. first_of refusal.Variable (unknown_in_let s is)) (drop_step c.args.items.now c.loop-item.item-index i below c.item-item.is) ∙ unknown_in_let-item s i rest in
     answers_fault c.from_residual.result c.in_err-check_let_item.field-0.0 whole c.from_residual.ensures.0 c.from_residual.ensures.1
-      (stops c.in_err-check_let_item.field-0.0 here behind whole c.in_err-check_let_item.ensures.names cut)
+    (stops c.in_err-check_let_item.field-0.0 here behind whole c.in_err-check_let_item.ensures.names cut)

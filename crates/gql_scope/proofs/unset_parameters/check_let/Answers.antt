@@ -18,10 +18,10 @@ returns-in_err-check_expr c =
     let behind = first_of refusal.Parameter (unset params (flat_map f rest)) in
     let whole = first_of refusal.Parameter (unset params (flat_map f c.args.items.now)) in
     let cut = sym c.loop-item.invariant
-        ∙ ap (λ is. first_of refusal.Parameter (unset params (flat_map f is))) (drop_step c.args.items.now c.loop-item.item-index i below c.item-item.is)
-        ∙ unset_of_two params (f i) (flat_map f rest) in
+    ∙ ap (λ is. first_of refusal.Parameter (unset params (flat_map f is))) (drop_step c.args.items.now c.loop-item.item-index i below c.item-item.is)
+    ∙ unset_of_two params (f i) (flat_map f rest) in
     answers_fault c.from_residual.result c.in_err-check_expr.field-0.0 whole c.from_residual.ensures.0 c.from_residual.ensures.1
-      (stops c.in_err-check_expr.field-0.0 here behind whole c.in_err-check_expr.ensures cut)
+    (stops c.in_err-check_expr.field-0.0 here behind whole c.in_err-check_expr.ensures cut)
 
 pub loop-item-preserved : goal.loop-item-preserved
 loop-item-preserved c =
@@ -34,6 +34,6 @@ loop-item-preserved c =
     let behind = first_of refusal.Parameter (unset params (flat_map f rest)) in
     let whole = first_of refusal.Parameter (unset params (flat_map f c.args.items.now)) in
     let cut = sym c.loop-item.invariant
-        ∙ ap (λ is. first_of refusal.Parameter (unset params (flat_map f is))) (drop_step c.args.items.now c.loop-item.item-index i below c.item-item.is)
-        ∙ unset_of_two params (f i) (flat_map f rest) in
+    ∙ ap (λ is. first_of refusal.Parameter (unset params (flat_map f is))) (drop_step c.args.items.now c.loop-item.item-index i below c.item-item.is)
+    ∙ unset_of_two params (f i) (flat_map f rest) in
     sym (goes_on here behind whole c.in_ok-check_expr.ensures cut)

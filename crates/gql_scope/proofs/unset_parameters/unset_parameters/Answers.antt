@@ -17,10 +17,10 @@ returns-in_err-check_clause c =
     let behind = first_of refusal.Parameter (unset params (flat_map f rest)) in
     let whole = first_of refusal.Parameter (unset params (flat_map f c.args.clauses.now)) in
     let cut = sym c.loop-clause.invariant
-        ∙ ap (λ is. first_of refusal.Parameter (unset params (flat_map f is))) (drop_step c.args.clauses.now c.loop-clause.clause-index i below c.clause-item.is)
-        ∙ unset_of_two params (f i) (flat_map f rest) in
+    ∙ ap (λ is. first_of refusal.Parameter (unset params (flat_map f is))) (drop_step c.args.clauses.now c.loop-clause.clause-index i below c.clause-item.is)
+    ∙ unset_of_two params (f i) (flat_map f rest) in
     answers_fault c.from_residual.result c.in_err-check_clause.field-0.0 whole c.from_residual.ensures.0 c.from_residual.ensures.1
-      (stops c.in_err-check_clause.field-0.0 here behind whole c.in_err-check_clause.ensures cut)
+    (stops c.in_err-check_clause.field-0.0 here behind whole c.in_err-check_clause.ensures cut)
 
 pub loop-clause-preserved : goal.loop-clause-preserved
 loop-clause-preserved c =
@@ -33,6 +33,6 @@ loop-clause-preserved c =
     let behind = first_of refusal.Parameter (unset params (flat_map f rest)) in
     let whole = first_of refusal.Parameter (unset params (flat_map f c.args.clauses.now)) in
     let cut = sym c.loop-clause.invariant
-        ∙ ap (λ is. first_of refusal.Parameter (unset params (flat_map f is))) (drop_step c.args.clauses.now c.loop-clause.clause-index i below c.clause-item.is)
-        ∙ unset_of_two params (f i) (flat_map f rest) in
+    ∙ ap (λ is. first_of refusal.Parameter (unset params (flat_map f is))) (drop_step c.args.clauses.now c.loop-clause.clause-index i below c.clause-item.is)
+    ∙ unset_of_two params (f i) (flat_map f rest) in
     sym (goes_on here behind whole c.in_ok-check_clause.ensures cut)
