@@ -1,7 +1,6 @@
 -- Names that a walk has seen, and what one step of such a walk adds.
-use Rattle.std.proofs.Common.{◌≡◌, ℕ, Bool, true, false, not, ◌&&◌, ◌||◌, cond, List, [], ◌∷◌, ◌++◌, map, filter, reverse, Option, Some, None, refl, sym, ap, ◌∙◌}
+use Rattle.std.proofs.Common.{◌≡◌, ℕ, Bool, true, false, not, ◌&&◌, ◌||◌, List, [], ◌∷◌, ◌++◌, map, filter, reverse, refl, ap, ◌∙◌}
 use Rattle.std.specs.Prelude.{if◌then◌else◌, option_map}
-use Rattle.std.specs.List.{list_any}
 use Rattle.std.specs.Option.{option_or}
 use Rattle.std.proofs.lemmas.List.{reverse-append, map-append}
 use Rattle.gql_values3.specs.Texts.{same_text}
@@ -13,7 +12,6 @@ use Rattle.gql_ast.specs.Outputs.{item_name}
 use Rattle.gql_ast.specs.Projections.{is_key}
 use Rattle.gql_ast.specs.StaticRefusals.{first_of}
 use Rattle.gql_ast.specs.declared.projection.ReturnItem.{ReturnItem}
-use Rattle.gql_ast.specs.declared.refusal.ColumnRef.{ColumnRef}
 use Rattle.gql_ast.specs.declared.refusal.ColumnRef.TheVariants as column
 use Rattle.gql_ast.specs.declared.refusal.Refusal.TheVariants as refusal
 use Rattle.gql_scope.specs.First.{first}

@@ -1,6 +1,6 @@
 -- Where an expression stands in the code, and the columns that it sees there: within an aggregate over a group, the
 -- group's name is an item.
-use Rattle.std.specs.Prelude.{ℕ, Bool, ◌||◌, ◌&&◌, List, ◌∷◌, Some, None}
+use Rattle.std.specs.Prelude.{Bool, ◌||◌, ◌&&◌, ◌∷◌, Some, None}
 use Rattle.gql_ast.specs.Tree.{Tree}
 use Rattle.gql_ast.specs.ClauseColumns.{ColumnList}
 use Rattle.gql_ast.specs.Outputs.{kind_of_name, element_kind}

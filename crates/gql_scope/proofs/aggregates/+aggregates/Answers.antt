@@ -1,4 +1,4 @@
-use Rattle.std.proofs.Common.{arith, ◌<◌, ◌+◌, ◌≡◌, ◌∙◌, not, length, ap, sym}
+use Rattle.std.proofs.Common.{arith, ◌<◌, ◌+◌, ◌∙◌, not, length, ap, sym}
 use Rattle.gql_ast.specs.Meaning.{tree_of, link_of}
 use Rattle.gql_ast.specs.Projections.{has_none}
 use Rattle.gql_ast.specs.RowAggregates.{row_aggregates, row_aggregates_of, row_aggregates_in}

@@ -1,4 +1,4 @@
-use Rattle.std.proofs.Common.{◌≡◌, ◌<◌, ◌+◌, ◌∙◌, ap, sym, length, drop, arith}
+use Rattle.std.proofs.Common.{◌<◌, ◌+◌, ◌∙◌, ap, sym, length, drop, arith}
 use Rattle.std.specs.List.{list_any}
 use Rattle.gql_ast.specs.Misuses.{misused_expr, elsewhere}
 use Rattle.gql_ast.specs.StaticRefusals.{misuse_if}

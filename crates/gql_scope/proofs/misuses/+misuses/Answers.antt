@@ -1,4 +1,4 @@
-use Rattle.std.proofs.Common.{arith, ◌<◌, ◌≡◌, ◌∙◌, length, ap, sym}
+use Rattle.std.proofs.Common.{arith, ◌<◌, ◌∙◌, length, sym}
 use Rattle.gql_ast.specs.Meaning.{tree_of, link_of}
 use Rattle.gql_ast.proofs.HeightLemmas.{height_of_le-highest, link_height_of_le-highest_link}
 use Rattle.gql_scope.proofs.FirstLemmas.{or_first, or_second}

@@ -1,4 +1,4 @@
-use Rattle.std.proofs.Common.{◌≡◌, map, not, ◌+◌, ◌*◌}
+use Rattle.std.proofs.Common.{◌≡◌, map, ◌+◌, ◌*◌}
 use Rattle.gql_ast.specs.Misuses.{misused_any, misused_side}
 use Rattle.gql_scope.specs.Places.{columns_at, place_of}
 use Rattle.gql_ast.specs.Meaning.{tree_of, link_of}

@@ -1,6 +1,6 @@
-use Rattle.std.proofs.Common.{arith, rules, ◌<◌, ◌+◌, ◌≡◌, ◌∙◌, length, ap, sym, List, ℕ}
+use Rattle.std.proofs.Common.{arith, ◌<◌, ◌+◌, ◌∙◌, length, ap, sym}
 use Rattle.std.specs.Prelude.{find}
-use Rattle.std.specs.Option.{option_copied, option_or}
+use Rattle.std.specs.Option.{option_or}
 use Rattle.gql_ast.specs.Meaning.{tree_of, link_of}
 use Rattle.gql_ast.specs.Scope.{names_in, names_in_trees, names_in_links}
 use Rattle.gql_ast.proofs.HeightLemmas.{height_of_le-highest, link_height_of_le-highest_link}

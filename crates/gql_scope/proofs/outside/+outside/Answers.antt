@@ -1,4 +1,4 @@
-use Rattle.std.proofs.Common.{arith, rules, ◌<◌, ◌+◌, ◌≡◌, ◌∙◌, length, ap, sym}
+use Rattle.std.proofs.Common.{arith, ◌<◌, ◌+◌, ◌∙◌, length, ap, sym}
 use Rattle.std.specs.Option.{option_or}
 use Rattle.gql_ast.specs.ColumnFaults.{names_outside, names_outside_each, names_outside_sides}
 use Rattle.gql_scope.proofs.FirstLemmas.{first_in_two}

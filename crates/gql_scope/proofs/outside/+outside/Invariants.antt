@@ -1,4 +1,4 @@
-use Rattle.std.proofs.Common.{◌≡◌, map, not, ◌+◌, ◌*◌}
+use Rattle.std.proofs.Common.{◌≡◌, map, ◌+◌, ◌*◌}
 use Rattle.gql_ast.specs.ColumnFaults.{names_outside_each, names_outside_sides}
 use Rattle.gql_scope.specs.First.{first}
 use Rattle.gql_ast.specs.Meaning.{tree_of, link_of}

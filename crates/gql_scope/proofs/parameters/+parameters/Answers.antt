@@ -1,4 +1,4 @@
-use Rattle.std.proofs.Common.{arith, rules, ◌<◌, ◌+◌, ◌≡◌, ◌∙◌, length, ap, sym}
+use Rattle.std.proofs.Common.{arith, ◌<◌, ◌+◌, ◌∙◌, length, ap, sym}
 use Rattle.std.specs.Option.{option_or}
 use Rattle.gql_ast.specs.UnsetParameters.{unset, parameters_in, parameters_in_each, parameters_in_sides}
 use Rattle.gql_scope.proofs.FirstLemmas.{unset_in_two}

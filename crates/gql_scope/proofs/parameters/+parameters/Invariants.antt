@@ -1,4 +1,4 @@
-use Rattle.std.proofs.Common.{◌≡◌, map, not, ◌+◌, ◌*◌}
+use Rattle.std.proofs.Common.{◌≡◌, map, ◌+◌, ◌*◌}
 use Rattle.gql_ast.specs.UnsetParameters.{unset, parameters_in_each, parameters_in_sides}
 use Rattle.gql_scope.specs.First.{first}
 use Rattle.gql_ast.specs.Meaning.{tree_of, link_of}

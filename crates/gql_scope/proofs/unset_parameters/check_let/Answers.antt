@@ -1,4 +1,4 @@
-use Rattle.std.proofs.Common.{◌≡◌, ◌<◌, ◌+◌, ◌∙◌, ap, sym, length, drop, arith}
+use Rattle.std.proofs.Common.{◌<◌, ◌+◌, ◌∙◌, ap, sym, length, drop, arith}
 use Rattle.std.specs.List.{flat_map}
 use Rattle.gql_ast.specs.StaticRefusals.{first_of}
 use Rattle.gql_ast.specs.UnsetParameters.{unset, parameters_of}

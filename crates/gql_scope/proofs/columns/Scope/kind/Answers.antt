@@ -1,4 +1,4 @@
-use Rattle.std.proofs.Common.{◌≡◌, ◌∙◌, ap, sym}
+use Rattle.std.proofs.Common.{◌∙◌, ap, sym}
 use Rattle.std.specs.Option.{option_copied}
 use Rattle.gql_ast.specs.Outputs.{kind_of_name}
 use Rattle.gql_scope.proofs.KnowingLemmas.{kind_when_known, kind_when_unknown}
