@@ -1,0 +1,10 @@
+pub mod EachLemmas
+pub mod LetLemmas
+pub mod ForLemmas
+pub mod SortLemmas
+pub mod KeyLemmas
+pub mod WidthLemmas
+pub mod RowOrder
+pub mod PlaceLemmas
+pub mod ReturnLemmas
+pub mod AggregationLemmas

@@ -1,0 +1,66 @@
+//! Which clauses `apply` takes.
+
+ghost use Rattle.std.specs.Prelude.{◌≡◌, length, map, not, IfOk};
+ghost use Rattle.std.specs.List.{list_any};
+ghost use Rattle.gql_ast.specs.Meaning.{tree_of};
+ghost use Rattle.gql_table.specs.Grouping.{is_key};
+ghost use Rattle.gql_table.specs.Projection.{is_grouped};
+ghost use Rattle.gql_table.specs.Clauses.{is_plain_clause};
+
+use crate::aggregation::has_row_aggregate;
+use gql_ast::{Clause, Return, ReturnItem, ReturnItems};
+use gql_values3::{ColumnKind, Columns, OutOfMemory, Row, Text, Value};
+use std::alloc::Global;
+
+/// Whether `apply` takes the clause: one over tables alone, and no RETURN that is grouped.
+pub fn is_plain(alloc: Global, columns: &Columns, clause: &Clause) -> Result<bool, OutOfMemory>
+    ensures { IfOk result (λ plain. plain ≡ is_plain_clause columns.now clause.now) }
+{
+    match clause {
+        Clause::Match(_) | Clause::Change(_) => Ok(false),
+        Clause::Return(clause) => Ok(!is_grouped_return(alloc, columns, clause)?),
+        Clause::Let(_) | Clause::Filter(_) | Clause::For(_) | Clause::Page(_) => Ok(true),
+    }
+}
+
+/// Whether RETURN is grouped: it has GROUP BY, or an item with an aggregate over rows.
+pub fn is_grouped_return(
+    alloc: Global,
+    columns: &Columns,
+    clause: &Return,
+) -> Result<bool, OutOfMemory>
+    ensures { IfOk result (λ grouped. grouped ≡ is_grouped columns.now clause.now) }
+{
+    match (&clause.grouping, &clause.items) {
+        (Some(_), _) => Ok(true),
+        (None, ReturnItems::All) => Ok(false),
+        (None, ReturnItems::Listed(items)) => {
+            let blank = blank_row(alloc, columns.len())?;
+            Ok(item_has_one(columns.as_slice(), blank.as_slice(), items.as_slice()))
+        }
+    }
+}
+
+fn item_has_one(columns: &[(Text, ColumnKind)], blank: &[Value], items: &[ReturnItem]) -> bool
+    requires { length blank.now ≡ length columns.now }
+    ensures { result ≡ list_any (λ e. not (is_key columns.now e)) (map (λ i. tree_of i.value) items.now) }
+{
+    for i in 0..items.len() {
+        let item = &items[i];
+        if has_row_aggregate(columns, blank, &item.value) {
+            return true;
+        }
+    }
+    false
+}
+
+/// So many NULLs.
+fn blank_row(alloc: Global, width: usize) -> Result<Row, OutOfMemory>
+    ensures { IfOk result (λ row. length row ≡ width) }
+{
+    let mut row = Row::new(alloc);
+    for _i in 0..width {
+        row.push(Value::Null)?;
+    }
+    Ok(row)
+}
