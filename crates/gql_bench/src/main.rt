@@ -1,8 +1,8 @@
 //! Measures parts of the database: counts on standard output, milliseconds on standard error.
 //!
 //! `gql_bench lexer <file>` cuts the file into pieces and lexemes. `gql_bench parse <file>` reads an expression from each
-//! piece. `gql_bench eval <nodes>` evaluates a condition over 1,000,000 rows and a graph of so many nodes. `gql_bench
-//! scope <items>` checks a query of so many LET items. It promises nothing but to be safe and to end.
+//! piece. `gql_bench eval <nodes>` evaluates a condition over 1,000,000 rows and a graph of so many nodes. It promises
+//! nothing but to be safe and to end.
 #![tactic(auto)]
 
 mod evaluation;
@@ -12,13 +12,11 @@ mod lexer;
 mod parsing;
 #[cfg(test)]
 mod postfix;
-mod scope;
 
 use anyhow::{Result, bail};
 use evaluation::evaluate;
 use lexer::lexer;
 use parsing::parse;
-use scope::scope;
 use std::env;
 
 fn main(rt: HostRuntime) -> Result<()> {
@@ -30,7 +28,6 @@ fn main(rt: HostRuntime) -> Result<()> {
         "lexer" => lexer(&rt, rt.alloc(), word.as_str()),
         "parse" => parse(&rt, rt.alloc(), word.as_str()),
         "eval" => evaluate(&rt, rt.alloc(), word.as_str()),
-        "scope" => scope(&rt, rt.alloc(), word.as_str()),
         _ => bail!("no such part"),
     }
 }
