@@ -1,67 +1,40 @@
-//! Measures parts of the database over a file: counts on standard output, seconds on standard error.
+//! Measures parts of the database: counts on standard output, times on standard error.
 //!
-//! `gql_bench lexer <file>` cuts the file into pieces and lexemes. It promises nothing but to be safe and to end.
+//! `gql_bench lexer <file>` cuts the file into pieces and lexemes. `gql_bench parse <file>` reads an expression from each
+//! piece. `gql_bench eval <nodes>` evaluates a condition over 1,000,000 rows and a graph of so many nodes. `gql_bench
+//! scope <items>` checks a query of so many LET items. `gql_bench table <rows>` applies each clause to so many rows. It
+//! promises nothing but to be safe and to end.
 #![tactic(auto)]
 
-use anyhow::{Context, Result, bail};
-use gql_lexer::{LexFault, Pieces, lexemes, pieces};
-use std::alloc::Global;
-use std::rt::{Clock, Files};
-use std::time::Instant;
-use std::{env, fs};
+mod evaluation;
+#[cfg(test)]
+mod examples;
+mod lexer;
+mod parsing;
+#[cfg(test)]
+mod postfix;
+mod scope;
+mod tables;
+
+use anyhow::{Result, bail};
+use evaluation::evaluate;
+use lexer::lexer;
+use parsing::parse;
+use scope::scope;
+use std::env;
+use tables::tables;
 
 fn main(rt: HostRuntime) -> Result<()> {
     let words: Vec<String> = env::args(&rt)?.collect(rt.alloc())?;
-    let [_, part, name] = words.as_slice() else {
-        bail!("two words are wanted: a part, and a file");
+    let [_, part, word] = words.as_slice() else {
+        bail!("two words are wanted: a part, and a file or a number");
     };
     match part.as_str() {
-        "lexer" => lexer(&rt, rt.alloc(), name.as_str()),
+        "lexer" => lexer(&rt, rt.alloc(), word.as_str()),
+        "parse" => parse(&rt, rt.alloc(), word.as_str()),
+        "eval" => evaluate(&rt, rt.alloc(), word.as_str()),
+        "scope" => scope(&rt, rt.alloc(), word.as_str()),
+        "table" => tables(&rt, rt.alloc(), word.as_str()),
         _ => bail!("no such part"),
     }
-}
-
-/// Cuts the file into pieces and each piece into lexemes, and says how many there are.
-fn lexer(
-    rt: &(impl Files + Clock + Print + Eprint + AllocGlobal),
-    alloc: Global,
-    name: &str,
-) -> Result<()> {
-    let bytes = fs::read(rt, name).context("reading the file")?;
-    let begun = Instant::now(rt)?;
-    let Ok(all) = pieces(alloc, bytes.as_slice()) else {
-        bail!("no memory for the pieces");
-    };
-    let counts = count(alloc, &all)?;
-    let took = begun.elapsed(rt)?.as_millis();
-    println!(rt;
-        "pieces {} lexemes {} bad {}",
-        all.len(),
-        counts.lexemes,
-        counts.bad
-    )?;
-    eprintln!(rt; "{took} ms for {} bytes", bytes.len())?;
-    Ok(())
-}
-
-/// How many lexemes the good pieces have, and how many pieces are bad.
-#[derive(Clone, Copy)]
-struct Counts {
-    lexemes: usize,
-    bad: usize,
-}
-
-fn count(alloc: Global, all: &Pieces) -> Result<Counts> {
-    let mut counts = Counts { lexemes: 0, bad: 0 };
-    for piece in all.as_slice() {
-        if piece.bytes.len() >= 1 << 32 {
-            bail!("a piece is too long");
-        }
-        match lexemes(alloc, piece.bytes.as_slice()) {
-            Ok(found) => counts.lexemes = counts.lexemes.saturating_add(found.len()),
-            Err(LexFault::Bad) => counts.bad = counts.bad.saturating_add(1),
-            Err(LexFault::OutOfMemory) => bail!("no memory for the lexemes"),
-        }
-    }
-    Ok(counts)
 }

@@ -3,8 +3,10 @@ use Rattle.std.proofs.Common.{◌≡◌, ◌⊎◌, ℕ, ◌≤◌, Bool, true, 
 use Rattle.gql_ports.specs.declared.stored.Record.{Record}
 use Rattle.gql_graph.specs.Catalog.{CatalogData}
 use Rattle.gql_rowcode.specs.StandFor.{StandFor}
-use Rattle.gql_session.specs.Outcome.{Outcome}
-use Rattle.gql_session.specs.SessionRun.{SessionState, RunsSession, begun, one_more, starting}
+use Rattle.gql_ast.specs.declared.refusal.Outcome.{Outcome}
+use Rattle.gql_session.specs.SessionState.{SessionState, starting}
+use Rattle.gql_session.specs.SessionRun.{RunsSession, begun, one_more}
+use Rattle.gql_session.proofs.KeptLemmas.{step_kept}
 use Rattle.gql_session.specs.Endings.{TextEnding, status_of}
 use Rattle.gql_session.specs.RunEnds.{Told, most_bytes, LoadedEndsAs, EndsAs, is_complete}
 use Rattle.gql_session.specs.Words.{session_of}
@@ -25,14 +27,14 @@ loaded_ends start text before (Ok true) after h e = (h, e)
 loaded_ends start text before (Err fault.Sink) after h e = (h, e)
 loaded_ends start text before (Err fault.OutOfMemory) after h e = inr (h, e)
 
--- no piece changes a state
-unchanged : {start end : SessionState} {pieces : List (List ℕ)} {outcomes : List Outcome} → RunsSession start pieces outcomes end → end ≡ start
-unchanged begun = refl
-unchanged (one_more runs step) = step.state ∙ unchanged runs
+-- no piece changes the catalog that is kept
+kept_stays : {start end : SessionState} {pieces : List (List ℕ)} {outcomes : List Outcome} → RunsSession start pieces outcomes end → end.kept ≡ start.kept
+kept_stays begun = refl
+kept_stays (one_more {middle = s} {after = t} {piece = p} {made = made} runs step) = step_kept s t p made step ∙ kept_stays runs
 
--- so the records stand for the catalog that is kept at its end
+-- so the records stand for the one that is kept at the end
 kept : (records : List Record) (c : CatalogData) {end : SessionState} {pieces : List (List ℕ)} {outcomes : List Outcome} → StandFor records c → RunsSession (starting c) pieces outcomes end → StandFor records end.kept
-kept records c stands runs = let P : SessionState → Type 0 = λ s. StandFor records s.kept in subst P (sym (unchanged runs)) stands
+kept records c stands runs = let P : CatalogData → Type 0 = λ d. StandFor records d in subst P (sym (kept_stays runs)) stands
 
 -- the catalog is that for which the records stand
 pub ends_as : (records : List Record) (c : CatalogData) (text before : List ℕ) (s : Status) (after : Option (List ℕ)) → StandFor records c

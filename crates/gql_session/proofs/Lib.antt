@@ -1,7 +1,10 @@
-pub mod PiecesLemmas
-pub mod TokenLemmas
-pub mod TextLemmas
+pub mod LengthLemmas
+pub mod ReadsLemmas
 pub mod RunLemmas
 pub mod ReadingLemmas
 pub mod LoadLemmas
+pub mod KeptLemmas
+pub mod ParameterLemmas
+pub mod StepLemmas
+pub mod SharedGraph
 pub mod EndingLemmas

@@ -1,33 +1,74 @@
--- A run of a text, piece by piece. Key idea: the text's pieces are those that were run and those of the rest.
-use Rattle.std.proofs.Common.{◌≡◌, ℕ, zero, suc, ◌+◌, Bool, true, false, ◌||◌, List, [], ◌∷◌, ◌++◌, length, take, Option, Some, None, refl, ap, sym, ◌∙◌, append_assoc, arith, subst}
-use Rattle.std.proofs.lemmas.Grind.{common_steps}
+-- A run of a text, piece by piece. Key idea: so many of its pieces were run, and the run of these is one.
+use Rattle.std.proofs.Common.{◌≡◌, ◌⊎◌, ℕ, zero, suc, ◌+◌, ◌<◌, Bool, true, false, ◌||◌, List, [], ◌∷◌, ◌++◌, length, take, map, get_or, Option, Some, None, Result, Ok, Err, refl, ap, sym, ◌∙◌, inl, inr, append_assoc, append-nil, add-one, arith, subst}
+use Rattle.std.specs.Prelude.{unwrap_or, IsErr, IsErrAnd}
 use Rattle.std.specs.List.{list_any, flat_map}
-use Rattle.gql_session.specs.Pieces.{pieces_of}
-use Rattle.gql_session.specs.Outcome.{Outcome, outcomes_of, outcome_text, outcome_texts, is_refusal}
-use Rattle.gql_session.specs.SessionRun.{SessionState, Step, RunsSession, begun, one_more}
-use Rattle.std.specs.Option.{MatchOption}
-use Rattle.gql_session.specs.Endings.{RanWhole, RanFirst, RanAndFailed, RanPiece, FailedPiece, PieceFault, TextFault}
+use Rattle.std.proofs.lemmas.List.{length-map}
+use Rattle.gql_lexer.specs.declared.piece.Piece.{Piece}
+use Rattle.gql_lexer.specs.Pieces.{pieces_of}
+use Rattle.gql_ast.specs.declared.refusal.Outcome.{Outcome}
+use Rattle.gql_text.specs.OutcomeText.{outcome_text}
+use Rattle.gql_ports.specs.Told.{MatchTold, Appends, AppendsPrefix}
+use Rattle.gql_session.specs.Pieces.{session_pieces}
+use Rattle.gql_session.specs.Outcomes.{outcome_texts, is_refusal}
+use Rattle.gql_session.specs.SessionState.{SessionState}
+use Rattle.gql_session.specs.SessionRun.{Step, RunsSession, begun, one_more}
+use Rattle.gql_session.specs.Endings.{RanWhole, RanFirst, RanAndFailed, RanPiece, FailedPiece, PieceFault, TextFault, TextEnding}
 use Rattle.gql_session.specs.declared.run_pieces.RunFault.{RunFault}
 use Rattle.gql_session.specs.declared.run_pieces.RunFault.TheVariants as fault
 
--- some pieces were run, and the rest is left
-pub record Ran (start : SessionState) (text before rest : List ℕ) (any_refused : Bool) (after : Option (List ℕ)) : Type 0 where
-  pub done : List (List ℕ)
+-- so many pieces were run
+pub record Ran (start : SessionState) (text before : List ℕ) (count : ℕ) (any_refused : Bool) (end : SessionState) (after : Option (List ℕ)) : Type 0 where
   pub outcomes : List Outcome
-  pub pieces : pieces_of text ≡ done ++ pieces_of rest
-  pub runs : RunsSession start done outcomes start
+  pub runs : RunsSession start (take count (session_pieces text)) outcomes end
   pub written : after ≡ Some (before ++ outcome_texts outcomes)
   pub refused : list_any is_refusal outcomes ≡ any_refused
 
-pub ran_none : (start : SessionState) (text before : List ℕ) (after : Option (List ℕ)) → after ≡ Some before → Ran start text before text false after
-ran_none start text before after p = record {
-  done = [];
-  outcomes = [];
-  pieces = refl;
-  runs = begun;
-  written = grind (arith, common_steps);
-  refused = refl;
+pub ran_none : (start : SessionState) (text before : List ℕ) (after : Option (List ℕ)) → after ≡ Some before → Ran start text before 0 false start after
+ran_none start text before after p = record { outcomes = []; runs = begun; written = p ∙ ap Some (sym (append-nil before)); refused = refl }
+
+-- One piece
+
+some_same : {A : Type 0} (x y : A) → Some x ≡ Some y → x ≡ y
+some_same x y p = ap (λ o. unwrap_or o x) p
+
+appended : (old new : Option (List ℕ)) (before bytes : List ℕ) → old ≡ Some before → MatchTold old new (Appends bytes) → new ≡ Some (before ++ bytes)
+appended None None before bytes p m = cc
+appended None (Some b) before bytes p m = absurd m
+appended (Some a) None before bytes p m = absurd m
+appended (Some a) (Some b) before bytes p m = ap Some (m ∙ ap (λ t. t ++ bytes) (some_same a before p))
+
+appended_part : (old new : Option (List ℕ)) (before bytes : List ℕ) → old ≡ Some before → MatchTold old new (AppendsPrefix bytes) → (n : ℕ) × (new ≡ Some (before ++ take n bytes))
+appended_part None None before bytes p m = cc
+appended_part None (Some b) before bytes p m = absurd m
+appended_part (Some a) None before bytes p m = absurd m
+appended_part (Some a) (Some b) before bytes p m = (m.0, ap Some (m.1 ∙ ap (λ t. t ++ take m.0 bytes) (some_same a before p)))
+
+or_false : (b : Bool) → (b || false) ≡ b
+or_false true = refl
+or_false false = refl
+
+-- a blank piece
+pub ran_blank : (start end : SessionState) (piece before : List ℕ) (after : Option (List ℕ)) → after ≡ Some before → Step start piece [] end → RanPiece start piece before false end after
+ran_blank start end piece before after p step = record { made = []; step = step; written = p ∙ ap Some (sym (append-nil before)); refused = refl }
+
+-- a piece whose outcome's text was written
+pub ran_piece : (start end : SessionState) (piece before : List ℕ) (o : Outcome) (old new : Option (List ℕ)) → old ≡ Some before → MatchTold old new (Appends (outcome_text o))
+    → Step start piece (o ∷ []) end → RanPiece start piece before (is_refusal o) end new
+ran_piece start end piece before o old new p m step = record {
+  made = o ∷ [];
+  step = step;
+  written = appended old new before (outcome_text o) p m ∙ ap (λ t. Some (before ++ t)) (sym (append-nil (outcome_text o)));
+  refused = or_false (is_refusal o);
 }
+
+-- a piece whose outcome's text could not be written
+pub failed_piece : (start end : SessionState) (piece before : List ℕ) (o : Outcome) (old new : Option (List ℕ)) → old ≡ Some before → MatchTold old new (AppendsPrefix (outcome_text o))
+    → Step start piece (o ∷ []) end → FailedPiece start piece before new
+failed_piece start end piece before o old new p m step =
+    let part = appended_part old new before (outcome_text o) p m in
+    record { last = o; end = end; step = step; part = part.0; written = part.1 }
+
+-- One piece more
 
 outcome_texts-append : (os us : List Outcome) → outcome_texts (os ++ us) ≡ outcome_texts os ++ outcome_texts us
 outcome_texts-append [] us = refl
@@ -41,9 +82,6 @@ list_any-append : (p : Outcome → Bool) (os us : List Outcome) → list_any p (
 list_any-append p [] us = refl
 list_any-append p (o ∷ os) us = ap (λ b. p o || b) (list_any-append p os us) ∙ or_assoc (p o) (list_any p os) (list_any p us)
 
-step_of : (start : SessionState) (piece : List ℕ) → Step start piece (outcomes_of start.catalog piece) start
-step_of start piece = record { outcomes = refl; state = refl }
-
 -- the text so far, and that of one piece more
 longer : (before : List ℕ) (os us : List Outcome) (after : Option (List ℕ)) → after ≡ Some ((before ++ outcome_texts os) ++ outcome_texts us) → after ≡ Some (before ++ outcome_texts (os ++ us))
 longer before os us after p = p ∙ ap Some (append_assoc before (outcome_texts os) (outcome_texts us) ∙ ap (λ t. before ++ t) (sym (outcome_texts-append os us)))
@@ -51,80 +89,80 @@ longer before os us after p = p ∙ ap Some (append_assoc before (outcome_texts 
 either : (os us : List Outcome) (r s : Bool) → list_any is_refusal os ≡ r → list_any is_refusal us ≡ s → list_any is_refusal (os ++ us) ≡ (r || s)
 either os us r s p q = list_any-append is_refusal os us ∙ (λ i. p i || q i)
 
--- what is written now, where a piece's run began with what was written before
-pub so_far : {start : SessionState} {text before rest : List ℕ} {refused : Bool} {after : Option (List ℕ)} → Ran start text before rest refused after → List ℕ
-so_far {start} {text} {before} ran = before ++ outcome_texts ran.outcomes
+take-piece : (ps : List Piece) (i : ℕ) (p : Piece) → i < length ps → p ≡ get_or ps i p
+    → take (suc i) (map (λ (p : Piece). p.bytes) ps) ≡ take i (map (λ (p : Piece). p.bytes) ps) ++ p.bytes ∷ []
+take-piece [] i p h e = absurd (omega arith)
+take-piece (q ∷ ps) zero p h e = ap (λ (x : Piece). x.bytes ∷ []) (sym e)
+take-piece (q ∷ ps) (suc i) p h e = ap (λ rs. q.bytes ∷ rs) (take-piece ps i p (omega arith) e)
 
--- one piece more
-pub ran_more : (start : SessionState) (text before rest piece more : List ℕ) (r s : Bool) (middle after : Option (List ℕ)) → (ran : Ran start text before rest r middle)
-    → pieces_of rest ≡ piece ∷ pieces_of more → RanPiece (outcomes_of start.catalog piece) (before ++ outcome_texts ran.outcomes) s after → Ran start text before more (r || s) after
-ran_more start text before rest piece more r s middle after ran split step = record {
-  done = ran.done ++ piece ∷ [];
-  outcomes = ran.outcomes ++ outcomes_of start.catalog piece;
-  pieces = ran.pieces ∙ ap (λ ps. ran.done ++ ps) split ∙ sym (append_assoc ran.done (piece ∷ []) (pieces_of more));
-  runs = one_more ran.runs (step_of start piece);
-  written = longer before ran.outcomes (outcomes_of start.catalog piece) after step.written;
-  refused = either ran.outcomes (outcomes_of start.catalog piece) r s ran.refused step.refused;
+take-next : (text : List ℕ) (i : ℕ) (p : Piece) → i < length (pieces_of text) → p ≡ get_or (pieces_of text) i p
+    → take (i + 1) (session_pieces text) ≡ take i (session_pieces text) ++ p.bytes ∷ []
+take-next text i p h e = rw add-one (take-piece (pieces_of text) i p h e)
+
+runs_on : (start : SessionState) (text : List ℕ) (i : ℕ) (p : Piece) (middle end : SessionState) (os us : List Outcome) → i < length (pieces_of text) → p ≡ get_or (pieces_of text) i p
+    → RunsSession start (take i (session_pieces text)) os middle → Step middle p.bytes us end → RunsSession start (take (i + 1) (session_pieces text)) (os ++ us) end
+runs_on start text i p middle end os us h e runs step =
+    let P : List (List ℕ) → Type 0 = λ ps. RunsSession start ps (os ++ us) end in
+    subst P (sym (take-next text i p h e)) (one_more runs step)
+
+pub ran_more : (start : SessionState) (text before : List ℕ) (i : ℕ) (p : Piece) (r s : Bool) (middle end : SessionState) (written after : Option (List ℕ)) → i < length (pieces_of text)
+    → p ≡ get_or (pieces_of text) i p → (ran : Ran start text before i r middle written) → RanPiece middle p.bytes (before ++ outcome_texts ran.outcomes) s end after
+    → Ran start text before (i + 1) (r || s) end after
+ran_more start text before i p r s middle end written after h e ran step = record {
+  outcomes = ran.outcomes ++ step.made;
+  runs = runs_on start text i p middle end ran.outcomes step.made h e ran.runs step.step;
+  written = longer before ran.outcomes step.made after step.written;
+  refused = either ran.outcomes step.made r s ran.refused step.refused;
 }
 
-subst_pieces : (start : SessionState) (ps qs : List (List ℕ)) (os : List Outcome) → ps ≡ qs → RunsSession start ps os start → RunsSession start qs os start
-subst_pieces start ps qs os p h = let P : List (List ℕ) → Type 0 = λ ps. RunsSession start ps os start in subst P p h
+-- Endings
 
--- the last piece
-pub ran_whole : (start : SessionState) (text before rest piece : List ℕ) (r s : Bool) (middle after : Option (List ℕ)) → (ran : Ran start text before rest r middle)
-    → pieces_of rest ≡ piece ∷ [] → RanPiece (outcomes_of start.catalog piece) (before ++ outcome_texts ran.outcomes) s after → RanWhole start text before (r || s) after
-ran_whole start text before rest piece r s middle after ran split step = record {
-  outcomes = ran.outcomes ++ outcomes_of start.catalog piece;
-  end = start;
-  runs = subst_pieces start (ran.done ++ piece ∷ []) (pieces_of text) (ran.outcomes ++ outcomes_of start.catalog piece) (sym (ran.pieces ∙ ap (λ ps. ran.done ++ ps) split)) (one_more ran.runs (step_of start piece));
-  written = longer before ran.outcomes (outcomes_of start.catalog piece) after step.written;
-  refused = either ran.outcomes (outcomes_of start.catalog piece) r s ran.refused step.refused;
-}
-
-take-front : (ps qs : List (List ℕ)) → take (length ps) (ps ++ qs) ≡ ps
-take-front [] qs = refl
-take-front (p ∷ ps) qs = ap (λ rs. p ∷ rs) (take-front ps qs)
-
--- no memory for the next piece
-pub ran_first : (start : SessionState) (text before rest : List ℕ) (r : Bool) (middle after : Option (List ℕ)) → (ran : Ran start text before rest r middle)
-    → after ≡ Some (before ++ outcome_texts ran.outcomes) → RanFirst start text before after
-ran_first start text before rest r middle after ran same = record {
-  count = length ran.done;
+-- all pieces were run
+pub ran_all : (start : SessionState) (text before : List ℕ) (i : ℕ) (r : Bool) (end : SessionState) (after : Option (List ℕ)) → i ≡ length (pieces_of text)
+    → Ran start text before i r end after → RanWhole start text before r after
+ran_all start text before i r end after h ran = record {
+  count = i;
   outcomes = ran.outcomes;
-  end = start;
-  runs = subst_pieces start ran.done (take (length ran.done) (pieces_of text)) ran.outcomes (sym (ap (take (length ran.done)) ran.pieces ∙ take-front ran.done (pieces_of rest))) ran.runs;
-  written = same;
+  end = end;
+  runs = ran.runs;
+  whole = inl (h ∙ sym (length-map (pieces_of text) (λ (p : Piece). p.bytes)));
+  written = ran.written;
+  refused = ran.refused;
 }
 
-take-one_more : (ps : List (List ℕ)) (p : List ℕ) (qs : List (List ℕ)) → take (suc (length ps)) (ps ++ p ∷ qs) ≡ ps ++ p ∷ []
-take-one_more [] p qs = refl
-take-one_more (r ∷ ps) p qs = ap (λ rs. r ∷ rs) (take-one_more ps p qs)
+-- SESSION CLOSE was answered
+pub ran_closed : (start : SessionState) (text before : List ℕ) (i : ℕ) (r : Bool) (end : SessionState) (after : Option (List ℕ)) → end.is_closed ≡ true
+    → Ran start text before i r end after → RanWhole start text before r after
+ran_closed start text before i r end after h ran = record {
+  count = i;
+  outcomes = ran.outcomes;
+  end = end;
+  runs = ran.runs;
+  whole = inr h;
+  written = ran.written;
+  refused = ran.refused;
+}
 
-subst_outcomes : (start : SessionState) (ps : List (List ℕ)) (os us : List Outcome) → os ≡ us → RunsSession start ps os start → RunsSession start ps us start
-subst_outcomes start ps os us p h = let P : List Outcome → Type 0 = λ os. RunsSession start ps os start in subst P p h
+ran_nothing : (start : SessionState) (text before : List ℕ) (after : Option (List ℕ)) → after ≡ Some before → RanFirst start text before after
+ran_nothing start text before after p = record { count = 0; outcomes = []; end = start; runs = begun; written = p ∙ ap Some (sym (append-nil before)) }
 
--- the next piece's text could not be written
-pub ran_failed : (start : SessionState) (text before rest piece : List ℕ) (more : List (List ℕ)) (r : Bool) (middle after : Option (List ℕ)) → (ran : Ran start text before rest r middle)
-    → pieces_of rest ≡ piece ∷ more → FailedPiece (outcomes_of start.catalog piece) (before ++ outcome_texts ran.outcomes) after → RanAndFailed start text before after
-ran_failed start text before rest piece more r middle after ran split failed = record {
-  count = suc (length ran.done);
+-- the run of a piece ended early, and so that of the text
+pub text_fault : (start : SessionState) (text before : List ℕ) (i : ℕ) (p : Piece) (r : Bool) (middle : SessionState) (written after : Option (List ℕ)) (e : RunFault)
+    → i < length (pieces_of text) → p ≡ get_or (pieces_of text) i p → (ran : Ran start text before i r middle written)
+    → PieceFault middle p.bytes (before ++ outcome_texts ran.outcomes) e after → TextFault start text before e after
+text_fault start text before i p r middle written after fault.Sink h e ran failed = record {
+  count = i + 1;
   outcomes = ran.outcomes;
   last = failed.last;
-  end = start;
-  runs = subst_outcomes start (take (suc (length ran.done)) (pieces_of text)) (ran.outcomes ++ outcomes_of start.catalog piece) (ran.outcomes ++ failed.last ∷ []) (ap (λ us. ran.outcomes ++ us) failed.one)
-      (subst_pieces start (ran.done ++ piece ∷ []) (take (suc (length ran.done)) (pieces_of text)) (ran.outcomes ++ outcomes_of start.catalog piece)
-      (sym (ap (take (suc (length ran.done))) (ran.pieces ∙ ap (λ ps. ran.done ++ ps) split) ∙ take-one_more ran.done piece more)) (one_more ran.runs (step_of start piece)));
+  end = failed.end;
+  runs = runs_on start text i p middle failed.end ran.outcomes (failed.last ∷ []) h e ran.runs failed.step;
   part = failed.part;
   written = failed.written;
 }
+text_fault start text before i p r middle written after fault.OutOfMemory h e ran same = record { count = i; outcomes = ran.outcomes; end = middle; runs = ran.runs; written = same }
 
--- the first piece, whether others stand behind it or none
-pub first_piece : {R : Type 0} (rest : Option R) (f : R → List (List ℕ)) (ps : List (List ℕ)) (p : List ℕ) → MatchOption rest (ps ≡ p ∷ []) (λ r. ps ≡ p ∷ f r) → (more : List (List ℕ)) × (ps ≡ p ∷ more)
-first_piece None f ps p h = ([], h)
-first_piece (Some r) f ps p h = (f r, h)
-
--- the run of a piece ended early, and so that of the text
-pub text_fault : (start : SessionState) (text before rest piece : List ℕ) (more : List (List ℕ)) (r : Bool) (middle after : Option (List ℕ)) (e : RunFault) → (ran : Ran start text before rest r middle)
-    → pieces_of rest ≡ piece ∷ more → PieceFault (outcomes_of start.catalog piece) (before ++ outcome_texts ran.outcomes) e after → TextFault start text before e after
-text_fault start text before rest piece more r middle after fault.Sink ran split h = ran_failed start text before rest piece more r middle after ran split h
-text_fault start text before rest piece more r middle after fault.OutOfMemory ran split h = ran_first start text before rest r middle after ran h
+-- no memory for the pieces at all
+pub none_ran : (start : SessionState) (text before : List ℕ) (r : Result Bool RunFault) (after : Option (List ℕ)) → after ≡ Some before
+    → IsErr r × IsErrAnd r (λ e. e ≡ fault.OutOfMemory) → TextEnding start text before r after
+none_ran start text before (Ok b) after p h = let no = h.0 in cc
+none_ran start text before (Err e) after p h = let P : RunFault → Type 0 = λ e. TextFault start text before e after in subst P (sym h.1) (ran_nothing start text before after p)

@@ -1,11 +1,11 @@
 pub mod Words
 pub mod Pieces
-pub mod Tokens
-pub mod TokenMeaning
-pub mod Statement
-pub mod Outcome
-pub mod AnswerMeaning
+pub mod Reading
+pub mod SessionState
+pub mod StatementRun
+pub mod Outcomes
 pub mod SessionRun
+pub mod Meaning
 pub mod Endings
 pub mod Status
 pub mod Loading

@@ -1,12 +1,7 @@
--- How a session's text is cut into pieces.
-use Rattle.std.specs.Prelude.{ℕ, ◌==◌, List, [], ◌∷◌, if◌then◌else◌}
+-- The pieces of a session: the bytes before each `;` of its lexemes, and what stands behind the last.
+use Rattle.std.specs.Prelude.{ℕ, List, map}
+use Rattle.gql_lexer.specs.Pieces.{pieces_of}
+use Rattle.gql_lexer.specs.declared.piece.Piece.{Piece}
 
--- the byte stands at the front of the first piece
-abbrev pub in_first : ℕ → List (List ℕ) → List (List ℕ)
-in_first c [] = (c ∷ []) ∷ []
-in_first c (piece ∷ pieces) = (c ∷ piece) ∷ pieces
-
--- the bytes between the semicolons: one piece more than there are semicolons
-abbrev pub pieces_of : List ℕ → List (List ℕ)
-pieces_of [] = [] ∷ []
-pieces_of (c ∷ cs) = if c == 59 then [] ∷ pieces_of cs else in_first c (pieces_of cs)
+abbrev pub session_pieces : List ℕ → List (List ℕ)
+session_pieces text = map (λ (p : Piece). p.bytes) (pieces_of text)

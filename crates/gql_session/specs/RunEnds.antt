@@ -8,7 +8,7 @@ use Rattle.gql_graph.specs.Catalog.{CatalogData}
 use Rattle.gql_rowcode.specs.StandFor.{StandFor}
 use Rattle.gql_rowcode.specs.FirstBad.{FirstBad}
 use Rattle.gql_session.specs.Words.{session_of}
-use Rattle.gql_session.specs.SessionRun.{SessionState, RunsSession, starting}
+use Rattle.gql_session.specs.SessionState.{SessionState, starting}
 use Rattle.gql_session.specs.Endings.{RanWhole, RanFirst, RanAndFailed}
 use Rattle.gql_session.specs.declared.status.Status.{Status}
 use Rattle.gql_session.specs.declared.status.Status.TheVariants as status

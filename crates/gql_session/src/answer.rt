@@ -1,87 +1,49 @@
-ghost use Rattle.std.specs.Prelude.{◌≡◌, ◌≢◌, [], ◌∷◌, string_bytes, Option, Some, IfOk, MatchOption, MatchBool, option_map, codes, true};
-ghost use Rattle.gql_session.specs.Tokens.{tokens_of};
-ghost use Rattle.gql_session.specs.Statement.{statement_of};
-ghost use Rattle.gql_session.specs.Outcome.{outcomes_of, answer_of, rows_of};
-ghost use Rattle.gql_graph.specs.Catalog.{graph_of};
-ghost use Rattle.gql_session.specs.AnswerMeaning.{Shows};
+//! The answer to one piece of a session.
+ghost use Rattle.std.specs.Prelude.{◌≡◌, ◌<◌, ◌^◌, false, length, option_to_list, IfOk, OnOk};
+ghost use Rattle.gql_session.specs.SessionRun.{outcomes_of, state_behind, Step};
+ghost use Rattle.gql_session.specs.Meaning.{state_of, reading_of};
 
-use crate::statement::{NodeQuery, statement};
-use crate::table::table_text;
-use crate::tokens::next_token;
+use crate::reading::{Read, read_piece};
+use crate::state::Session;
+use crate::statement::run_statement;
+use gql_ast::{Outcome, Refusal};
 use gql_graph::Catalog;
 use gql_values3::OutOfMemory;
 use std::alloc::Global;
 
-/// The text of a statement's outcome, and whether it is a refusal.
-#[derive(Debug, Drop)]
-pub struct Answer {
-    pub text: String,
-    pub refused: bool,
-}
-
-/// The answer to a piece; none where it is white space alone.
+/// The outcome of a piece, or none where it is blank; the session goes one step.
 pub fn answer_piece(
     alloc: Global,
     catalog: &Catalog,
+    session: &mut Session,
     piece: &[u8],
-) -> Result<Option<Answer>, OutOfMemory>
-    ensures { IfOk result (λ found. MatchOption found (outcomes_of catalog.now piece.now ≡ [])
-        (λ a. (outcomes_of catalog.now piece.now ≡ answer_of catalog.now (statement_of (tokens_of piece.now)) ∷ []) × Shows (answer_of catalog.now (statement_of (tokens_of piece.now))) a)) }
+) -> Result<Option<Outcome>, OutOfMemory>
+    requires short { length piece.now < 2 ^ 32 }
+    requires goes_on { session.old.is_closed ≡ false }
+    ensures { IfOk result (λ made. Step (state_of catalog.now session.old) piece.now (option_to_list made) (state_of catalog.now session.new)) }
 {
-    if is_blank(piece) {
-        return Ok(None);
-    }
-    Ok(Some(answer_statement(alloc, catalog, statement(piece))?))
+    let read = read_piece(alloc, piece)?;
+    answer_read(alloc, catalog, session, &read)
 }
 
-/// Whether the piece is white space alone.
-fn is_blank(piece: &[u8]) -> bool
-    ensures { MatchBool result (tokens_of piece.now ≡ []) (tokens_of piece.now ≢ []) }
-{
-    match next_token(piece) {
-        None => true,
-        Some(_) => false,
-    }
-}
-
-/// The answer to a statement, or that there is none.
-fn answer_statement(
+/// The same of a piece that reads so.
+fn answer_read(
     alloc: Global,
     catalog: &Catalog,
-    found: Option<NodeQuery<'_>>,
-) -> Result<Answer, OutOfMemory>
-    ensures { IfOk result (Shows (answer_of catalog.now (option_map (λ s. (s.name.now, s.label.now)) found.entry))) }
+    session: &mut Session,
+    read: &Read,
+) -> Result<Option<Outcome>, OutOfMemory>
+    ensures outcomes { IfOk result (λ made. option_to_list made ≡ outcomes_of (state_of catalog.now session.old) (reading_of read.now)) }
+    ensures state { OnOk result (state_of catalog.now session.new ≡ state_behind (state_of catalog.now session.old) (reading_of read.now)) }
 {
-    match found {
-        None => refusal(alloc, "refused E03 SYNTAX\n"),
-        Some(query) => answer_query(alloc, catalog, query),
+    match read {
+        Read::Blank => Ok(None),
+        Read::Bad => Ok(Some(Outcome::Refused(Refusal::Lex))),
+        Read::Deep => Ok(Some(Outcome::Refused(Refusal::Deep))),
+        Read::Unread => Ok(Some(Outcome::Refused(Refusal::Syntax))),
+        Read::Statement(statement) => {
+            let outcome = run_statement(alloc, catalog, session, statement)?;
+            Ok(Some(outcome))
+        }
     }
-}
-
-/// The rows of a query over the graph that a session begins with.
-fn answer_query(
-    alloc: Global,
-    catalog: &Catalog,
-    query: NodeQuery<'_>,
-) -> Result<Answer, OutOfMemory>
-    ensures { IfOk result (Shows (rows_of query.entry.name.now query.entry.label.now (graph_of catalog.now (codes "home")))) }
-{
-    match catalog.graph("home") {
-        None => refusal(alloc, "refused E06 NO_SUCH home\n"),
-        Some(graph) => Ok(Answer {
-            text: table_text(alloc, graph, query.name, query.label)?,
-            refused: false,
-        }),
-    }
-}
-
-/// A refusal of this text.
-fn refusal(alloc: Global, text: &str) -> Result<Answer, OutOfMemory>
-    ensures text { IfOk result (λ a. string_bytes a.text ≡ text.now) }
-    ensures refused { IfOk result (λ a. a.refused ≡ true) }
-{
-    Ok(Answer {
-        text: String::from_str(alloc, text)?,
-        refused: true,
-    })
 }

@@ -24,7 +24,8 @@ pub enum TextFault {
 
 /// Opens a text and reads all of it.
 pub fn read_named<S: Source>(alloc: Global, name: &str, source: &mut S) -> Result<Bytes, TextFault>
-    ensures all { (c : Content) → S.told source.old ≡ Some c → c.name ≡ name.now → IfOk result (λ bytes. (bytes ≡ c.left) × (length bytes ≤ LIMIT)) }
+    ensures all { (c : Content) → S.told source.old ≡ Some c → c.name ≡ name.now → IfOk result (λ bytes. bytes ≡ c.left) }
+    ensures within { IfOk result (λ bytes. length bytes ≤ LIMIT) }
     ensures too_long { (c : Content) → S.told source.old ≡ Some c → c.name ≡ name.now → result ≡ Err TextFault.TooLong → LIMIT < length c.left }
     ensures later { S.faults source.old ≤ S.faults source.new }
     ensures failed { result ≡ Err TextFault.Failed → Rose (S.faults source.old) (S.faults source.new) }
@@ -37,7 +38,8 @@ pub fn read_named<S: Source>(alloc: Global, name: &str, source: &mut S) -> Resul
 
 /// Reads all there is. Each read before the end gives a byte at least, so the limit ends a text that has no end.
 fn read_all<S: Source>(alloc: Global, source: &mut S) -> Result<Bytes, TextFault>
-    ensures all { (c : Content) → S.told source.old ≡ Some c → c.ready ≡ true → IfOk result (λ bytes. (bytes ≡ c.left) × (length bytes ≤ LIMIT)) }
+    ensures all { (c : Content) → S.told source.old ≡ Some c → c.ready ≡ true → IfOk result (λ bytes. bytes ≡ c.left) }
+    ensures within { IfOk result (λ bytes. length bytes ≤ LIMIT) }
     ensures too_long { (c : Content) → S.told source.old ≡ Some c → c.ready ≡ true → result ≡ Err TextFault.TooLong → LIMIT < length c.left }
     ensures later { S.faults source.old ≤ S.faults source.new }
     ensures failed { result ≡ Err TextFault.Failed → Rose (S.faults source.old) (S.faults source.new) }

@@ -1,15 +1,21 @@
-ghost use Rattle.std.specs.Prelude.{◌≡◌, ◌≤◌, ℕ, List, [], ◌∷◌, Some};
+//! The pieces of a text, one after another.
+ghost use Rattle.std.specs.Prelude.{◌≡◌, ℕ, ◌<◌, ◌≤◌, ◌^◌, false, List, [], ◌∷◌, length, Some};
 ghost use Rattle.gql_ports.specs.Causes.{Rose};
-ghost use Rattle.gql_session.specs.Outcome.{Outcome, outcomes_of};
-ghost use Rattle.gql_session.specs.AnswerMeaning.{Shows};
-ghost use Rattle.gql_session.specs.SessionRun.{starting};
+ghost use Rattle.gql_session.specs.Outcomes.{is_refusal};
+ghost use Rattle.gql_session.specs.SessionState.{SessionState, starting};
+ghost use Rattle.gql_session.specs.SessionRun.{Step};
+ghost use Rattle.gql_session.specs.Meaning.{state_of};
 ghost use Rattle.gql_session.specs.Endings.{PieceEnding, TextEnding};
+ghost use Rattle.gql_session.specs.RunEnds.{most_bytes};
 
-use crate::answer::{Answer, answer_piece};
-use crate::pieces::cut;
+use crate::answer::answer_piece;
+use crate::state::Session;
+use gql_ast::Outcome;
 use gql_graph::Catalog;
+use gql_lexer::pieces;
 use gql_ports::Sink;
-use gql_values3::OutOfMemory;
+use gql_text::put_outcome;
+use gql_values3::{Bytes, OutOfMemory, Params};
 use std::alloc::Global;
 
 /// Why the run of a text ended early: a text could not be written, or there was no memory.
@@ -30,59 +36,85 @@ impl From<OutOfMemory> for RunFault {
     }
 }
 
-/// Runs the pieces of a text one after another, and writes each outcome's text by one `put`. Ok tells whether some
-/// statement was refused.
+/// Runs the pieces of a text one after another, and writes each outcome's text by one `put`. What stands behind a
+/// SESSION CLOSE that was answered isn't looked at. Ok tells whether some statement was refused.
 pub fn run_pieces<W: Sink>(
     alloc: Global,
     catalog: &Catalog,
     text: &[u8],
     sink: &mut W,
 ) -> Result<bool, RunFault>
+    requires { length text.now ≤ most_bytes }
     ensures told { (before : List ℕ) → W.written sink.old ≡ Some before → TextEnding (starting catalog.now) text.now before result (W.written sink.new) }
     ensures later { W.faults sink.old ≤ W.faults sink.new }
     ensures failed { result ≡ Err RunFault.Sink → Rose (W.faults sink.old) (W.faults sink.new) }
 {
-    let mut rest = text;
+    let all = pieces(alloc, text)?;
+    let mut session = Session {
+        parameters: Params::new(alloc),
+        is_closed: false,
+    };
     let mut refused = false;
-    loop {
-        let (piece, more) = cut(rest);
-        let piece_refused = match run_piece(alloc, catalog, piece, sink) {
+    for piece in all.as_slice() {
+        if session.is_closed {
+            return Ok(refused);
+        }
+        let piece_refused = match run_piece(
+            alloc,
+            catalog,
+            &mut session,
+            piece.bytes.as_slice(),
+            sink,
+        ) {
             Ok(piece_refused) => piece_refused,
             Err(fault) => return Err(fault),
         };
         refused = refused | piece_refused;
-        match more {
-            None => return Ok(refused),
-            Some(more) => rest = more,
-        }
     }
+    Ok(refused)
 }
 
-/// Runs one piece, and writes its outcome's text.
+/// Runs one piece, writes its outcome's text, and tells whether it is a refusal.
 fn run_piece<W: Sink>(
     alloc: Global,
     catalog: &Catalog,
+    session: &mut Session,
     piece: &[u8],
     sink: &mut W,
 ) -> Result<bool, RunFault>
-    ensures told { (before : List ℕ) → W.written sink.old ≡ Some before → PieceEnding (outcomes_of catalog.now piece.now) before result (W.written sink.new) }
+    requires short { length piece.now < 2 ^ 32 }
+    requires goes_on { session.old.is_closed ≡ false }
+    ensures told { (before : List ℕ) → W.written sink.old ≡ Some before → PieceEnding (state_of catalog.now session.old) piece.now before result (state_of catalog.now session.new) (W.written sink.new) }
     ensures later { W.faults sink.old ≤ W.faults sink.new }
     ensures failed { result ≡ Err RunFault.Sink → Rose (W.faults sink.old) (W.faults sink.new) }
 {
-    match answer_piece(alloc, catalog, piece)? {
+    match answer_piece(alloc, catalog, session, piece)? {
         None => Ok(false),
-        Some(answer) => write_answer(&answer, sink),
+        Some(outcome) => write_outcome(alloc, &outcome, sink),
     }
 }
 
-/// Writes an answer's text, and tells whether it is a refusal.
-fn write_answer<W: Sink>(answer: &Answer, sink: &mut W) -> Result<bool, RunFault>
-    ensures told { (before : List ℕ) (o : Outcome) → W.written sink.old ≡ Some before → Shows o answer.now → PieceEnding (o ∷ []) before result (W.written sink.new) }
+/// Writes an outcome's text by one `put`, and tells whether it is a refusal.
+fn write_outcome<W: Sink>(alloc: Global, outcome: &Outcome, sink: &mut W) -> Result<bool, RunFault>
+    ensures told { (start end : SessionState) (piece before : List ℕ) → W.written sink.old ≡ Some before → Step start piece (outcome.now ∷ []) end
+        → PieceEnding start piece before result end (W.written sink.new) }
     ensures later { W.faults sink.old ≤ W.faults sink.new }
     ensures failed { result ≡ Err RunFault.Sink → Rose (W.faults sink.old) (W.faults sink.new) }
 {
-    match sink.put(answer.text.as_bytes()) {
-        Ok(()) => Ok(answer.refused),
+    let mut text = Bytes::new(alloc);
+    put_outcome(alloc, outcome, &mut text)?;
+    match sink.put(text.as_slice()) {
+        Ok(()) => Ok(is_refusal(outcome)),
         Err(_) => Err(RunFault::Sink),
+    }
+}
+
+/// Whether the outcome is a refusal.
+fn is_refusal(outcome: &Outcome) -> bool
+    ensures { result ≡ is_refusal outcome.now }
+{
+    match outcome {
+        Outcome::Refused(_) => true,
+        Outcome::Done | Outcome::Table(_) => false,
     }
 }

@@ -5,7 +5,7 @@ ghost use Rattle.gql_ports.specs.declared.stored.Record.{Record as Stored};
 ghost use Rattle.gql_graph.specs.Catalog.{CatalogData};
 ghost use Rattle.gql_rowcode.specs.StandFor.{StandFor};
 ghost use Rattle.gql_rowcode.specs.FirstBad.{FirstBad};
-ghost use Rattle.gql_session.specs.SessionRun.{starting};
+ghost use Rattle.gql_session.specs.SessionState.{starting};
 ghost use Rattle.gql_session.specs.Endings.{status_of};
 ghost use Rattle.gql_session.specs.RunEnds.{LoadedEndsAs, EndsAs, EndsAtFault, is_before_reading};
 

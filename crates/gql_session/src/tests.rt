@@ -13,9 +13,8 @@ use std::test::Fail;
 struct Case<'a> {
     shows: &'a str,
     text: &'a str,
-    /// How many records of `TWO_NODES` are left out at the front, and how many are then kept.
-    skipped: usize,
-    kept: usize,
+    /// The records that are kept, keys and values in hex.
+    records: &'a [(&'a str, &'a str)],
     fails: Fails,
     status: u8,
     written: &'a str,
@@ -43,15 +42,24 @@ const QUERY: &str = "MATCH (x:A) RETURN x;";
 const TWO_NODES: [(&str, &str); 4] = [
     ("00", "01"),
     ("020000000000000004686f6d65", "000000000300000001"),
-    (
-        "030000000000000004686f6d6500000001",
-        "00000000000000010000000000000001410000000000000000",
-    ),
+    ("030000000000000004686f6d6500000001", LABELLED),
     (
         "030000000000000004686f6d6500000002",
         "00000000000000000000000000000000",
     ),
 ];
+
+/// A graph home with next numbers 4 and 1, and the nodes 1 to 3, labelled A and without properties.
+const THREE_NODES: [(&str, &str); 5] = [
+    ("00", "01"),
+    ("020000000000000004686f6d65", "000000000400000001"),
+    ("030000000000000004686f6d6500000001", LABELLED),
+    ("030000000000000004686f6d6500000002", LABELLED),
+    ("030000000000000004686f6d6500000003", LABELLED),
+];
+
+/// The value of a node with the label A alone.
+const LABELLED: &str = "00000000000000010000000000000001410000000000000000";
 
 fn digit(hex: u8) -> u8
     ensures { result < 16 }
@@ -73,9 +81,9 @@ fn bytes_of(alloc: Global, hex: &str) -> Result<Bytes, Fail> {
     Ok(bytes)
 }
 
-fn records_of(alloc: Global, skipped: usize, kept: usize) -> Result<Records, Fail> {
+fn records_of(alloc: Global, kept: &[(&str, &str)]) -> Result<Records, Fail> {
     let mut records = Records::new(alloc);
-    for (key, value) in TWO_NODES.iter().skip(skipped).take(kept) {
+    for (key, value) in kept {
         let key = bytes_of(alloc, key)?;
         let value = bytes_of(alloc, value)?;
         records.put(Record { key, value })?;
@@ -133,7 +141,7 @@ fn keeper_of(alloc: Global, records: Records, fails: u64) -> Result<MemKeeper, F
 fn outcome_of(alloc: Global, words: &[&str], case: &Case<'_>) -> Result<(u8, Bytes), Fail> {
     let text = Bytes::from_vec(Vec::from_slice(alloc, case.text.as_bytes())?);
     let words = words_of(alloc, words)?;
-    let records = records_of(alloc, case.skipped, case.kept)?;
+    let records = records_of(alloc, case.records)?;
     let mut source = source_of(alloc, text, case.fails.source)?;
     let mut sink = sink_of(alloc, case.fails.sink)?;
     let mut keeper = keeper_of(alloc, records, case.fails.keeper)?;
@@ -153,12 +161,12 @@ fn check(rt: &impl Abort, alloc: Global, words: &[&str], case: &Case<'_>) -> Res
     Ok(())
 }
 
-/// A session over all the records, in which nothing fails.
+/// A session over the two nodes, in which nothing fails.
 const fn plain<'a>(shows: &'a str, text: &'a str, status: u8, written: &'a str) -> Case<'a> {
     failing(shows, text, NONE, status, written)
 }
 
-/// A session over all the records.
+/// A session over the two nodes.
 const fn failing<'a>(
     shows: &'a str,
     text: &'a str,
@@ -169,44 +177,248 @@ const fn failing<'a>(
     Case {
         shows,
         text,
-        skipped: 0,
-        kept: 4,
+        records: &TWO_NODES,
         fails,
         status,
         written,
     }
 }
 
-const SYNTAX: &str = "refused E03 SYNTAX\n";
+/// The one query over these records.
+const fn over<'a>(
+    shows: &'a str,
+    records: &'a [(&'a str, &'a str)],
+    status: u8,
+    written: &'a str,
+) -> Case<'a> {
+    Case {
+        records,
+        ..plain(shows, QUERY, status, written)
+    }
+}
 
-#[test]
-fn statements_are_answered_or_refused(rt: HostRuntime) -> Result<(), Fail> {
-    let cases = [
-        plain("a node with the label", QUERY, 0, "x\n(1)\nrows 1\n"),
-        plain("an empty file", "", 0, ""),
-        plain("semicolons alone", " ;;\n\t; ", 0, ""),
-        plain(
-            "no node has the label",
-            "MATCH (x:B) RETURN x;",
-            0,
-            "x\nrows 0\n",
-        ),
-        plain("another variable", "MATCH (x:A) RETURN y;", 1, SYNTAX),
-        plain("any case", "match(n:A)\rreturn\tn", 0, "n\n(1)\nrows 1\n"),
-        plain("no space behind RETURN", "MATCH (x:A) RETURNx;", 1, SYNTAX),
-        plain(
-            "a reserved word as a label",
-            "MATCH (x:Match) RETURN x;",
-            1,
-            SYNTAX,
-        ),
-        plain("a digit first", "MATCH (1x:A) RETURN 1x;", 1, SYNTAX),
-        plain("something behind", "MATCH (x:A) RETURN x x;", 1, SYNTAX),
-    ];
-    for case in &cases {
-        check(&rt, rt.alloc(), &WORDS, case)?;
+fn check_all(rt: &impl Abort, alloc: Global, cases: &[Case<'_>]) -> Result<(), Fail> {
+    for case in cases {
+        check(rt, alloc, &WORDS, case)?;
     }
     Ok(())
+}
+
+/// Runs each row over these records.
+fn check_rows<'a>(
+    rt: &impl Abort,
+    alloc: Global,
+    records: &'a [(&'a str, &'a str)],
+    rows: &[Row<'a>],
+) -> Result<(), Fail> {
+    for (shows, text, status, written) in rows {
+        let case = Case {
+            records,
+            ..plain(*shows, *text, *status, *written)
+        };
+        check(rt, alloc, &WORDS, &case)?;
+    }
+    Ok(())
+}
+
+/// What a session shows, its text, its exit status and what it writes, where nothing fails.
+type Row<'a> = (&'a str, &'a str, u8, &'a str);
+
+const SYNTAX: &str = "refused E03 SYNTAX\n";
+
+/// Pieces that are no statement, and the blank ones between them.
+const READING: [Row<'static>; 10] = [
+    ("an empty file", "", 0, ""),
+    ("semicolons alone", ";;", 0, ""),
+    ("semicolons and white space", " ;;\n\t; ", 0, ""),
+    ("a comment alone", "-- nothing\n;", 0, ""),
+    ("no space behind RETURN", "MATCH (x:A) RETURNx;", 1, SYNTAX),
+    ("a digit first", "MATCH (1x:A) RETURN 1x;", 1, SYNTAX),
+    ("something behind", "MATCH (x:A) RETURN x x;", 1, SYNTAX),
+    ("a form of a later stage", "INSERT (:A);", 1, SYNTAX),
+    (
+        "a string that stays open",
+        "RETURN 'a;RETURN 1;",
+        1,
+        "refused E01 LEX\n",
+    ),
+    (
+        "a number beyond 64 bits",
+        "RETURN 9223372036854775808;",
+        1,
+        "refused E04 NUMBER 9223372036854775808\n",
+    ),
+];
+
+/// Statements that are refused before they run.
+const REFUSED: [Row<'static>; 4] = [
+    (
+        "an unknown variable",
+        "MATCH (x:A) RETURN y;",
+        1,
+        "refused E08 VARIABLE y\n",
+    ),
+    (
+        "a column twice",
+        "RETURN 1 AS a, 2 AS a;",
+        1,
+        "refused E16 COLUMN a\n",
+    ),
+    (
+        "an aggregate in an aggregate",
+        "RETURN SUM(COUNT(*)) AS a;",
+        1,
+        "refused E15 MISUSE\n",
+    ),
+    (
+        "a value of unknown names",
+        "SESSION SET VALUE $k = x;",
+        1,
+        "refused E08 VARIABLE x\n",
+    ),
+];
+
+/// Queries.
+const ANSWERED: [Row<'static>; 7] = [
+    ("a node with the label", QUERY, 0, "x\n(1)\nrows 1\n"),
+    (
+        "no node has the label",
+        "MATCH (x:B) RETURN x;",
+        0,
+        "x\nrows 0\n",
+    ),
+    (
+        "a reserved word as a label",
+        "MATCH (x:Match) RETURN x;",
+        0,
+        "x\nrows 0\n",
+    ),
+    ("any case", "match(n:A)\rreturn\tn", 0, "n\n(1)\nrows 1\n"),
+    (
+        "items by number",
+        "FOR i IN [10, 20] WITH ORDINALITY k RETURN i, k;",
+        0,
+        "i\tk\n10\t1\n20\t2\nrows 2\n",
+    ),
+    (
+        "a result beyond 64 bits",
+        "RETURN 9223372036854775807 + 1;",
+        1,
+        "refused E18 DATA OVERFLOW\n",
+    ),
+    (
+        "NULL in conditions",
+        "RETURN NULL = 1 OR TRUE AS a, NULL AND FALSE AS b;",
+        0,
+        "a\tb\nTRUE\tFALSE\nrows 1\n",
+    ),
+];
+
+/// Queries over three nodes.
+const OVER_THREE: [Row<'static>; 2] = [
+    (
+        "a property that is missing",
+        "MATCH (x) FILTER x.missing = 1 RETURN x;",
+        0,
+        "x\nrows 0\n",
+    ),
+    (
+        "a fault inside a pattern",
+        "MATCH (x WHERE 9223372036854775807 + 1 > 0) RETURN x;",
+        0,
+        "x\nrows 0\n",
+    ),
+];
+
+/// Statements about the session.
+const SESSIONS: [Row<'static>; 6] = [
+    (
+        "a parameter, until RESET",
+        "SESSION SET VALUE $k = 2; FOR i IN [1, 2, 3] FILTER i >= $k RETURN i ORDER BY i DESC LIMIT 1; SESSION RESET; RETURN $k;",
+        1,
+        "ok\ni\n3\nrows 1\nok\nrefused E23 PARAM $k\n",
+    ),
+    (
+        "a parameter set twice",
+        "SESSION SET VALUE $k = 1; SESSION SET VALUE $k = $k + 1; RETURN $k AS k;",
+        0,
+        "ok\nok\nk\n2\nrows 1\n",
+    ),
+    (
+        "a value that is refused",
+        "SESSION SET VALUE $k = 1; SESSION SET VALUE $k = 1 / 0; RETURN $k AS k;",
+        1,
+        "ok\nrefused E18 DATA DIVIDE_BY_ZERO\nk\n1\nrows 1\n",
+    ),
+    (
+        "nothing behind CLOSE counts",
+        "RETURN 1; SESSION CLOSE; RETURN 'a",
+        0,
+        "1\n1\nrows 1\nok\n",
+    ),
+    (
+        "without CLOSE it does",
+        "RETURN 1; RETURN 'a",
+        1,
+        "1\n1\nrows 1\nrefused E01 LEX\n",
+    ),
+    (
+        "a refusal doesn't end it",
+        "x; SESSION SET VALUE $k = 1;",
+        1,
+        "refused E03 SYNTAX\nok\n",
+    ),
+];
+
+#[test]
+fn pieces_are_read_or_refused(rt: HostRuntime) -> Result<(), Fail> {
+    check_rows(&rt, rt.alloc(), &TWO_NODES, &READING)
+}
+
+#[test]
+fn statements_are_refused_before_they_run(rt: HostRuntime) -> Result<(), Fail> {
+    check_rows(&rt, rt.alloc(), &TWO_NODES, &REFUSED)
+}
+
+#[test]
+fn queries_are_answered(rt: HostRuntime) -> Result<(), Fail> {
+    check_rows(&rt, rt.alloc(), &TWO_NODES, &ANSWERED)?;
+    check_rows(&rt, rt.alloc(), &THREE_NODES, &OVER_THREE)
+}
+
+#[test]
+fn sessions_keep_what_was_set(rt: HostRuntime) -> Result<(), Fail> {
+    check_rows(&rt, rt.alloc(), &TWO_NODES, &SESSIONS)
+}
+
+/// 1 in so many parentheses.
+fn nested(alloc: Global, depth: usize) -> Result<String, Fail> {
+    let mut text = String::new(alloc);
+    for _opened in 0..depth {
+        text.push_str("(")?;
+    }
+    text.push_str("1")?;
+    for _closed in 0..depth {
+        text.push_str(")")?;
+    }
+    Ok(text)
+}
+
+#[test]
+fn brackets_are_nested_64_deep(rt: HostRuntime) -> Result<(), Fail> {
+    let value = nested(rt.alloc(), 64)?;
+    let text = format!(in rt.alloc(); "RETURN {value};")?;
+    let written = format!(in rt.alloc(); "{value}\n1\nrows 1\n")?;
+    let case = plain("64 deep", text.as_str(), 0, written.as_str());
+    check(&rt, rt.alloc(), &WORDS, &case)
+}
+
+#[test]
+fn brackets_are_not_nested_65_deep(rt: HostRuntime) -> Result<(), Fail> {
+    let value = nested(rt.alloc(), 65)?;
+    let text = format!(in rt.alloc(); "RETURN {value};")?;
+    let case = plain("65 deep", text.as_str(), 1, "refused E02 DEEP\n");
+    check(&rt, rt.alloc(), &WORDS, &case)
 }
 
 #[test]
@@ -231,10 +443,7 @@ fn faults_have_their_statuses(rt: HostRuntime) -> Result<(), Fail> {
         failing("the store can't be opened", QUERY, keeper(1), 5, ""),
         failing("the store can't be read", QUERY, keeper(4), 5, ""),
     ];
-    for case in &cases {
-        check(&rt, rt.alloc(), &WORDS, case)?;
-    }
-    Ok(())
+    check_all(&rt, rt.alloc(), &cases)
 }
 
 #[test]
@@ -242,15 +451,13 @@ fn words_and_records_have_their_statuses(rt: HostRuntime) -> Result<(), Fail> {
     let usage = plain("no command", QUERY, 2, "");
     check(&rt, rt.alloc(), &["gql", "run", "a", "b"], &usage)?;
     check(&rt, rt.alloc(), &["gql", "go", "s"], &usage)?;
-    let mut case = plain("records without a version", QUERY, 8, "");
-    case.skipped = 1;
-    check(&rt, rt.alloc(), &WORDS, &case)?;
-    let mut case = plain("no graph home", QUERY, 1, "refused E06 NO_SUCH home\n");
-    case.kept = 1;
-    check(&rt, rt.alloc(), &WORDS, &case)?;
-    let mut case = plain("no records", QUERY, 0, "x\nrows 0\n");
-    case.kept = 0;
-    check(&rt, rt.alloc(), &WORDS, &case)
+    let all = TWO_NODES;
+    let cases = [
+        over("records without a version", &all[1..], 8, ""),
+        over("no graph home", &all[..1], 1, "refused E06 NO_SUCH home\n"),
+        over("no records", &[], 0, "x\nrows 0\n"),
+    ];
+    check_all(&rt, rt.alloc(), &cases)
 }
 
 /// One byte more than a session may have, and all white space.

@@ -29,7 +29,7 @@ pub use element::{EdgeId, Elem, Ends, NodeId};
 pub use integer::int_of;
 pub use memory::OutOfMemory;
 pub use names::{plain_name, reserved_place, spells_name};
-pub use order::total_cmp;
+pub use order::{items_cmp, total_cmp};
 pub use path::PathValue;
 pub use properties::Properties;
 pub use records::{EdgeRecord, NodeRecord};

@@ -28,9 +28,9 @@ pub fn total_cmp(a: &Value, b: &Value) -> Ordering
     }
 }
 
-/// Item by item, a prefix being less.
+/// Lists of values, item by item in the total order; a list that is a beginning of another is less. It takes no memory.
 #[cycle(total)]
-fn items_cmp(a: &[Value], b: &[Value]) -> Ordering
+pub fn items_cmp(a: &[Value], b: &[Value]) -> Ordering
     ensures { result ≡ slice_cmp datum_cmp (map datum_of a.now) (map datum_of b.now) }
 {
     for i in 0..a.len().min(b.len()) {

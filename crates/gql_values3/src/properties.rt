@@ -43,6 +43,13 @@ impl Properties {
         Properties { items }
     }
 
+    pub fn into_vec(self) -> Vec<(Text, Value)>
+        ensures { map (λ p. (p.0, datum_of p.1)) result.items ≡ self }
+    {
+        let Properties { items } = self;
+        items
+    }
+
     pub fn len(&self) -> usize
         ensures { result ≡ length self.now }
     {

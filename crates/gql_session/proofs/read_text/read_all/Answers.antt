@@ -7,7 +7,7 @@ loop-turn-init g c = rw c.new-bytes.ensures (record { later = omega arith; read 
 
 pub returns-then-count-eq0-clause-all : goal.returns-then-count-eq0-clause-all
 returns-then-count-eq0-clause-all g c = λ d h r.
-    (read_end _ _ d c.loop-turn.bytes _ c.in-Ok.count (c.loop-turn.invariant.read d h) c.in-Ok.ensures.content r c.if-count-eq0.true, c.loop-turn.invariant.small)
+    read_end _ _ d c.loop-turn.bytes _ c.in-Ok.count (c.loop-turn.invariant.read d h) c.in-Ok.ensures.content r c.if-count-eq0.true
 
 pub returns-then-len-count-clause-too_long : goal.returns-then-len-count-clause-too_long
 returns-then-len-count-clause-too_long g c = λ d h r e.

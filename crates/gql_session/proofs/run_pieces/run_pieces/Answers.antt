@@ -1,34 +1,59 @@
-use Rattle.std.proofs.Common.{◌≡◌, ◌∷◌, [], ◌++◌, arith}
-use Rattle.std.specs.Option.{MatchOption}
-use Rattle.gql_session.specs.Pieces.{pieces_of}
-use Rattle.gql_session.specs.Outcome.{outcome_texts}
-use Rattle.gql_session.specs.SessionRun.{starting}
-use Rattle.gql_session.proofs.RunLemmas.{Ran, ran_none, ran_more, ran_whole, first_piece, text_fault}
+use Rattle.std.proofs.Common.{◌≡◌, ◌<◌, ◌∙◌, ◌++◌, length, get_or, ap, arith, sym}
+use Rattle.gql_lexer.specs.Pieces.{pieces_of}
+use Rattle.gql_session.specs.Outcomes.{outcome_texts}
+use Rattle.gql_session.specs.SessionState.{starting}
+use Rattle.gql_session.specs.Meaning.{state_of}
+use Rattle.gql_session.proofs.LengthLemmas.{piece-within}
+use Rattle.gql_session.proofs.RunLemmas.{none_ran, ran_none, ran_more, ran_all, ran_closed, text_fault}
 use Rattle.gql_session.proofs.run_pieces.run_pieces.Goals as goal
 
-pub loop-piece_refused-init : goal.loop-piece_refused-init
-loop-piece_refused-init g c = record { later = omega arith; told = λ before h. ran_none (starting c.args.catalog.now) c.args.text.now before _ h }
+pub returns-in_err-all-clause-told : goal.returns-in_err-all-clause-told
+returns-in_err-all-clause-told g c = λ before h. none_ran (starting c.args.catalog.now) c.args.text.now before c.from_residual.result _ h c.from_residual.ensures
+
+pub loop-piece-init : goal.loop-piece-init
+loop-piece-init g c = record { later = omega arith; told = λ before h. rw c.new.ensures (ran_none (starting c.args.catalog.now) c.args.text.now before _ h) }
+
+pub returns-then-session-clause-told : goal.returns-then-session-clause-told
+returns-then-session-clause-told g c = λ before h.
+    let at = c.loop-piece in
+    ran_closed (starting c.args.catalog.now) c.args.text.now before at.piece-index at.refused (state_of c.args.catalog.now at.session) _ c.if-session.true (at.invariant.told before h)
+
+pub run_piece-requires-clause-short : goal.run_piece-requires-clause-short
+run_piece-requires-clause-short g c =
+    let at = c.loop-piece in
+    let items : c.as_slice-piece-items.result.now ≡ pieces_of c.args.text.now = c.as_slice-piece-items.ensures ∙ c.in_ok-all.ensures in
+    let here : at.piece-index < length (pieces_of c.args.text.now) = rw (← items) c.loop-piece-test.true in
+    let is : c.piece-item.result ≡ get_or (pieces_of c.args.text.now) at.piece-index c.piece-item.result = rw (← items) c.piece-item.is in
+    omega (arith, c.requires, ap length c.as_slice.ensures, piece-within c.args.text.now at.piece-index c.piece-item.result here is)
 
 pub returns-in-Err-clause-told : goal.returns-in-Err-clause-told
 returns-in-Err-clause-told g c = λ before h.
-    let ran = c.loop-piece_refused.invariant.told before h in
-    let split = first_piece c.cut.result.1 (λ r. pieces_of r.now) (pieces_of c.loop-piece_refused.rest.now) c.cut.result.0.now c.cut.ensures.pieces in
-    text_fault (starting c.args.catalog.now) c.args.text.now before c.loop-piece_refused.rest.now c.cut.result.0.now split.0 c.loop-piece_refused.refused _ _ c.in-Err.fault ran split.1
-    (c.in-Err.ensures.told (before ++ outcome_texts ran.outcomes) ran.written)
+    let at = c.loop-piece in
+    let items : c.as_slice-piece-items.result.now ≡ pieces_of c.args.text.now = c.as_slice-piece-items.ensures ∙ c.in_ok-all.ensures in
+    let here : at.piece-index < length (pieces_of c.args.text.now) = rw (← items) c.loop-piece-test.true in
+    let is : c.piece-item.result ≡ get_or (pieces_of c.args.text.now) at.piece-index c.piece-item.result = rw (← items) c.piece-item.is in
+    let ran = at.invariant.told before h in
+    let failed = rw c.as_slice.ensures at (c.in-Err.ensures.told (before ++ outcome_texts ran.outcomes) ran.written) in
+    text_fault (starting c.args.catalog.now) c.args.text.now before at.piece-index c.piece-item.result at.refused (state_of c.args.catalog.now at.session) _ _ c.in-Err.fault here is ran failed
 
-pub returns-in-None-clause-told : goal.returns-in-None-clause-told
-returns-in-None-clause-told g c = λ before h.
-    let ran = c.loop-piece_refused.invariant.told before h in
-    let split = rw c.in-None.is at c.cut.ensures.pieces in
-    ran_whole (starting c.args.catalog.now) c.args.text.now before c.loop-piece_refused.rest.now c.cut.result.0.now c.loop-piece_refused.refused c.in-Ok.piece_refused _ _ ran split
-    (c.in-Ok.ensures.told (before ++ outcome_texts ran.outcomes) ran.written)
-
-pub loop-piece_refused-preserved : goal.loop-piece_refused-preserved
-loop-piece_refused-preserved g c = record {
-  later = omega (arith, c.in-Ok.ensures.later, c.loop-piece_refused.invariant.later);
+pub loop-piece-preserved : goal.loop-piece-preserved
+loop-piece-preserved g c = record {
+  later = omega (arith, c.in-Ok.ensures.later, c.loop-piece.invariant.later);
   told = λ before h.
-      let ran = c.loop-piece_refused.invariant.told before h in
-      let split = rw c.in-Some.is at c.cut.ensures.pieces in
-      ran_more (starting c.args.catalog.now) c.args.text.now before c.loop-piece_refused.rest.now c.cut.result.0.now c.in-Some.more.now c.loop-piece_refused.refused c.in-Ok.piece_refused _ _ ran split
-      (c.in-Ok.ensures.told (before ++ outcome_texts ran.outcomes) ran.written);
+      let at = c.loop-piece in
+      let items : c.as_slice-piece-items.result.now ≡ pieces_of c.args.text.now = c.as_slice-piece-items.ensures ∙ c.in_ok-all.ensures in
+      let here : at.piece-index < length (pieces_of c.args.text.now) = rw (← items) c.loop-piece-test.true in
+      let is : c.piece-item.result ≡ get_or (pieces_of c.args.text.now) at.piece-index c.piece-item.result = rw (← items) c.piece-item.is in
+      let ran = at.invariant.told before h in
+      let step = rw c.as_slice.ensures at (c.in-Ok.ensures.told (before ++ outcome_texts ran.outcomes) ran.written) in
+      ran_more (starting c.args.catalog.now) c.args.text.now before at.piece-index c.piece-item.result at.refused c.in-Ok.piece_refused (state_of c.args.catalog.now at.session)
+      (state_of c.args.catalog.now c.run_piece.new.session) _ _ here is ran step;
 }
+
+pub returns-clause-told : goal.returns-clause-told
+returns-clause-told g c = λ before h.
+    let at = c.loop-piece in
+    let items : c.as_slice-piece-items.result.now ≡ pieces_of c.args.text.now = c.as_slice-piece-items.ensures ∙ c.in_ok-all.ensures in
+    let size = ap length items in
+    let all : at.piece-index ≡ length (pieces_of c.args.text.now) = omega (arith, size, c.loop-piece-test.false, at.auto.piece-index-end) in
+    ran_all (starting c.args.catalog.now) c.args.text.now before at.piece-index at.refused (state_of c.args.catalog.now at.session) _ all (at.invariant.told before h)

@@ -1,0 +1,4 @@
+pub mod BoundLemmas
+pub mod CandidateLemmas
+pub mod Examples
+pub mod SharedGraph

@@ -1,0 +1,11 @@
+-- The cause of a query's fault.
+use Rattle.gql_ast.specs.declared.refusal.Refusal.TheVariants as refusal
+use Rattle.gql_eval.specs.declared.error.EvalError.{EvalError}
+use Rattle.gql_eval.specs.declared.error.EvalError.TheVariants as error
+use Rattle.gql_linear.specs.declared.answer.RunFault.{RunFault}
+use Rattle.gql_linear.specs.declared.answer.RunFault.TheVariants as fault
+
+-- a data fault is a refusal
+abbrev pub run_fault : EvalError → RunFault
+run_fault error.OutOfMemory = fault.OutOfMemory
+run_fault (error.Fault f) = fault.Refused (refusal.Fault f)

@@ -1,0 +1,5 @@
+pub mod NodeMatch
+pub mod QueryRun
+pub mod Runs
+pub mod Causes
+pub mod RowNode

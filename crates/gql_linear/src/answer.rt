@@ -1,0 +1,43 @@
+use gql_ast::Refusal;
+use gql_eval::EvalError;
+use gql_values3::{OutOfMemory, Table};
+
+/// What a query is answered with.
+#[derive(Debug, Drop)]
+pub struct Answer {
+    /// The rows of its RETURN; none for a query that ends in a change of data, which comes at a later stage.
+    pub table: Option<Table>,
+}
+
+/// Why a query has no answer.
+#[derive(Debug, Drop)]
+pub enum RunFault {
+    /// A clause met a data fault (E18).
+    Refused(Refusal),
+    OutOfMemory,
+}
+
+impl From<EvalError> for RunFault {
+    ghost use Rattle.std.specs.Prelude.{◌≡◌};
+    ghost use Rattle.gql_linear.specs.Causes.{run_fault};
+
+    ghost from_gives = { λ error fault. fault ≡ run_fault error };
+
+    fn from(error: EvalError) -> RunFault {
+        match error {
+            EvalError::Fault(fault) => RunFault::Refused(Refusal::Fault(fault)),
+            EvalError::OutOfMemory => RunFault::OutOfMemory,
+        }
+    }
+}
+
+impl From<OutOfMemory> for RunFault {
+    ghost use Rattle.std.specs.Prelude.{◌≡◌};
+    ghost use Rattle.gql_linear.specs.declared.answer.RunFault.TheVariants.{OutOfMemory as NoMemory};
+
+    ghost from_gives = { λ _ fault. fault ≡ NoMemory };
+
+    fn from(_error: OutOfMemory) -> RunFault {
+        RunFault::OutOfMemory
+    }
+}

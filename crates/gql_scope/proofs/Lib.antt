@@ -1,0 +1,7 @@
+pub mod KnowingLemmas
+pub mod PartLemmas
+pub mod FirstLemmas
+pub mod MisuseLemmas
+pub mod RefusalLemmas
+pub mod LetLemmas
+pub mod SeenLemmas

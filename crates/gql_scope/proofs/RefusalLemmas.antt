@@ -1,0 +1,77 @@
+-- The first refusal of two lists, and what a check that stops at it answers.
+use Rattle.std.proofs.Common.{◌≡◌, ℕ, ◌+◌, ◌<◌, Bool, true, false, not, cond, ◌||◌, List, [], ◌∷◌, ◌++◌, length, map, filter, drop, get_or, Option, None, Result, Ok, Err, refl, sym, ap, subst, ◌∙◌, true≢false, arith}
+use Rattle.std.specs.Prelude.{find, option_map}
+use Rattle.std.specs.List.{list_any}
+use Rattle.std.specs.Option.{option_or}
+use Rattle.gql_values3.specs.declared.table.ColumnKind.{ColumnKind}
+use Rattle.gql_ast.specs.ClauseColumns.{ColumnList}
+use Rattle.gql_ast.specs.Projections.{is_key}
+use Rattle.gql_ast.specs.RowAggregates.{row_aggregates}
+use Rattle.gql_ast.specs.StaticRefusals.{first_of, misuse_if}
+use Rattle.gql_ast.specs.Tree.{name}
+use Rattle.gql_ast.specs.UnsetParameters.{unset, is_set}
+use Rattle.gql_values3.specs.Datum.{Datum}
+use Rattle.gql_ast.specs.declared.refusal.Refusal.TheVariants as refusal
+use Rattle.gql_ast.specs.declared.refusal.Refusal.{Refusal}
+use Rattle.gql_scope.specs.First.{first}
+use Rattle.std.specs.Result.{IsErr, IsErrAnd}
+use Rattle.std.proofs.lemmas.Grind.{common_steps}
+use Rattle.gql_scope.specs.Answers.{Answers, Refuses}
+use Rattle.gql_scope.proofs.FirstLemmas.{first-filter}
+use Rattle.gql_scope.specs.declared.fault.ScopeFault.{ScopeFault}
+use Rattle.gql_scope.specs.declared.fault.ScopeFault.TheVariants as fault
+
+-- names have no aggregates
+pub names_are_keys : (columns cs : ColumnList) → false ≡ list_any (λ e. not (is_key columns e)) (map (λ (c : List ℕ × ColumnKind). name c.0) cs)
+unfolding row_aggregates
+names_are_keys columns [] = refl
+names_are_keys columns (c ∷ cs) = names_are_keys columns cs
+
+-- the first of two lists
+pub first_of_in_two : {A : Type 0} (f : A → Refusal) (xs ys : List A) → first_of f (xs ++ ys) ≡ option_or (first_of f xs) (first_of f ys)
+first_of_in_two f [] ys = refl
+first_of_in_two f (x ∷ xs) ys = refl
+
+pub misuse_in_two : (a b : Bool) → misuse_if (a || b) ≡ option_or (misuse_if a) (misuse_if b)
+misuse_in_two true b = refl
+misuse_in_two false b = refl
+
+pub first_of-first : {A : Type 0} (f : A → Refusal) (xs : List A) → first_of f xs ≡ option_map f (first xs)
+first_of-first f [] = refl
+first_of-first f (x ∷ xs) = refl
+
+-- a check that stops at the first of two answers the first of both
+pub stops : (e : ScopeFault) (o p whole : Option Refusal) → Refuses e o → whole ≡ option_or o p → Refuses e whole
+stops (fault.Defect r) o p whole h q = q ∙ ap (λ z. option_or z p) h
+stops fault.OutOfMemory o p whole h q = tt
+
+-- and one that goes on answers what is behind
+pub goes_on : (o p whole : Option Refusal) → o ≡ None → whole ≡ option_or o p → whole ≡ p
+goes_on o p whole h q = q ∙ ap (λ z. option_or z p) h
+
+-- the first that passes is the first refusal
+pub known : {A : Type 0} (f : A → Refusal) (p : A → Bool) (xs : List A) → first_of f (filter p xs) ≡ option_map f (find p xs)
+known f p xs = first_of-first f (filter p xs) ∙ ap (option_map f) (first-filter p xs)
+
+-- the first unset of two lists of parameters
+pub unset_of_two : (params : List (List ℕ × Datum)) (xs ys : List (List ℕ))
+    → first_of refusal.Parameter (unset params (xs ++ ys)) ≡ option_or (first_of refusal.Parameter (unset params xs)) (first_of refusal.Parameter (unset params ys))
+unset_of_two params [] ys = refl
+unset_of_two params (x ∷ xs) ys = by (not (is_set params x)) (unset_of_two params xs ys)
+  where
+    by : (b : Bool) → first_of refusal.Parameter (unset params (xs ++ ys)) ≡ option_or (first_of refusal.Parameter (unset params xs)) (first_of refusal.Parameter (unset params ys))
+        → first_of refusal.Parameter (cond b (x ∷ unset params (xs ++ ys)) (unset params (xs ++ ys)))
+        ≡ option_or (first_of refusal.Parameter (cond b (x ∷ unset params xs) (unset params xs))) (first_of refusal.Parameter (unset params ys))
+    by true h = refl
+    by false h = h
+
+pub ruleset first_of_first = (first_of-first)
+
+-- what `?` gives back is the fault that it met
+pub answers_fault : (r : Result (Unit {0}) ScopeFault) (e : ScopeFault) (o : Option Refusal) → IsErr r → IsErrAnd r (λ f. f ≡ e) → Refuses e o → Answers r o
+answers_fault (Ok u) e o h same refuses = absurd (true≢false (sym h))
+answers_fault (Err f) e o h same refuses = subst (λ g. Refuses g o) (sym same) refuses
+
+-- the items from i on are the item there and those behind it
+pub drop_step : {A : Type 0} (xs : List A) (i : ℕ) (x : A) → i < length xs → x ≡ get_or xs i x → drop i xs ≡ x ∷ drop (i + 1) xs
+drop_step xs i x h p = grind (arith, common_steps)

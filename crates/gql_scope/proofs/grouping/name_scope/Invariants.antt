@@ -1,0 +1,6 @@
+use Rattle.std.proofs.Common.{◌≡◌, take}
+use Rattle.gql_scope.specs.Seen.{names_of}
+use Rattle.gql_scope.proofs.grouping.name_scope.Given as goal
+
+abbrev pub invariant-loop-name : goal.invariant-loop-name
+invariant-loop-name l = names_of l.named ≡ take l.name-index l.names

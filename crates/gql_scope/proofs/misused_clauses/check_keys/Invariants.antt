@@ -1,0 +1,11 @@
+use Rattle.std.proofs.Common.{◌≡◌, drop}
+use Rattle.std.specs.List.{list_any}
+use Rattle.gql_ast.specs.StaticRefusals.{misuse_if}
+use Rattle.gql_ast.specs.Misuses.{misused_expr, elsewhere}
+use Rattle.gql_ast.specs.declared.page.SortItem.{SortItem}
+use Rattle.gql_scope.proofs.misused_clauses.check_keys.Given as goal
+
+abbrev pub invariant-loop-item : goal.invariant-loop-item
+invariant-loop-item l =
+    misuse_if (list_any (λ (i : SortItem). misused_expr l.scope elsewhere i.key) (drop l.item-index l.keys))
+    ≡ misuse_if (list_any (λ (i : SortItem). misused_expr l.scope elsewhere i.key) l.keys)

@@ -1,0 +1,173 @@
+//! The columns behind each clause.
+
+ghost use Rattle.std.specs.Prelude.{◌≡◌, [], ◌∷◌, ◌++◌, OnOk};
+ghost use Rattle.std.specs.Option.{option_copied};
+ghost use Rattle.gql_ast.specs.Meaning.{tree_of};
+ghost use Rattle.gql_ast.specs.Outputs.{kind_of, element_kind};
+ghost use Rattle.gql_ast.specs.ClauseColumns.{let_columns, counter_column, for_columns, node_of_pattern, node_among, with_node, match_columns};
+ghost use Rattle.gql_ast.specs.Projections.{columns_behind, output_columns};
+
+use crate::columns::Scope;
+use crate::outputs::output_scope;
+use gql_ast::{
+    Clause, Counting, Expr, Filler, For, GraphPattern, LetItem, PathExpr, PathPattern, ReturnItems,
+};
+use gql_values3::{ColumnKind, OutOfMemory, Text};
+use std::alloc::Global;
+
+/// What a column of the value holds: a bare variable keeps what it holds.
+pub fn kind_of(scope: &Scope, expr: &Expr) -> ColumnKind
+    ensures { result ≡ kind_of scope.now (tree_of expr.now) }
+{
+    match expr {
+        Expr::Name(name) => scope.kind(name),
+        _ => ColumnKind::Plain,
+    }
+}
+
+/// What an item of a list holds.
+pub fn element_kind(kind: ColumnKind) -> ColumnKind
+    ensures { result ≡ element_kind kind }
+{
+    match kind {
+        ColumnKind::Nodes => ColumnKind::Node,
+        ColumnKind::Edges => ColumnKind::Edge,
+        _ => ColumnKind::Plain,
+    }
+}
+
+/// Adds a column, with a copy of its name.
+pub fn push_copy(
+    alloc: Global,
+    scope: &mut Scope,
+    name: &Text,
+    kind: ColumnKind,
+) -> Result<(), OutOfMemory>
+    ensures { OnOk result (scope.new ≡ scope.old ++ (name.now, kind) ∷ []) }
+{
+    scope.push(name.try_copy(alloc)?, kind)
+}
+
+/// Adds the column of an item of LET.
+pub fn push_let_item(alloc: Global, scope: &mut Scope, item: &LetItem) -> Result<(), OutOfMemory>
+    ensures { OnOk result (scope.new ≡ scope.old ++ (item.now.name, kind_of scope.old (tree_of item.now.value)) ∷ []) }
+{
+    let kind = kind_of(scope, &item.value);
+    push_copy(alloc, scope, &item.name, kind)
+}
+
+/// Adds the columns of LET.
+pub fn push_let(alloc: Global, scope: &mut Scope, items: &[LetItem]) -> Result<(), OutOfMemory>
+    ensures { OnOk result (scope.new ≡ let_columns scope.old items.now) }
+{
+    for item in items {
+        push_let_item(alloc, scope, item)?;
+    }
+    Ok(())
+}
+
+/// Adds the column of the item of FOR.
+pub fn push_for_item(alloc: Global, scope: &mut Scope, clause: &For) -> Result<(), OutOfMemory>
+    ensures { OnOk result (scope.new ≡ scope.old ++ (clause.now.name, element_kind (kind_of scope.old (tree_of clause.now.list))) ∷ []) }
+{
+    let kind = element_kind(kind_of(scope, &clause.list));
+    push_copy(alloc, scope, &clause.name, kind)
+}
+
+/// Adds the column of FOR's counter, where there is one.
+pub fn push_counter(
+    alloc: Global,
+    scope: &mut Scope,
+    counter: &Option<(Counting, Text)>,
+) -> Result<(), OutOfMemory>
+    ensures { OnOk result (scope.new ≡ scope.old ++ counter_column counter.now) }
+{
+    match counter {
+        None => Ok(()),
+        Some((_, name)) => push_copy(alloc, scope, name, ColumnKind::Plain),
+    }
+}
+
+/// Adds the columns of FOR.
+pub fn push_for(alloc: Global, scope: &mut Scope, clause: &For) -> Result<(), OutOfMemory>
+    ensures { OnOk result (scope.new ≡ for_columns scope.old clause.now) }
+{
+    push_for_item(alloc, scope, clause)?;
+    push_counter(alloc, scope, &clause.counter)
+}
+
+/// The node of a pattern that is one node alone, without a name and a prefix.
+pub fn node_of(pattern: &GraphPattern) -> Option<&Filler>
+    ensures { option_copied result ≡ node_of_pattern pattern.now }
+{
+    node_among(pattern.paths.as_slice())
+}
+
+fn node_among(paths: &[PathPattern]) -> Option<&Filler>
+    ensures { option_copied result ≡ node_among paths.now }
+{
+    match paths {
+        [
+            PathPattern {
+                name: None,
+                prefix: None,
+                expr: PathExpr::Node(filler),
+            },
+        ] => Some(filler),
+        _ => None,
+    }
+}
+
+/// Adds the column of a node's variable, where that is no column yet.
+pub fn push_node(
+    alloc: Global,
+    scope: &mut Scope,
+    variable: &Option<Text>,
+) -> Result<(), OutOfMemory>
+    ensures { OnOk result (scope.new ≡ with_node scope.old variable.now) }
+{
+    match variable {
+        Some(name) if !scope.contains(name) => push_copy(alloc, scope, name, ColumnKind::Node),
+        _ => Ok(()),
+    }
+}
+
+/// Adds the columns of a pattern's variables.
+pub fn push_pattern(
+    alloc: Global,
+    scope: &mut Scope,
+    pattern: &GraphPattern,
+) -> Result<(), OutOfMemory>
+    ensures { OnOk result (scope.new ≡ match_columns scope.old pattern.now) }
+{
+    match node_of(pattern) {
+        Some(filler) => push_node(alloc, scope, &filler.variable),
+        None => Ok(()),
+    }
+}
+
+/// Changes the columns to those behind the clause.
+pub fn step(alloc: Global, scope: &mut Scope, clause: &Clause) -> Result<(), OutOfMemory>
+    ensures { OnOk result (scope.new ≡ columns_behind scope.old clause.now) }
+{
+    match clause {
+        Clause::Match(m) => push_pattern(alloc, scope, &m.pattern),
+        Clause::Let(items) => push_let(alloc, scope, items.as_slice()),
+        Clause::For(clause) => push_for(alloc, scope, clause),
+        Clause::Return(clause) => keep_outputs(alloc, scope, &clause.items),
+        Clause::Filter(_) | Clause::Page(_) | Clause::Change(_) => Ok(()),
+    }
+}
+
+/// Changes the columns to those that RETURN gives.
+pub fn keep_outputs(
+    alloc: Global,
+    scope: &mut Scope,
+    items: &ReturnItems,
+) -> Result<(), OutOfMemory>
+    ensures { OnOk result (scope.new ≡ output_columns scope.old items.now) }
+{
+    let outputs = output_scope(alloc, scope, items)?;
+    *scope = outputs;
+    Ok(())
+}

@@ -1,0 +1,71 @@
+//! The first static refusal of a statement: by code, and within one code the first in the text.
+
+ghost use Rattle.std.specs.Prelude.{◌≡◌, [], Some, None, OnOk, IfErr};
+ghost use Rattle.gql_ast.specs.Meaning.{tree_of};
+ghost use Rattle.gql_ast.specs.StaticRefusals.{static_refusal, query_refusal, session_refusal};
+ghost use Rattle.gql_scope.specs.Answers.{Answers, Refuses};
+ghost use Rattle.gql_scope.specs.ValueRefusal.{value_refusal};
+
+use crate::column_faults::column_faults;
+use crate::columns::Scope;
+use crate::fault::ScopeFault;
+use crate::misused_clauses::{check_expr as check_misuse, misused_clauses};
+use crate::unknown_names::{check_names, unknown_names};
+use crate::unset_parameters::{check_expr as check_parameters, unset_parameters};
+use crate::wrong_kinds::wrong_kinds;
+use gql_ast::{Clause, Expr, SessionStatement, Statement};
+use gql_values3::Params;
+use std::alloc::Global;
+
+/// Whether the statement may be run under the parameters, or its first static refusal.
+pub fn check(alloc: Global, statement: &Statement, params: &Params) -> Result<(), ScopeFault>
+    ensures clean { OnOk result (static_refusal params.now statement.now ≡ None) }
+    ensures defect { IfErr result (λ fault. Refuses fault (static_refusal params.now statement.now)) }
+{
+    check_statement(alloc, statement, params)
+}
+
+fn check_statement(alloc: Global, statement: &Statement, params: &Params) -> Result<(), ScopeFault>
+    ensures { Answers result (static_refusal params.now statement.now) }
+{
+    match statement {
+        Statement::Query(query) => check_query(alloc, query.clauses.as_slice(), params),
+        Statement::Session(statement) => check_session(alloc, statement, params),
+        Statement::Transaction(_) | Statement::Catalog(_) => Ok(()),
+    }
+}
+
+/// Checks a query, which begins without columns.
+fn check_query(alloc: Global, clauses: &[Clause], params: &Params) -> Result<(), ScopeFault>
+    ensures { Answers result (query_refusal params.now clauses.now) }
+{
+    unknown_names(alloc, clauses)?;
+    wrong_kinds(alloc, clauses)?;
+    misused_clauses(alloc, clauses)?;
+    column_faults(alloc, clauses)?;
+    unset_parameters(alloc, params, clauses)
+}
+
+/// Checks a statement about the session.
+fn check_session(
+    alloc: Global,
+    statement: &SessionStatement,
+    params: &Params,
+) -> Result<(), ScopeFault>
+    ensures { Answers result (session_refusal params.now statement.now) }
+{
+    match statement {
+        SessionStatement::SetValue(_, value) => check_value(alloc, value, params),
+        _ => Ok(()),
+    }
+}
+
+/// Checks the value of a parameter, which is evaluated over no columns.
+fn check_value(alloc: Global, value: &Expr, params: &Params) -> Result<(), ScopeFault>
+    ensures { Answers result (value_refusal params.now (tree_of value.now)) }
+{
+    let scope = Scope::new(alloc);
+    check_names(alloc, &scope, value)?;
+    check_misuse(&scope, value)?;
+    check_parameters(alloc, params, value)
+}

@@ -1,0 +1,223 @@
+//! E15: something is misused in a clause.
+
+ghost use Rattle.std.specs.Prelude.{◌≡◌, [], ◌∷◌, ◌++◌, ◌||◌, OnOk};
+ghost use Rattle.std.specs.Option.{option_copied};
+ghost use Rattle.std.specs.List.{list_any};
+ghost use Rattle.gql_ast.specs.ClauseColumns.{with_filler, match_columns, let_columns, for_columns};
+ghost use Rattle.gql_ast.specs.Meaning.{tree_of};
+ghost use Rattle.gql_ast.specs.Misuses.{misused_expr, misused_if, misused_condition, misused_node, misused_pattern, misused_let, misused_keys, misused_order, misused_page, misused_items, misused_clause, misused_clauses, item, elsewhere};
+ghost use Rattle.gql_ast.specs.Outputs.{kind_of};
+ghost use Rattle.gql_ast.specs.Projections.{columns_behind, sort_columns, output_columns};
+ghost use Rattle.gql_ast.specs.StaticRefusals.{misuse_if};
+ghost use Rattle.gql_scope.specs.Answers.{Answers};
+ghost use Rattle.gql_scope.specs.Places.{place_of, columns_at};
+
+use crate::behind::{keep_outputs, node_of, push_for, push_let_item, push_node};
+use crate::columns::Scope;
+use crate::fault::ScopeFault;
+use crate::misuses::{Place, is_misused};
+use crate::outputs::sort_scope;
+use gql_ast::{
+    Clause, Condition, Expr, Filler, For, GraphPattern, LetItem, MapItem, Page, Refusal, Return,
+    ReturnItem, ReturnItems, SortItem,
+};
+use std::alloc::Global;
+
+/// Checks an expression at its place.
+fn check_at(scope: &Scope, place: &Place, expr: &Expr) -> Result<(), ScopeFault>
+    ensures { Answers result (misuse_if (misused_expr (columns_at scope.now place.now) (place_of place.now) expr.now)) }
+{
+    if is_misused(scope, place, expr) {
+        return Err(ScopeFault::Defect(Refusal::Misuse));
+    }
+    Ok(())
+}
+
+/// Checks an expression outside the items of RETURN.
+pub fn check_expr(scope: &Scope, expr: &Expr) -> Result<(), ScopeFault>
+    ensures { Answers result (misuse_if (misused_expr scope.now elsewhere expr.now)) }
+{
+    check_at(scope, &Place::Elsewhere, expr)
+}
+
+/// Checks an expression that may be there.
+fn check_if(scope: &Scope, expr: &Option<Expr>) -> Result<(), ScopeFault>
+    ensures { Answers result (misuse_if (misused_if scope.now expr.now)) }
+{
+    match expr {
+        None => Ok(()),
+        Some(expr) => check_expr(scope, expr),
+    }
+}
+
+/// Checks a map's values.
+#[tactic(auto, using(crate::proofs::RefusalLemmas::misuse_in_two))]
+fn check_map(scope: &Scope, items: &[MapItem]) -> Result<(), ScopeFault>
+    ensures { Answers result (misuse_if (list_any (λ i. misused_expr scope.now elsewhere i.value) items.now)) }
+{
+    for item in items {
+        check_expr(scope, &item.value)?;
+    }
+    Ok(())
+}
+
+/// Checks a node's conditions.
+fn check_condition(scope: &Scope, condition: &Option<Condition>) -> Result<(), ScopeFault>
+    ensures { Answers result (misuse_if (misused_condition scope.now condition.now)) }
+{
+    match condition {
+        None => Ok(()),
+        Some(Condition::Map(items)) => check_map(scope, items.as_slice()),
+        Some(Condition::Where(expr)) => check_expr(scope, expr),
+    }
+}
+
+/// Checks a node, and adds its variable.
+fn check_node(alloc: Global, scope: &mut Scope, node: Option<&Filler>) -> Result<(), ScopeFault>
+    ensures misuses { Answers result (misuse_if (misused_node scope.old (option_copied node.entry))) }
+    ensures columns { OnOk result (scope.new ≡ with_filler scope.old (option_copied node.entry)) }
+{
+    match node {
+        None => Ok(()),
+        Some(filler) => {
+            push_node(alloc, scope, &filler.variable)?;
+            check_condition(scope, &filler.condition)
+        }
+    }
+}
+
+/// Checks a pattern, and adds its variables.
+#[tactic(auto, using(crate::proofs::RefusalLemmas::misuse_in_two))]
+fn check_pattern(alloc: Global, scope: &mut Scope, pattern: &GraphPattern) -> Result<(), ScopeFault>
+    ensures misuses { Answers result (misuse_if (misused_pattern scope.old pattern.now)) }
+    ensures columns { OnOk result (scope.new ≡ match_columns scope.old pattern.now) }
+{
+    check_node(alloc, scope, node_of(pattern))?;
+    check_if(scope, &pattern.condition)
+}
+
+/// Checks an item of LET, and adds its column.
+fn check_let_item(alloc: Global, scope: &mut Scope, item: &LetItem) -> Result<(), ScopeFault>
+    ensures misuses { Answers result (misuse_if (misused_expr scope.old elsewhere item.now.value)) }
+    ensures columns { OnOk result (scope.new ≡ scope.old ++ (item.now.name, kind_of scope.old (tree_of item.now.value)) ∷ []) }
+{
+    check_expr(scope, &item.value)?;
+    push_let_item(alloc, scope, item)?;
+    Ok(())
+}
+
+/// Checks the items of LET in order, each under the columns of those before, and adds their columns.
+#[tactic(auto, using(crate::proofs::LetLemmas::let_items))]
+fn check_let(alloc: Global, scope: &mut Scope, items: &[LetItem]) -> Result<(), ScopeFault>
+    ensures misuses { Answers result (misuse_if (misused_let scope.old items.now)) }
+    ensures columns { OnOk result (scope.new ≡ let_columns scope.old items.now) }
+{
+    for item in items {
+        check_let_item(alloc, scope, item)?;
+    }
+    Ok(())
+}
+
+/// Checks the list of FOR, and adds its columns.
+fn check_for(alloc: Global, scope: &mut Scope, clause: &For) -> Result<(), ScopeFault>
+    ensures misuses { Answers result (misuse_if (misused_expr scope.old elsewhere clause.now.list)) }
+    ensures columns { OnOk result (scope.new ≡ for_columns scope.old clause.now) }
+{
+    check_expr(scope, &clause.list)?;
+    push_for(alloc, scope, clause)?;
+    Ok(())
+}
+
+/// Checks sort keys.
+#[tactic(auto, using(crate::proofs::RefusalLemmas::misuse_in_two))]
+fn check_keys(scope: &Scope, keys: &[SortItem]) -> Result<(), ScopeFault>
+    ensures { Answers result (misuse_if (misused_keys scope.now keys.now)) }
+{
+    for item in keys {
+        check_expr(scope, &item.key)?;
+    }
+    Ok(())
+}
+
+/// Checks a page clause.
+fn check_page(scope: &Scope, page: &Page) -> Result<(), ScopeFault>
+    ensures { Answers result (misuse_if (misused_page scope.now page.now)) }
+{
+    match page {
+        Page::Order(keys, _, _) => check_keys(scope, keys.as_slice()),
+        _ => Ok(()),
+    }
+}
+
+/// Checks the items of RETURN.
+#[tactic(auto, using(crate::proofs::RefusalLemmas::misuse_in_two))]
+fn check_listed(scope: &Scope, items: &[ReturnItem]) -> Result<(), ScopeFault>
+    ensures { Answers result (misuse_if (list_any (λ i. misused_expr scope.now item i.value) items.now)) }
+{
+    for item in items {
+        check_at(scope, &Place::Item, &item.value)?;
+    }
+    Ok(())
+}
+
+fn check_items(scope: &Scope, items: &ReturnItems) -> Result<(), ScopeFault>
+    ensures { Answers result (misuse_if (misused_items scope.now items.now)) }
+{
+    match items {
+        ReturnItems::All => Ok(()),
+        ReturnItems::Listed(items) => check_listed(scope, items.as_slice()),
+    }
+}
+
+/// Checks the sort keys of RETURN.
+fn check_order(alloc: Global, scope: &Scope, clause: &Return) -> Result<(), ScopeFault>
+    ensures { Answers result (misuse_if (misused_order (sort_columns scope.now clause.now) clause.now.order)) }
+{
+    match &clause.order {
+        None => Ok(()),
+        Some(keys) => {
+            let seen = sort_scope(alloc, scope, clause)?;
+            check_keys(&seen, keys.as_slice())
+        }
+    }
+}
+
+/// Checks RETURN, and keeps its columns alone.
+#[tactic(auto, using(crate::proofs::RefusalLemmas::misuse_in_two))]
+fn check_return(alloc: Global, scope: &mut Scope, clause: &Return) -> Result<(), ScopeFault>
+    ensures misuses { Answers result (misuse_if (misused_items scope.old clause.now.items || misused_order (sort_columns scope.old clause.now) clause.now.order)) }
+    ensures columns { OnOk result (scope.new ≡ output_columns scope.old clause.now.items) }
+{
+    check_items(scope, &clause.items)?;
+    check_order(alloc, scope, clause)?;
+    keep_outputs(alloc, scope, &clause.items)?;
+    Ok(())
+}
+
+/// Checks a clause, and changes the columns to those behind it.
+fn check_clause(alloc: Global, scope: &mut Scope, clause: &Clause) -> Result<(), ScopeFault>
+    ensures misuses { Answers result (misuse_if (misused_clause scope.old clause.now)) }
+    ensures columns { OnOk result (scope.new ≡ columns_behind scope.old clause.now) }
+{
+    match clause {
+        Clause::Match(m) => check_pattern(alloc, scope, &m.pattern),
+        Clause::Let(items) => check_let(alloc, scope, items.as_slice()),
+        Clause::Filter(condition) => check_expr(scope, condition),
+        Clause::For(clause) => check_for(alloc, scope, clause),
+        Clause::Page(page) => check_page(scope, page),
+        Clause::Return(clause) => check_return(alloc, scope, clause),
+        Clause::Change(_) => Ok(()),
+    }
+}
+
+/// Checks a query's clauses.
+#[tactic(auto, using(crate::proofs::RefusalLemmas::misuse_in_two))]
+pub fn misused_clauses(alloc: Global, clauses: &[Clause]) -> Result<(), ScopeFault>
+    ensures { Answers result (misuse_if (misused_clauses [] clauses.now)) }
+{
+    let mut scope = Scope::new(alloc);
+    for clause in clauses {
+        check_clause(alloc, &mut scope, clause)?;
+    }
+    Ok(())
+}

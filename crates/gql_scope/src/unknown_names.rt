@@ -1,0 +1,260 @@
+//! E08: a name that is no column, or a declared name that is one already.
+
+ghost use Rattle.std.specs.Prelude.{◌≡◌, [], ◌∷◌, ◌++◌, OnOk};
+ghost use Rattle.std.specs.Option.{option_copied};
+ghost use Rattle.std.specs.List.{flat_map};
+ghost use Rattle.gql_ast.specs.Meaning.{tree_of};
+ghost use Rattle.gql_ast.specs.Outputs.{kind_of, element_kind};
+ghost use Rattle.gql_ast.specs.ClauseColumns.{with_filler, match_columns, let_columns, for_columns, counter_column};
+ghost use Rattle.gql_ast.specs.Projections.{columns_behind, sort_columns, output_columns};
+ghost use Rattle.gql_ast.specs.StaticRefusals.{first_of};
+ghost use Rattle.gql_ast.specs.UnknownNames.{unknown_in_expr, unknown_if, taken, unknown_in_condition, unknown_in_node, unknown_in_pattern, unknown_in_let, unknown_in_counter, unknown_in_for, unknown_in_keys, unknown_in_order, unknown_in_page, unknown_in_items, unknown_in_return, unknown_in_clause, unknown_in_clauses};
+ghost use Rattle.gql_scope.specs.Answers.{Answers};
+
+use crate::behind::{keep_outputs, node_of, push_counter, push_for_item, push_let_item, push_node};
+use crate::columns::Scope;
+use crate::fault::ScopeFault;
+use crate::names::{Sought, first_name};
+use crate::outputs::sort_scope;
+use gql_ast::{
+    Clause, Condition, Counting, Expr, Filler, For, GraphPattern, LetItem, MapItem, Page, Refusal,
+    Return, ReturnItem, ReturnItems, SortItem,
+};
+use gql_values3::Text;
+use std::alloc::Global;
+
+/// Checks the names of an expression.
+#[tactic(auto, using(crate::proofs::RefusalLemmas::known))]
+pub fn check_names(alloc: Global, scope: &Scope, expr: &Expr) -> Result<(), ScopeFault>
+    ensures { Answers result (first_of Refusal.Variable (unknown_in_expr scope.now expr.now)) }
+{
+    match first_name(scope, &Sought::Unknown, expr) {
+        None => Ok(()),
+        Some(name) => Err(ScopeFault::Defect(Refusal::Variable(name.try_copy(alloc)?))),
+    }
+}
+
+/// Checks that a declared name is no column.
+fn check_free(alloc: Global, scope: &Scope, name: &Text) -> Result<(), ScopeFault>
+    ensures { Answers result (first_of Refusal.Variable (taken scope.now name.now)) }
+{
+    if !scope.contains(name) {
+        return Ok(());
+    }
+    Err(ScopeFault::Defect(Refusal::Variable(name.try_copy(alloc)?)))
+}
+
+/// Checks the names of an expression that may be there.
+fn check_if(alloc: Global, scope: &Scope, expr: &Option<Expr>) -> Result<(), ScopeFault>
+    ensures { Answers result (first_of Refusal.Variable (unknown_if scope.now expr.now)) }
+{
+    match expr {
+        None => Ok(()),
+        Some(expr) => check_names(alloc, scope, expr),
+    }
+}
+
+/// Checks the names of a map's values.
+fn check_map(alloc: Global, scope: &Scope, items: &[MapItem]) -> Result<(), ScopeFault>
+    ensures { Answers result (first_of Refusal.Variable (flat_map (λ i. unknown_in_expr scope.now i.value) items.now)) }
+{
+    for item in items {
+        check_names(alloc, scope, &item.value)?;
+    }
+    Ok(())
+}
+
+/// Checks the names of a node's conditions.
+fn check_condition(
+    alloc: Global,
+    scope: &Scope,
+    condition: &Option<Condition>,
+) -> Result<(), ScopeFault>
+    ensures { Answers result (first_of Refusal.Variable (unknown_in_condition scope.now condition.now)) }
+{
+    match condition {
+        None => Ok(()),
+        Some(Condition::Map(items)) => check_map(alloc, scope, items.as_slice()),
+        Some(Condition::Where(expr)) => check_names(alloc, scope, expr),
+    }
+}
+
+/// Checks the names of a node, and adds its variable.
+fn check_node(alloc: Global, scope: &mut Scope, node: Option<&Filler>) -> Result<(), ScopeFault>
+    ensures names { Answers result (first_of Refusal.Variable (unknown_in_node scope.old (option_copied node.entry))) }
+    ensures columns { OnOk result (scope.new ≡ with_filler scope.old (option_copied node.entry)) }
+{
+    match node {
+        None => Ok(()),
+        Some(filler) => {
+            push_node(alloc, scope, &filler.variable)?;
+            check_condition(alloc, scope, &filler.condition)
+        }
+    }
+}
+
+/// Checks the names of a pattern, and adds its variables.
+#[tactic(auto, using(crate::proofs::RefusalLemmas::first_of_in_two))]
+fn check_pattern(alloc: Global, scope: &mut Scope, pattern: &GraphPattern) -> Result<(), ScopeFault>
+    ensures names { Answers result (first_of Refusal.Variable (unknown_in_pattern scope.old pattern.now)) }
+    ensures columns { OnOk result (scope.new ≡ match_columns scope.old pattern.now) }
+{
+    check_node(alloc, scope, node_of(pattern))?;
+    check_if(alloc, scope, &pattern.condition)
+}
+
+/// Checks an item of LET, and adds its column.
+#[tactic(auto, using(crate::proofs::RefusalLemmas::first_of_in_two))]
+fn check_let_item(alloc: Global, scope: &mut Scope, item: &LetItem) -> Result<(), ScopeFault>
+    ensures names { Answers result (first_of Refusal.Variable (taken scope.old item.now.name ++ unknown_in_expr scope.old item.now.value)) }
+    ensures columns { OnOk result (scope.new ≡ scope.old ++ (item.now.name, kind_of scope.old (tree_of item.now.value)) ∷ []) }
+{
+    check_free(alloc, scope, &item.name)?;
+    check_names(alloc, scope, &item.value)?;
+    push_let_item(alloc, scope, item)?;
+    Ok(())
+}
+
+/// Checks the items of LET in order, each under the columns of those before, and adds their columns.
+#[tactic(auto, using(crate::proofs::LetLemmas::let_items))]
+fn check_let(alloc: Global, scope: &mut Scope, items: &[LetItem]) -> Result<(), ScopeFault>
+    ensures names { Answers result (first_of Refusal.Variable (unknown_in_let scope.old items.now)) }
+    ensures columns { OnOk result (scope.new ≡ let_columns scope.old items.now) }
+{
+    for item in items {
+        check_let_item(alloc, scope, item)?;
+    }
+    Ok(())
+}
+
+/// Checks the name of FOR's counter, and adds its column.
+fn check_counter(
+    alloc: Global,
+    scope: &mut Scope,
+    counter: &Option<(Counting, Text)>,
+) -> Result<(), ScopeFault>
+    ensures names { Answers result (first_of Refusal.Variable (unknown_in_counter scope.old counter.now)) }
+    ensures columns { OnOk result (scope.new ≡ scope.old ++ counter_column counter.now) }
+{
+    if let Some((_, name)) = counter {
+        check_free(alloc, scope, name)?;
+    }
+    push_counter(alloc, scope, counter)?;
+    Ok(())
+}
+
+/// Checks the name of FOR's item and its list, and adds the item's column.
+#[tactic(auto, using(crate::proofs::RefusalLemmas::first_of_in_two))]
+fn check_for_item(alloc: Global, scope: &mut Scope, clause: &For) -> Result<(), ScopeFault>
+    ensures names { Answers result (first_of Refusal.Variable (taken scope.old clause.now.name ++ unknown_in_expr scope.old clause.now.list)) }
+    ensures columns { OnOk result (scope.new ≡ scope.old ++ (clause.now.name, element_kind (kind_of scope.old (tree_of clause.now.list))) ∷ []) }
+{
+    check_free(alloc, scope, &clause.name)?;
+    check_names(alloc, scope, &clause.list)?;
+    push_for_item(alloc, scope, clause)?;
+    Ok(())
+}
+
+/// Checks FOR, and adds its columns.
+#[tactic(auto, using(crate::proofs::RefusalLemmas::first_of_in_two))]
+fn check_for(alloc: Global, scope: &mut Scope, clause: &For) -> Result<(), ScopeFault>
+    ensures names { Answers result (first_of Refusal.Variable (unknown_in_for scope.old clause.now)) }
+    ensures columns { OnOk result (scope.new ≡ for_columns scope.old clause.now) }
+{
+    check_for_item(alloc, scope, clause)?;
+    check_counter(alloc, scope, &clause.counter)
+}
+
+/// Checks the names of sort keys.
+#[tactic(auto, using(crate::proofs::RefusalLemmas::first_of_in_two))]
+fn check_keys(alloc: Global, scope: &Scope, keys: &[SortItem]) -> Result<(), ScopeFault>
+    ensures { Answers result (first_of Refusal.Variable (unknown_in_keys scope.now keys.now)) }
+{
+    for item in keys {
+        check_names(alloc, scope, &item.key)?;
+    }
+    Ok(())
+}
+
+/// Checks the names of a page clause.
+fn check_page(alloc: Global, scope: &Scope, page: &Page) -> Result<(), ScopeFault>
+    ensures { Answers result (first_of Refusal.Variable (unknown_in_page scope.now page.now)) }
+{
+    match page {
+        Page::Order(keys, _, _) => check_keys(alloc, scope, keys.as_slice()),
+        _ => Ok(()),
+    }
+}
+
+/// Checks the names of RETURN's items.
+#[tactic(auto, using(crate::proofs::RefusalLemmas::first_of_in_two))]
+fn check_listed(alloc: Global, scope: &Scope, items: &[ReturnItem]) -> Result<(), ScopeFault>
+    ensures { Answers result (first_of Refusal.Variable (flat_map (λ i. unknown_in_expr scope.now i.value) items.now)) }
+{
+    for item in items {
+        check_names(alloc, scope, &item.value)?;
+    }
+    Ok(())
+}
+
+fn check_items(alloc: Global, scope: &Scope, items: &ReturnItems) -> Result<(), ScopeFault>
+    ensures { Answers result (first_of Refusal.Variable (unknown_in_items scope.now items.now)) }
+{
+    match items {
+        ReturnItems::All => Ok(()),
+        ReturnItems::Listed(items) => check_listed(alloc, scope, items.as_slice()),
+    }
+}
+
+/// Checks the names of RETURN's sort keys.
+fn check_order(alloc: Global, scope: &Scope, clause: &Return) -> Result<(), ScopeFault>
+    ensures { Answers result (first_of Refusal.Variable (unknown_in_order (sort_columns scope.now clause.now) clause.now.order)) }
+{
+    match &clause.order {
+        None => Ok(()),
+        Some(keys) => {
+            let seen = sort_scope(alloc, scope, clause)?;
+            check_keys(alloc, &seen, keys.as_slice())
+        }
+    }
+}
+
+/// Checks the names of RETURN, and keeps its columns alone.
+#[tactic(auto, using(crate::proofs::RefusalLemmas::first_of_in_two))]
+fn check_return(alloc: Global, scope: &mut Scope, clause: &Return) -> Result<(), ScopeFault>
+    ensures names { Answers result (first_of Refusal.Variable (unknown_in_return scope.old clause.now)) }
+    ensures columns { OnOk result (scope.new ≡ output_columns scope.old clause.now.items) }
+{
+    check_items(alloc, scope, &clause.items)?;
+    check_order(alloc, scope, clause)?;
+    keep_outputs(alloc, scope, &clause.items)?;
+    Ok(())
+}
+
+/// Checks the names of a clause, and changes the columns to those behind it.
+fn check_clause(alloc: Global, scope: &mut Scope, clause: &Clause) -> Result<(), ScopeFault>
+    ensures names { Answers result (first_of Refusal.Variable (unknown_in_clause scope.old clause.now)) }
+    ensures columns { OnOk result (scope.new ≡ columns_behind scope.old clause.now) }
+{
+    match clause {
+        Clause::Match(m) => check_pattern(alloc, scope, &m.pattern),
+        Clause::Let(items) => check_let(alloc, scope, items.as_slice()),
+        Clause::Filter(condition) => check_names(alloc, scope, condition),
+        Clause::For(clause) => check_for(alloc, scope, clause),
+        Clause::Page(page) => check_page(alloc, scope, page),
+        Clause::Return(clause) => check_return(alloc, scope, clause),
+        Clause::Change(_) => Ok(()),
+    }
+}
+
+/// Checks the names of a query's clauses.
+#[tactic(auto, using(crate::proofs::RefusalLemmas::first_of_in_two))]
+pub fn unknown_names(alloc: Global, clauses: &[Clause]) -> Result<(), ScopeFault>
+    ensures { Answers result (first_of Refusal.Variable (unknown_in_clauses [] clauses.now)) }
+{
+    let mut scope = Scope::new(alloc);
+    for clause in clauses {
+        check_clause(alloc, &mut scope, clause)?;
+    }
+    Ok(())
+}

@@ -1,0 +1,244 @@
+//! E23: a parameter that isn't set.
+
+ghost use Rattle.std.specs.Prelude.{◌++◌, option_map};
+ghost use Rattle.std.specs.Option.{option_copied};
+ghost use Rattle.std.specs.List.{flat_map};
+ghost use Rattle.gql_ast.specs.StaticRefusals.{first_of};
+ghost use Rattle.gql_ast.specs.UnsetParameters.{unset, parameters_of, parameters_if, parameters_of_condition, parameters_of_node, parameters_of_pattern, parameters_of_keys, parameters_of_order, parameters_of_count, parameters_of_count_if, parameters_of_page, parameters_of_items, parameters_of_return, parameters_of_clause};
+ghost use Rattle.gql_scope.specs.Answers.{Answers};
+
+use crate::behind::node_of;
+use crate::fault::ScopeFault;
+use crate::parameters::{if_unset, unset_parameter};
+use gql_ast::{
+    Clause, Condition, Expr, Filler, GraphPattern, LetItem, MapItem, Page, Refusal, Return,
+    ReturnItem, ReturnItems, RowCount, SortItem, SortItems,
+};
+use gql_values3::{Params, Text};
+use std::alloc::Global;
+
+/// Refuses a parameter that was found.
+fn refuse(alloc: Global, found: Option<&Text>) -> Result<(), ScopeFault>
+    ensures { Answers result (option_map (λ p. Refusal.Parameter p) (option_copied found.entry)) }
+{
+    match found {
+        None => Ok(()),
+        Some(name) => Err(ScopeFault::Defect(Refusal::Parameter(name.try_copy(alloc)?))),
+    }
+}
+
+/// Checks the parameters of an expression.
+#[tactic(auto, using(crate::proofs::RefusalLemmas::first_of_first))]
+pub fn check_expr(alloc: Global, params: &Params, expr: &Expr) -> Result<(), ScopeFault>
+    ensures { Answers result (first_of Refusal.Parameter (unset params.now (parameters_of expr.now))) }
+{
+    refuse(alloc, unset_parameter(params, expr))
+}
+
+/// Checks the parameters of an expression that may be there.
+fn check_if(alloc: Global, params: &Params, expr: &Option<Expr>) -> Result<(), ScopeFault>
+    ensures { Answers result (first_of Refusal.Parameter (unset params.now (parameters_if expr.now))) }
+{
+    match expr {
+        None => Ok(()),
+        Some(expr) => check_expr(alloc, params, expr),
+    }
+}
+
+/// Checks the parameters of a map's values.
+fn check_map(alloc: Global, params: &Params, items: &[MapItem]) -> Result<(), ScopeFault>
+    ensures { Answers result (first_of Refusal.Parameter (unset params.now (flat_map (λ i. parameters_of i.value) items.now))) }
+{
+    for item in items {
+        check_expr(alloc, params, &item.value)?;
+    }
+    Ok(())
+}
+
+/// Checks the parameters of a node's conditions.
+fn check_condition(
+    alloc: Global,
+    params: &Params,
+    condition: &Option<Condition>,
+) -> Result<(), ScopeFault>
+    ensures { Answers result (first_of Refusal.Parameter (unset params.now (parameters_of_condition condition.now))) }
+{
+    match condition {
+        None => Ok(()),
+        Some(Condition::Map(items)) => check_map(alloc, params, items.as_slice()),
+        Some(Condition::Where(expr)) => check_expr(alloc, params, expr),
+    }
+}
+
+fn check_node(alloc: Global, params: &Params, node: Option<&Filler>) -> Result<(), ScopeFault>
+    ensures { Answers result (first_of Refusal.Parameter (unset params.now (parameters_of_node (option_copied node.entry)))) }
+{
+    match node {
+        None => Ok(()),
+        Some(filler) => check_condition(alloc, params, &filler.condition),
+    }
+}
+
+/// Checks the parameters of a pattern.
+#[tactic(auto, using(crate::proofs::RefusalLemmas::unset_of_two))]
+fn check_pattern(alloc: Global, params: &Params, pattern: &GraphPattern) -> Result<(), ScopeFault>
+    ensures { Answers result (first_of Refusal.Parameter (unset params.now (parameters_of_pattern pattern.now))) }
+{
+    check_node(alloc, params, node_of(pattern))?;
+    check_if(alloc, params, &pattern.condition)
+}
+
+/// Checks the parameters of LET.
+fn check_let(alloc: Global, params: &Params, items: &[LetItem]) -> Result<(), ScopeFault>
+    ensures { Answers result (first_of Refusal.Parameter (unset params.now (flat_map (λ i. parameters_of i.value) items.now))) }
+{
+    for item in items {
+        check_expr(alloc, params, &item.value)?;
+    }
+    Ok(())
+}
+
+/// Checks the parameters of sort keys.
+fn check_keys(alloc: Global, params: &Params, keys: &[SortItem]) -> Result<(), ScopeFault>
+    ensures { Answers result (first_of Refusal.Parameter (unset params.now (parameters_of_keys keys.now))) }
+{
+    for item in keys {
+        check_expr(alloc, params, &item.key)?;
+    }
+    Ok(())
+}
+
+fn check_order(alloc: Global, params: &Params, order: &Option<SortItems>) -> Result<(), ScopeFault>
+    ensures { Answers result (first_of Refusal.Parameter (unset params.now (parameters_of_order order.now))) }
+{
+    match order {
+        None => Ok(()),
+        Some(keys) => check_keys(alloc, params, keys.as_slice()),
+    }
+}
+
+/// Checks the parameter of a number of rows.
+#[tactic(auto, using(crate::proofs::RefusalLemmas::first_of_first))]
+fn check_count(alloc: Global, params: &Params, count: &RowCount) -> Result<(), ScopeFault>
+    ensures { Answers result (first_of Refusal.Parameter (unset params.now (parameters_of_count count.now))) }
+{
+    match count {
+        RowCount::Number(_) => Ok(()),
+        RowCount::Parameter(parameter) => refuse(alloc, if_unset(params, parameter)),
+    }
+}
+
+fn check_count_if(
+    alloc: Global,
+    params: &Params,
+    count: &Option<RowCount>,
+) -> Result<(), ScopeFault>
+    ensures { Answers result (first_of Refusal.Parameter (unset params.now (parameters_of_count_if count.now))) }
+{
+    match count {
+        None => Ok(()),
+        Some(count) => check_count(alloc, params, count),
+    }
+}
+
+/// Checks the parameters of sort keys, and then those of OFFSET and LIMIT.
+#[tactic(auto, using(crate::proofs::RefusalLemmas::unset_of_two))]
+fn check_ordered(
+    alloc: Global,
+    params: &Params,
+    keys: &[SortItem],
+    skip: &Option<RowCount>,
+    limit: &Option<RowCount>,
+) -> Result<(), ScopeFault>
+    ensures { Answers result (first_of Refusal.Parameter (unset params.now (parameters_of_keys keys.now ++ parameters_of_count_if skip.now ++ parameters_of_count_if limit.now))) }
+{
+    check_keys(alloc, params, keys)?;
+    check_count_if(alloc, params, skip)?;
+    check_count_if(alloc, params, limit)
+}
+
+/// Checks the parameters of OFFSET, and then those of LIMIT.
+#[tactic(auto, using(crate::proofs::RefusalLemmas::unset_of_two))]
+fn check_skip(
+    alloc: Global,
+    params: &Params,
+    skip: &RowCount,
+    limit: &Option<RowCount>,
+) -> Result<(), ScopeFault>
+    ensures { Answers result (first_of Refusal.Parameter (unset params.now (parameters_of_count skip.now ++ parameters_of_count_if limit.now))) }
+{
+    check_count(alloc, params, skip)?;
+    check_count_if(alloc, params, limit)
+}
+
+/// Checks the parameters of a page clause.
+fn check_page(alloc: Global, params: &Params, page: &Page) -> Result<(), ScopeFault>
+    ensures { Answers result (first_of Refusal.Parameter (unset params.now (parameters_of_page page.now))) }
+{
+    match page {
+        Page::Order(keys, skip, limit) => {
+            check_ordered(alloc, params, keys.as_slice(), skip, limit)
+        }
+        Page::Skip(skip, limit) => check_skip(alloc, params, skip, limit),
+        Page::Limit(limit) => check_count(alloc, params, limit),
+    }
+}
+
+/// Checks the parameters of RETURN's items.
+fn check_listed(alloc: Global, params: &Params, items: &[ReturnItem]) -> Result<(), ScopeFault>
+    ensures { Answers result (first_of Refusal.Parameter (unset params.now (flat_map (λ i. parameters_of i.value) items.now))) }
+{
+    for item in items {
+        check_expr(alloc, params, &item.value)?;
+    }
+    Ok(())
+}
+
+fn check_items(alloc: Global, params: &Params, items: &ReturnItems) -> Result<(), ScopeFault>
+    ensures { Answers result (first_of Refusal.Parameter (unset params.now (parameters_of_items items.now))) }
+{
+    match items {
+        ReturnItems::All => Ok(()),
+        ReturnItems::Listed(items) => check_listed(alloc, params, items.as_slice()),
+    }
+}
+
+/// Checks the parameters of RETURN.
+#[tactic(auto, using(crate::proofs::RefusalLemmas::unset_of_two))]
+fn check_return(alloc: Global, params: &Params, clause: &Return) -> Result<(), ScopeFault>
+    ensures { Answers result (first_of Refusal.Parameter (unset params.now (parameters_of_return clause.now))) }
+{
+    check_items(alloc, params, &clause.items)?;
+    check_order(alloc, params, &clause.order)?;
+    check_count_if(alloc, params, &clause.skip)?;
+    check_count_if(alloc, params, &clause.limit)
+}
+
+/// Checks the parameters of a clause.
+fn check_clause(alloc: Global, params: &Params, clause: &Clause) -> Result<(), ScopeFault>
+    ensures { Answers result (first_of Refusal.Parameter (unset params.now (parameters_of_clause clause.now))) }
+{
+    match clause {
+        Clause::Match(m) => check_pattern(alloc, params, &m.pattern),
+        Clause::Let(items) => check_let(alloc, params, items.as_slice()),
+        Clause::Filter(condition) => check_expr(alloc, params, condition),
+        Clause::For(clause) => check_expr(alloc, params, &clause.list),
+        Clause::Page(page) => check_page(alloc, params, page),
+        Clause::Return(clause) => check_return(alloc, params, clause),
+        Clause::Change(_) => Ok(()),
+    }
+}
+
+/// Checks the parameters of a query's clauses.
+pub fn unset_parameters(
+    alloc: Global,
+    params: &Params,
+    clauses: &[Clause],
+) -> Result<(), ScopeFault>
+    ensures { Answers result (first_of Refusal.Parameter (unset params.now (flat_map parameters_of_clause clauses.now))) }
+{
+    for clause in clauses {
+        check_clause(alloc, params, clause)?;
+    }
+    Ok(())
+}

@@ -1,0 +1,76 @@
+//! E09: a node's variable that is a column of another kind.
+
+ghost use Rattle.std.specs.Prelude.{◌≡◌, [], OnOk};
+ghost use Rattle.std.specs.Option.{option_copied};
+ghost use Rattle.gql_ast.specs.Projections.{columns_behind};
+ghost use Rattle.gql_ast.specs.StaticRefusals.{first_of};
+ghost use Rattle.gql_ast.specs.WrongKinds.{holds_nodes, wrong_variable, wrong_in_node, wrong_in_clause, wrong_in_clauses};
+ghost use Rattle.gql_scope.specs.Answers.{Answers};
+
+use crate::behind::{node_of, step};
+use crate::columns::Scope;
+use crate::fault::ScopeFault;
+use gql_ast::{Clause, Filler, Refusal};
+use gql_values3::{ColumnKind, Text};
+use std::alloc::Global;
+
+/// Whether a column can be a node's: a node, or a group of nodes, whose fault is another.
+fn holds_nodes(kind: ColumnKind) -> bool
+    ensures { result ≡ holds_nodes kind }
+{
+    matches!(kind, ColumnKind::Node | ColumnKind::Nodes)
+}
+
+/// Checks the variable of a node.
+fn check_variable(alloc: Global, scope: &Scope, variable: &Option<Text>) -> Result<(), ScopeFault>
+    ensures { Answers result (first_of Refusal.Kind (wrong_variable scope.now variable.now)) }
+{
+    match variable {
+        Some(name) if scope.contains(name) && !holds_nodes(scope.kind(name)) => {
+            Err(ScopeFault::Defect(Refusal::Kind(name.try_copy(alloc)?)))
+        }
+        _ => Ok(()),
+    }
+}
+
+/// Checks the variable of a pattern's node.
+fn check_node(alloc: Global, scope: &Scope, node: Option<&Filler>) -> Result<(), ScopeFault>
+    ensures { Answers result (first_of Refusal.Kind (wrong_in_node scope.now (option_copied node.entry))) }
+{
+    match node {
+        None => Ok(()),
+        Some(filler) => check_variable(alloc, scope, &filler.variable),
+    }
+}
+
+/// Checks a clause.
+fn check_clause(alloc: Global, scope: &Scope, clause: &Clause) -> Result<(), ScopeFault>
+    ensures { Answers result (first_of Refusal.Kind (wrong_in_clause scope.now clause.now)) }
+{
+    match clause {
+        Clause::Match(m) => check_node(alloc, scope, node_of(&m.pattern)),
+        _ => Ok(()),
+    }
+}
+
+/// Checks a clause, and changes the columns to those behind it.
+fn pass_clause(alloc: Global, scope: &mut Scope, clause: &Clause) -> Result<(), ScopeFault>
+    ensures kinds { Answers result (first_of Refusal.Kind (wrong_in_clause scope.old clause.now)) }
+    ensures columns { OnOk result (scope.new ≡ columns_behind scope.old clause.now) }
+{
+    check_clause(alloc, scope, clause)?;
+    step(alloc, scope, clause)?;
+    Ok(())
+}
+
+/// Checks a query's clauses.
+#[tactic(auto, using(crate::proofs::RefusalLemmas::first_of_in_two))]
+pub fn wrong_kinds(alloc: Global, clauses: &[Clause]) -> Result<(), ScopeFault>
+    ensures { Answers result (first_of Refusal.Kind (wrong_in_clauses [] clauses.now)) }
+{
+    let mut scope = Scope::new(alloc);
+    for clause in clauses {
+        pass_clause(alloc, &mut scope, clause)?;
+    }
+    Ok(())
+}

@@ -1,0 +1,51 @@
+-- No statement changes the catalog that is kept.
+use Rattle.std.proofs.Common.{◌≡◌, ℕ, List, [], Option, Some, None, Result, Ok, Err, refl, ap, ◌∙◌}
+use Rattle.gql_values3.specs.Datum.{Datum}
+use Rattle.gql_ast.specs.Meaning.{tree_of}
+use Rattle.gql_ast.specs.Evaluation.{value_of}
+use Rattle.gql_ast.specs.declared.fault.DataFault.{DataFault}
+use Rattle.gql_ast.specs.declared.refusal.Outcome.{Outcome}
+use Rattle.gql_ast.specs.declared.refusal.Refusal.{Refusal}
+use Rattle.gql_ast.specs.declared.statement.SessionStatement.{SessionStatement}
+use Rattle.gql_ast.specs.declared.statement.SessionStatement.TheVariants as session
+use Rattle.gql_ast.specs.declared.statement.Statement.{Statement}
+use Rattle.gql_ast.specs.declared.statement.Statement.TheVariants as statement
+use Rattle.gql_linear.specs.QueryRun.{Working, query_run}
+use Rattle.gql_session.specs.Reading.{Reading, blank, bad, deep, unread, read}
+use Rattle.gql_session.specs.SessionState.{SessionState}
+use Rattle.gql_session.specs.StatementRun.{query_end, value_end, acting_graph, session_end, acted, first_refusal, ended}
+use Rattle.gql_session.specs.SessionRun.{Step, state_behind}
+
+query_kept : (s : SessionState) (r : Result Working DataFault) → (query_end s r).after.kept ≡ s.kept
+query_kept s (Ok t) = refl
+query_kept s (Err f) = refl
+
+value_kept : (s : SessionState) (p : List ℕ) (r : Result Datum DataFault) → (value_end s p r).after.kept ≡ s.kept
+value_kept s p (Ok d) = refl
+value_kept s p (Err f) = refl
+
+session_kept : (s : SessionState) (t : SessionStatement) → (session_end s t).after.kept ≡ s.kept
+session_kept s (session.SetValue p e) = value_kept s p (value_of (acting_graph s) s.parameters [] (tree_of e))
+session_kept s session.Reset = refl
+session_kept s session.Close = refl
+session_kept s (session.SetGraph x) = refl
+
+acted_kept : (s : SessionState) (t : Statement) → (acted s t).after.kept ≡ s.kept
+acted_kept s (statement.Query q) = query_kept s (query_run (acting_graph s) s.parameters q)
+acted_kept s (statement.Session t) = session_kept s t
+acted_kept s (statement.Transaction t) = refl
+acted_kept s (statement.Catalog c) = refl
+
+ended_kept : (s : SessionState) (t : Statement) (r : Option Refusal) → (ended s t r).after.kept ≡ s.kept
+ended_kept s t (Some r) = refl
+ended_kept s t None = acted_kept s t
+
+behind_kept : (s : SessionState) (r : Reading) → (state_behind s r).kept ≡ s.kept
+behind_kept s blank = refl
+behind_kept s bad = refl
+behind_kept s deep = refl
+behind_kept s unread = refl
+behind_kept s (read t) = ended_kept s t (first_refusal s t)
+
+pub step_kept : (s t : SessionState) (piece : List ℕ) (made : List Outcome) → Step s piece made t → t.kept ≡ s.kept
+step_kept s t piece made step = ap (λ (x : SessionState). x.kept) step.state ∙ behind_kept s step.reading

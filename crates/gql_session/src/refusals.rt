@@ -1,0 +1,74 @@
+//! The first refusal of a statement that stands before it runs.
+ghost use Rattle.std.specs.Prelude.{◌≡◌, IfOk, codes};
+ghost use Rattle.gql_graph.specs.Catalog.{graph_of};
+ghost use Rattle.gql_ast.specs.StaticRefusals.{static_refusal};
+ghost use Rattle.gql_session.specs.Meaning.{state_of};
+ghost use Rattle.gql_session.specs.declared.state.Session.{Session as SessionData};
+ghost use Rattle.gql_session.specs.StatementRun.{missing_graph, graph_refusal, first_refusal};
+
+use crate::current::current_graph;
+use crate::state::Session;
+use gql_ast::{Refusal, Statement};
+use gql_graph::Catalog;
+use gql_scope::{ScopeFault, check};
+use gql_text::wide_number;
+use gql_values3::{OutOfMemory, Params, Text};
+use std::alloc::Global;
+
+/// The first by the order of the codes: a number that is too large, the current graph that isn't there, and then what
+/// scopes refuse. None where the statement may run.
+pub fn first_refusal(
+    alloc: Global,
+    catalog: &Catalog,
+    session: &Session,
+    statement: &Statement,
+) -> Result<Option<Refusal>, OutOfMemory>
+    ensures { IfOk result (λ found. found ≡ first_refusal (state_of catalog.now session.now) statement.now) }
+{
+    if let Some(digits) = wide_number(statement) {
+        return Ok(Some(Refusal::Number(digits.try_copy(alloc)?)));
+    }
+    if let Some(refusal) = graph_refusal(alloc, catalog, statement)? {
+        return Ok(Some(refusal));
+    }
+    scope_refusal(alloc, statement, &session.parameters)
+}
+
+/// A query needs the current graph.
+fn graph_refusal(
+    alloc: Global,
+    catalog: &Catalog,
+    statement: &Statement,
+) -> Result<Option<Refusal>, OutOfMemory>
+    ensures { (session : SessionData) → IfOk result (λ found. found ≡ graph_refusal (state_of catalog.now session) statement.now) }
+{
+    match statement {
+        Statement::Query(_) => missing_graph(alloc, catalog),
+        _ => Ok(None),
+    }
+}
+
+/// The refusal where the current graph isn't there.
+fn missing_graph(alloc: Global, catalog: &Catalog) -> Result<Option<Refusal>, OutOfMemory>
+    ensures { IfOk result (λ found. found ≡ missing_graph (graph_of catalog.now (codes "home"))) }
+{
+    match current_graph(catalog) {
+        Some(_) => Ok(None),
+        None => Ok(Some(Refusal::NoSuch(Text::from_str(alloc, "home")?))),
+    }
+}
+
+/// What scopes refuse.
+fn scope_refusal(
+    alloc: Global,
+    statement: &Statement,
+    parameters: &Params,
+) -> Result<Option<Refusal>, OutOfMemory>
+    ensures { IfOk result (λ found. found ≡ static_refusal parameters.now statement.now) }
+{
+    match check(alloc, statement, parameters) {
+        Ok(()) => Ok(None),
+        Err(ScopeFault::Defect(refusal)) => Ok(Some(refusal)),
+        Err(ScopeFault::OutOfMemory) => Err(OutOfMemory),
+    }
+}

@@ -1,0 +1,10 @@
+use gql_values3::Params;
+
+/// What a session keeps from one statement to the next. The current graph is `home` until other graphs come.
+#[derive(Debug, Drop)]
+pub struct Session {
+    /// The parameters that are set, each once.
+    pub parameters: Params,
+    /// Whether SESSION CLOSE was answered: what follows isn't looked at.
+    pub is_closed: bool,
+}

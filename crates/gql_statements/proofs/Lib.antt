@@ -1,0 +1,11 @@
+pub mod PartLaws
+pub mod ListLaws
+pub mod ValueLaws
+pub mod ClauseLaws
+pub mod PageLaws
+pub mod ReturnLaws
+pub mod MatchLaws
+pub mod QueryLaws
+pub mod StatementLaws
+pub mod ListLoops
+pub mod QueryLoops

@@ -1,0 +1,13 @@
+-- FILTER.
+--
+--   Filter = FILTER [WHERE] Expr
+use Rattle.std.specs.Prelude.{List}
+use Rattle.gql_lexer.specs.declared.lexeme.Lexeme.{Lexeme}
+use Rattle.gql_ast.specs.declared.expr.Expr.{Expr}
+use Rattle.gql_front.specs.WordPlaces.{FILTER, WHERE}
+use Rattle.gql_front.specs.Reading.{is_word}
+use Rattle.gql_statements.specs.Parts.{Passes, MayPass}
+use Rattle.gql_statements.specs.Values.{IsValue}
+
+abbrev pub IsFilter : Expr → List Lexeme → List Lexeme → Type 0
+IsFilter e ts r = (a : List Lexeme) × Passes (is_word FILTER) ts a × (b : List Lexeme) × MayPass (is_word WHERE) a b × IsValue e b r

@@ -1,0 +1,18 @@
+-- LET.
+--
+--   Let = LET list(Name "=" Expr)
+use Rattle.std.specs.Prelude.{List}
+use Rattle.gql_lexer.specs.declared.lexeme.Lexeme.{Lexeme}
+use Rattle.gql_ast.specs.declared.clause.LetItem.{LetItem}
+use Rattle.gql_front.specs.SymbolPlaces.{equal}
+use Rattle.gql_front.specs.WordPlaces.{LET}
+use Rattle.gql_front.specs.Tables.{Begins}
+use Rattle.gql_front.specs.Reading.{is_sign, is_word, name_in}
+use Rattle.gql_statements.specs.Parts.{Passes, IsListOf}
+use Rattle.gql_statements.specs.Values.{IsValue}
+
+abbrev pub IsLetItem : LetItem → List Lexeme → List Lexeme → Type 0
+IsLetItem i ts r = (a : List Lexeme) × Begins name_in i.name ts a × (b : List Lexeme) × Passes (is_sign equal) a b × IsValue i.value b r
+
+abbrev pub IsLet : List LetItem → List Lexeme → List Lexeme → Type 0
+IsLet is ts r = (a : List Lexeme) × Passes (is_word LET) ts a × IsListOf IsLetItem is a r

@@ -1,0 +1,54 @@
+//! The words that begin a clause.
+
+ghost use Rattle.std.specs.Prelude.{◌≡◌, ◌<◌, length, IfOk};
+ghost use Rattle.gql_front.specs.Tables.{entry};
+ghost use Rattle.gql_front.specs.Reading.{op_at};
+ghost use Rattle.gql_front.specs.Gives.{Takes};
+ghost use Rattle.gql_statements.specs.ClauseWords.{clause_words, clause_word};
+
+use gql_front::NoFront;
+use gql_front::words::{FILTER, FOR, LET, LIMIT, MATCH, OFFSET, ORDER, SKIP};
+use gql_lexer::Lexeme;
+
+/// What a reserved word at the front begins a clause of.
+#[derive(Clone, Copy, Debug, PartialEq, Eq)]
+pub enum ClauseWord {
+    Match,
+    Let,
+    Filter,
+    For,
+    Order,
+    /// OFFSET or SKIP.
+    Skip,
+    Limit,
+}
+
+/// What the reserved word of the place begins, if it begins a clause.
+fn clause_word(place: u32) -> Option<ClauseWord>
+    ensures { result ≡ entry clause_words place }
+{
+    match place {
+        MATCH => Some(ClauseWord::Match),
+        LET => Some(ClauseWord::Let),
+        FILTER => Some(ClauseWord::Filter),
+        FOR => Some(ClauseWord::For),
+        ORDER => Some(ClauseWord::Order),
+        OFFSET => Some(ClauseWord::Skip),
+        SKIP => Some(ClauseWord::Skip),
+        LIMIT => Some(ClauseWord::Limit),
+        _ => None,
+    }
+}
+
+/// What the word at the front begins.
+pub fn clause_word_at(rest: &[Lexeme]) -> Result<(ClauseWord, &[Lexeme]), NoFront>
+    ensures given { Takes (λ x. (x.0, x.1.now)) result (op_at clause_word rest.now) }
+    ensures shorter { IfOk result (λ x. length x.1.now < length rest.now) }
+{
+    if let [Lexeme::Word { place, .. }, after @ ..] = rest {
+        if let Some(word) = clause_word(*place) {
+            return Ok((word, after));
+        }
+    }
+    Err(NoFront)
+}

@@ -1,0 +1,109 @@
+//! OFFSET and LIMIT, and ORDER BY, OFFSET and LIMIT as a clause of their own.
+
+ghost use Rattle.std.specs.Prelude.{◌≡◌, ◌<◌, ◌≤◌, length, IfOk};
+ghost use Rattle.gql_front.specs.Gives.{Gives, Takes};
+ghost use Rattle.gql_front.specs.Reading.{op_at, after};
+ghost use Rattle.gql_statements.specs.PartWords.{count_in, is_skip};
+ghost use Rattle.gql_statements.specs.PageReaders.{skip_of, limit_of, order_page_of, skip_page_of, limit_page_of};
+
+use crate::sort::order_by;
+use gql_ast::{Page, ParseFault, RowCount};
+use gql_front::words::{LIMIT, OFFSET, SKIP};
+use gql_front::{NoFront, after_word};
+use gql_lexer::Lexeme;
+use std::alloc::Global;
+
+/// Sort keys, and how many rows to leave out and to keep, behind ORDER.
+#[tactic(auto, unfolding(crate::specs::PageReaders::order_page_of))]
+pub fn order_page<'a>(alloc: Global, rest: &'a [Lexeme]) -> Result<(Page, &'a [Lexeme]), ParseFault>
+    ensures given { Gives (λ x. (x.0, x.1.now)) result (order_page_of rest.now) }
+    ensures shorter { IfOk result (λ x. length x.1.now < length rest.now) }
+{
+    let (order, rest) = order_by(alloc, rest)?;
+    let (skip, rest) = skip(alloc, rest)?;
+    let (limit, rest) = limit(alloc, rest)?;
+    Ok((Page::Order(order, skip, limit), rest))
+}
+
+/// How many rows to leave out and to keep, behind OFFSET or SKIP.
+#[tactic(auto, unfolding(crate::specs::PageReaders::skip_page_of))]
+pub fn skip_page<'a>(alloc: Global, rest: &'a [Lexeme]) -> Result<(Page, &'a [Lexeme]), ParseFault>
+    ensures given { Gives (λ x. (x.0, x.1.now)) result (skip_page_of rest.now) }
+    ensures shorter { IfOk result (λ x. length x.1.now < length rest.now) }
+{
+    let (skip, rest) = row_count(alloc, rest)?;
+    let (limit, rest) = limit(alloc, rest)?;
+    Ok((Page::Skip(skip, limit), rest))
+}
+
+/// How many rows to keep, behind LIMIT.
+#[tactic(auto, unfolding(crate::specs::PageReaders::limit_page_of))]
+pub fn limit_page<'a>(alloc: Global, rest: &'a [Lexeme]) -> Result<(Page, &'a [Lexeme]), ParseFault>
+    ensures given { Gives (λ x. (x.0, x.1.now)) result (limit_page_of rest.now) }
+    ensures shorter { IfOk result (λ x. length x.1.now < length rest.now) }
+{
+    let (limit, rest) = row_count(alloc, rest)?;
+    Ok((Page::Limit(limit), rest))
+}
+
+/// OFFSET or SKIP and a count, or nothing.
+#[tactic(auto, unfolding(crate::specs::PageReaders::skip_of))]
+pub fn skip<'a>(
+    alloc: Global,
+    rest: &'a [Lexeme],
+) -> Result<(Option<RowCount>, &'a [Lexeme]), ParseFault>
+    ensures given { Gives (λ x. (x.0, x.1.now)) result (skip_of rest.now) }
+    ensures shorter { IfOk result (λ x. length x.1.now ≤ length rest.now) }
+{
+    match after_skip(rest) {
+        Ok(behind) => {
+            let (count, behind) = row_count(alloc, behind)?;
+            Ok((Some(count), behind))
+        }
+        Err(NoFront) => Ok((None, rest)),
+    }
+}
+
+/// LIMIT and a count, or nothing.
+#[tactic(auto, unfolding(crate::specs::PageReaders::limit_of))]
+pub fn limit<'a>(
+    alloc: Global,
+    rest: &'a [Lexeme],
+) -> Result<(Option<RowCount>, &'a [Lexeme]), ParseFault>
+    ensures given { Gives (λ x. (x.0, x.1.now)) result (limit_of rest.now) }
+    ensures shorter { IfOk result (λ x. length x.1.now ≤ length rest.now) }
+{
+    match after_word(LIMIT, rest) {
+        Ok(behind) => {
+            let (count, behind) = row_count(alloc, behind)?;
+            Ok((Some(count), behind))
+        }
+        Err(NoFront) => Ok((None, rest)),
+    }
+}
+
+/// What is behind OFFSET or SKIP.
+fn after_skip(rest: &[Lexeme]) -> Result<&[Lexeme], NoFront>
+    ensures given { Takes (λ x. x.now) result (after is_skip rest.now) }
+    ensures shorter { IfOk result (λ x. length x.now < length rest.now) }
+{
+    match rest {
+        [Lexeme::Word { place: OFFSET, .. }, rest @ ..] => Ok(rest),
+        [Lexeme::Word { place: SKIP, .. }, rest @ ..] => Ok(rest),
+        _ => Err(NoFront),
+    }
+}
+
+/// A number or a parameter.
+fn row_count<'a>(alloc: Global, rest: &'a [Lexeme]) -> Result<(RowCount, &'a [Lexeme]), ParseFault>
+    ensures given { Gives (λ x. (x.0, x.1.now)) result (op_at count_in rest.now) }
+    ensures shorter { IfOk result (λ x. length x.1.now < length rest.now) }
+{
+    match rest {
+        [Lexeme::Number(digits), rest @ ..] => {
+            Ok((RowCount::Number(digits.try_copy(alloc)?), rest))
+        }
+        [Lexeme::Param(name), rest @ ..] => Ok((RowCount::Parameter(name.try_copy(alloc)?), rest)),
+        _ => Err(ParseFault::Syntax),
+    }
+}

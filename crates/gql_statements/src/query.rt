@@ -1,0 +1,87 @@
+//! Queries.
+
+ghost use Rattle.std.specs.Prelude.{◌≡◌, ◌<◌, ◌≤◌, length, IfOk};
+ghost use Rattle.gql_front.specs.Gives.{Gives};
+ghost use Rattle.gql_statements.specs.QueryGrammar.{is_page, no_pages_meet};
+ghost use Rattle.gql_statements.specs.QueryReaders.{clauses_of, last_of, query_of};
+
+use crate::clause::clause;
+use crate::return_clause::returned;
+use gql_ast::{Clause, ParseFault, Query};
+use gql_front::after_word;
+use gql_front::words::RETURN;
+use gql_lexer::Lexeme;
+use gql_values3::{OutOfMemory, Sequence};
+use std::alloc::Global;
+
+/// The query at the front. `Syntax` comes where there is none, or where two Page clauses stand side by side.
+#[tactic(auto, unfolding(crate::specs::QueryReaders::query_of))]
+pub fn query<'a>(alloc: Global, rest: &'a [Lexeme]) -> Result<(Query, &'a [Lexeme]), ParseFault>
+    ensures given { Gives (λ x. (x.0, x.1.now)) result (query_of rest.now) }
+    ensures shorter { IfOk result (λ x. length x.1.now < length rest.now) }
+{
+    let (mut clauses, rest) = clauses(alloc, rest)?;
+    let (last, rest) = last(alloc, rest)?;
+    clauses.push(last)?;
+    if no_pages_meet(clauses.as_slice()) {
+        Ok((Query { clauses }, rest))
+    } else {
+        Err(ParseFault::Syntax)
+    }
+}
+
+/// As many clauses as there are.
+fn clauses<'a>(
+    alloc: Global,
+    start: &'a [Lexeme],
+) -> Result<(Sequence<Clause>, &'a [Lexeme]), OutOfMemory>
+    ensures given { IfOk result (λ x. (x.0, x.1.now) ≡ clauses_of start.now) }
+    ensures shorter { IfOk result (λ x. length x.1.now ≤ length start.now) }
+{
+    let mut clauses = Sequence::new(alloc);
+    let mut rest = start;
+    'more: loop {
+        match clause(alloc, rest) {
+            Ok((clause, behind)) => {
+                clauses.push(clause)?;
+                rest = behind;
+            }
+            Err(ParseFault::Syntax) => return Ok((clauses, rest)),
+            Err(ParseFault::Deep) => unreachable!(),
+            Err(ParseFault::OutOfMemory) => return Err(OutOfMemory),
+        }
+    }
+}
+
+/// RETURN, the last clause.
+#[tactic(auto, unfolding(crate::specs::QueryReaders::last_of))]
+fn last<'a>(alloc: Global, rest: &'a [Lexeme]) -> Result<(Clause, &'a [Lexeme]), ParseFault>
+    ensures given { Gives (λ x. (x.0, x.1.now)) result (last_of rest.now) }
+    ensures shorter { IfOk result (λ x. length x.1.now < length rest.now) }
+{
+    let rest = after_word(RETURN, rest)?;
+    let (found, rest) = returned(alloc, rest)?;
+    Ok((Clause::Return(found), rest))
+}
+
+/// Whether no two Page clauses stand side by side.
+fn no_pages_meet(clauses: &[Clause]) -> bool
+    ensures { result ≡ no_pages_meet clauses.now }
+{
+    let mut behind_page = false;
+    for clause in clauses {
+        let page = is_page(clause);
+        if behind_page && page {
+            return false;
+        }
+        behind_page = page;
+    }
+    true
+}
+
+/// Whether the clause is ORDER BY, OFFSET or LIMIT.
+fn is_page(clause: &Clause) -> bool
+    ensures { result ≡ is_page clause.now }
+{
+    matches!(clause, Clause::Page(_))
+}

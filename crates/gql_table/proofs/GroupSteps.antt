@@ -1,0 +1,177 @@
+-- The steps of grouping's loops: what is done, and what is left.
+use Rattle.std.proofs.Common.{◌≡◌, ℕ, suc, ◌+◌, ◌-◌, ◌<◌, true, false, cond, List, [], ◌∷◌, ◌++◌, length, map, take, drop, drop-drop, length-append, refl, sym, ap, ◌∙◌, add-one, arith, Result, Ok, Err}
+use Rattle.std.specs.Prelude.{slice_index_or}
+use Rattle.std.proofs.lemmas.List.{take-map, drop-map}
+use Rattle.gql_values3.specs.Datum.{Datum, null}
+use Rattle.gql_values3.specs.Meaning.{datum_of}
+use Rattle.gql_values3.specs.declared.value.Value.{Value}
+use Rattle.gql_values3.specs.PropertyGraph.{PropertyGraph}
+use Rattle.gql_values3.specs.declared.table.ColumnKind.TheVariants as kind
+use Rattle.gql_ast.specs.Scope.{row_scope}
+use Rattle.gql_ast.specs.Faults.{each}
+use Rattle.gql_ast.specs.Evaluation.{value_of}
+use Rattle.gql_ast.specs.Aggregates.{considered, aggregated}
+use Rattle.gql_ast.specs.ClauseColumns.{ColumnList}
+use Rattle.gql_ast.specs.Projections.{has_none}
+use Rattle.gql_ast.specs.RowAggregates.{RowAggregate, result_name}
+use Rattle.gql_ast.specs.declared.fault.DataFault.{DataFault}
+use Rattle.gql_eval.specs.Next.{next}
+use Rattle.gql_eval.specs.Gives.{Fails}
+use Rattle.gql_eval.specs.declared.error.EvalError.{EvalError}
+use Rattle.gql_eval.specs.declared.error.EvalError.TheVariants as error
+use Rattle.gql_table.specs.Tables.{RowList}
+use Rattle.gql_table.specs.Sorting.{first_key, later_keys}
+use Rattle.gql_table.specs.Grouping.{results}
+use Rattle.gql_table.specs.GroupPlan.{ItemPlan, Kept, names_from, kept_behind, rows_kept_behind, results_behind, values_in_group}
+use Rattle.gql_table.proofs.EachLemmas.{fails_first, each_cons}
+use Rattle.gql_table.proofs.KeyLemmas.{later_drop}
+
+-- one name more
+pub names_step : (i count : ℕ) → i < count → names_from i (count - i) ≡ (result_name i, kind.Plain) ∷ names_from (i + 1) (count - (i + 1))
+names_step i count below =
+    let more : count - i ≡ suc (count - (i + 1)) = omega (arith, below) in
+    ap (names_from i) more ∙ ap (λ n. (result_name i, kind.Plain) ∷ names_from n (count - (i + 1))) (sym (add-one i))
+
+pub none_left : (made : List RowAggregate) → has_none made ≡ true → length made ≡ 0
+none_left [] p = refl
+none_left (a ∷ made) p = absurd (cc)
+
+-- what joins a list, where it is a step's
+abbrev Joined : Result (List Datum) DataFault → List Datum → List Datum → Type 0
+Joined r before after = (ds : List Datum) × (r ≡ Ok ds) × (before ++ ds ≡ after)
+
+joined_by : (r : Result (List Datum) DataFault) (before after : List Datum) → next r (λ ds. Ok (before ++ ds)) ≡ Ok after → Joined r before after
+joined_by (Err e) before after p = absurd (cc)
+joined_by (Ok ds) before after p = (ds, refl, inside p)
+  where
+    inside : {x y : List Datum} → ◌≡◌ {A = Result (List Datum) DataFault} (Ok x) (Ok y) → x ≡ y
+    inside q = cc
+
+fails_joined : {B : Type 0} (e : EvalError) (r : Result (List Datum) DataFault) (before : List Datum) (then : List Datum → Result B DataFault) → Fails e (next r (λ ds. Ok (before ++ ds))) → Fails e (next r then)
+fails_joined error.OutOfMemory r before then p = tt
+fails_joined (error.Fault f) (Ok ds) before then p = absurd (cc)
+fails_joined (error.Fault f) (Err x) before then p = let same : x ≡ f = cc in ap Err same
+
+module _ (rows : RowList) where
+  -- one result more
+  pub results_step : (done : List Datum) (left more : List RowAggregate) (a : RowAggregate) (d : Datum) → left ≡ a ∷ more
+      → aggregated a.makes (considered a.quantifier (map (λ (r : List Datum). slice_index_or r (length done) null) rows)) ≡ Ok d
+      → next (results (length done) left rows) (λ ds. Ok (done ++ ds)) ≡ next (results (length (done ++ d ∷ [])) more rows) (λ ds. Ok ((done ++ d ∷ []) ++ ds))
+  results_step done left more a d p q =
+      ap (λ l. next (results (length done) l rows) (λ ds. Ok (done ++ ds))) p
+      ∙ ap (λ (r : Result Datum DataFault). next (next r (λ x. next (results (suc (length done)) more rows) (λ ds. Ok (x ∷ ds)))) (λ ds. Ok (done ++ ds))) q
+      ∙ each_cons (λ (x : Datum). Ok x) (results (suc (length done)) more rows) done d
+      ∙ ap (λ n. next (results n more rows) (λ ds. Ok ((done ++ d ∷ []) ++ ds))) (sym (length-append done (d ∷ []) ∙ add-one (length done)))
+
+  pub results_fail : {B : Type 0} (done : List Datum) (left more : List RowAggregate) (a : RowAggregate) (e : EvalError) (then : List Datum → Result B DataFault) → left ≡ a ∷ more
+      → Fails e (aggregated a.makes (considered a.quantifier (map (λ (r : List Datum). slice_index_or r (length done) null) rows))) → Fails e (next (results (length done) left rows) then)
+  results_fail done left more a e then p q = rw p (fails_first e _ then (fails_first e _ _ q))
+
+  -- the results of one item more
+  pub behind_step : (done after : List Datum) (left more : List ItemPlan) (p : ItemPlan) → left ≡ p ∷ more → next (results (length done) p.aggregates rows) (λ ds. Ok (done ++ ds)) ≡ Ok after
+      → results_behind done left rows ≡ results_behind after more rows
+  behind_step done after left more p q given =
+      let by = joined_by (results (length done) p.aggregates rows) done after given in
+      ap (λ l. results_behind done l rows) q ∙ ap (λ (r : Result (List Datum) DataFault). next r (λ ds. results_behind (done ++ ds) more rows)) by.1 ∙ ap (λ ds. results_behind ds more rows) by.2
+
+  pub behind_fails : (done : List Datum) (left more : List ItemPlan) (p : ItemPlan) (e : EvalError) → left ≡ p ∷ more → Fails e (next (results (length done) p.aggregates rows) (λ ds. Ok (done ++ ds)))
+      → Fails e (results_behind done left rows)
+  behind_fails done left more p e q given = rw q (fails_joined e (results (length done) p.aggregates rows) done (λ ds. results_behind (done ++ ds) more rows) given)
+
+module _ (g : PropertyGraph) (params : List (List ℕ × Datum)) (columns : ColumnList) (row : List Datum) where
+  -- a key more is kept
+  pub key_step : (keys arguments : List Datum) (left more : List ItemPlan) (p : ItemPlan) (d : Datum) → left ≡ p ∷ more → has_none p.aggregates ≡ true
+      → value_of g params (row_scope columns row) p.tree ≡ Ok d → kept_behind g params columns (keys, arguments) left row ≡ kept_behind g params columns (keys ++ d ∷ [], arguments) more row
+  key_step keys arguments left more p d q k given =
+      ap (λ l. kept_behind g params columns (keys, arguments) l row) q
+      ∙ ap (λ b. next (cond b (next (value_of g params (row_scope columns row) p.tree) (λ x. Ok (x ∷ []))) (each (λ (a : RowAggregate). value_of g params (row_scope columns row) a.argument) p.aggregates))
+      (λ note. kept_behind g params columns (cond b (keys ++ note, arguments) (keys, arguments ++ note)) more row)) k
+      ∙ ap (λ (r : Result Datum DataFault). next (next r (λ x. Ok (x ∷ []))) (λ note. kept_behind g params columns (keys ++ note, arguments) more row)) given
+
+  pub key_fails : (keys arguments : List Datum) (left more : List ItemPlan) (p : ItemPlan) (e : EvalError) → left ≡ p ∷ more → has_none p.aggregates ≡ true
+      → Fails e (value_of g params (row_scope columns row) p.tree) → Fails e (kept_behind g params columns (keys, arguments) left row)
+  key_fails keys arguments left more p e q k given = rw (q, k) (fails_first e _ _ (fails_first e _ _ given))
+
+  -- the arguments of an item more
+  pub arguments_step : (keys before after : List Datum) (left more : List ItemPlan) (p : ItemPlan) → left ≡ p ∷ more → has_none p.aggregates ≡ false
+      → next (each (λ (a : RowAggregate). value_of g params (row_scope columns row) a.argument) p.aggregates) (λ ds. Ok (before ++ ds)) ≡ Ok after
+      → kept_behind g params columns (keys, before) left row ≡ kept_behind g params columns (keys, after) more row
+  arguments_step keys before after left more p q k given =
+      let by = joined_by (each (λ (a : RowAggregate). value_of g params (row_scope columns row) a.argument) p.aggregates) before after given in
+      ap (λ l. kept_behind g params columns (keys, before) l row) q
+      ∙ ap (λ b. next (cond b (next (value_of g params (row_scope columns row) p.tree) (λ x. Ok (x ∷ []))) (each (λ (a : RowAggregate). value_of g params (row_scope columns row) a.argument) p.aggregates))
+      (λ note. kept_behind g params columns (cond b (keys ++ note, before) (keys, before ++ note)) more row)) k
+      ∙ ap (λ (r : Result (List Datum) DataFault). next r (λ note. kept_behind g params columns (keys, before ++ note) more row)) by.1
+      ∙ ap (λ ds. kept_behind g params columns (keys, ds) more row) by.2
+
+  pub arguments_fail : (keys before : List Datum) (left more : List ItemPlan) (p : ItemPlan) (e : EvalError) → left ≡ p ∷ more → has_none p.aggregates ≡ false
+      → Fails e (next (each (λ (a : RowAggregate). value_of g params (row_scope columns row) a.argument) p.aggregates) (λ ds. Ok (before ++ ds))) → Fails e (kept_behind g params columns (keys, before) left row)
+  arguments_fail keys before left more p e q k given =
+      rw (q, k) (fails_joined e (each (λ (a : RowAggregate). value_of g params (row_scope columns row) a.argument) p.aggregates) before _ given)
+
+module _ (g : PropertyGraph) (params : List (List ℕ × Datum)) (columns : ColumnList) (plan : List ItemPlan) where
+  -- one row more is noted
+  pub row_step : (keys arguments left rest : RowList) (row k a : List Datum) → left ≡ row ∷ rest → kept_behind g params columns ([], []) plan row ≡ Ok (k, a)
+      → rows_kept_behind g params columns keys arguments plan left ≡ rows_kept_behind g params columns (keys ++ k ∷ []) (arguments ++ a ∷ []) plan rest
+  row_step keys arguments left rest row k a q given =
+      ap (rows_kept_behind g params columns keys arguments plan) q
+      ∙ ap (λ (r : Result Kept DataFault). next r (λ kept. rows_kept_behind g params columns (keys ++ kept.0 ∷ []) (arguments ++ kept.1 ∷ []) plan rest)) given
+
+  pub row_fails : (keys arguments left rest : RowList) (row : List Datum) (e : EvalError) → left ≡ row ∷ rest → Fails e (kept_behind g params columns ([], []) plan row)
+      → Fails e (rows_kept_behind g params columns keys arguments plan left)
+  row_fails keys arguments left rest row e q given = rw q (fails_first e _ _ given)
+
+module _ (g : PropertyGraph) (params : List (List ℕ × Datum)) (keys done : List Datum) where
+  -- the value of a key more
+  pub key_value_step : (key from : ℕ) (values : List Datum) (left more : List ItemPlan) (p : ItemPlan) (d : Datum) → left ≡ p ∷ more → has_none p.aggregates ≡ true → d ≡ first_key (drop key keys)
+      → next (values_in_group g params left (drop key keys) (drop from done)) (λ ds. Ok (values ++ ds)) ≡ next (values_in_group g params more (drop (key + 1) keys) (drop from done)) (λ ds. Ok ((values ++ d ∷ []) ++ ds))
+  key_value_step key from values left more p d q k here =
+      let rest : List Datum → List Datum → Result (List Datum) DataFault = values_in_group g params more in
+      ap (λ l. next (values_in_group g params l (drop key keys) (drop from done)) (λ ds. Ok (values ++ ds))) q
+      ∙ ap (λ b. next (next (cond b (Ok (first_key (drop key keys))) (value_of g params (row_scope p.names (take (length p.aggregates) (drop from done))) p.whole))
+      (λ x. next (rest (cond b (later_keys (drop key keys)) (drop key keys)) (drop (length p.aggregates) (drop from done))) (λ ds. Ok (x ∷ ds)))) (λ ds. Ok (values ++ ds))) k
+      ∙ ap (λ x. next (next (rest (later_keys (drop key keys)) (drop (length p.aggregates) (drop from done))) (λ ds. Ok (x ∷ ds))) (λ ds. Ok (values ++ ds))) (sym here)
+      ∙ each_cons (λ (x : Datum). Ok x) (rest (later_keys (drop key keys)) (drop (length p.aggregates) (drop from done))) values d
+      ∙ (λ i. next (rest ((later_drop key keys ∙ ap (λ n. drop n keys) (sym (add-one key))) i) (drop (none_left p.aggregates k i) (drop from done))) (λ ds. Ok ((values ++ d ∷ []) ++ ds)))
+
+  -- the expression around the results of an item more
+  pub whole_step : (key from past : ℕ) (values : List Datum) (left more : List ItemPlan) (p : ItemPlan) (d : Datum) → left ≡ p ∷ more → has_none p.aggregates ≡ false → past ≡ from + length p.aggregates
+      → value_of g params (row_scope p.names (take (length p.aggregates) (drop from done))) p.whole ≡ Ok d
+      → next (values_in_group g params left (drop key keys) (drop from done)) (λ ds. Ok (values ++ ds)) ≡ next (values_in_group g params more (drop key keys) (drop past done)) (λ ds. Ok ((values ++ d ∷ []) ++ ds))
+  whole_step key from past values left more p d q k end given =
+      let rest : List Datum → List Datum → Result (List Datum) DataFault = values_in_group g params more in
+      ap (λ l. next (values_in_group g params l (drop key keys) (drop from done)) (λ ds. Ok (values ++ ds))) q
+      ∙ ap (λ b. next (next (cond b (Ok (first_key (drop key keys))) (value_of g params (row_scope p.names (take (length p.aggregates) (drop from done))) p.whole))
+      (λ x. next (rest (cond b (later_keys (drop key keys)) (drop key keys)) (drop (length p.aggregates) (drop from done))) (λ ds. Ok (x ∷ ds)))) (λ ds. Ok (values ++ ds))) k
+      ∙ ap (λ (r : Result Datum DataFault). next (next r (λ x. next (rest (drop key keys) (drop (length p.aggregates) (drop from done))) (λ ds. Ok (x ∷ ds)))) (λ ds. Ok (values ++ ds))) given
+      ∙ each_cons (λ (x : Datum). Ok x) (rest (drop key keys) (drop (length p.aggregates) (drop from done))) values d
+      ∙ ap (λ (l : List Datum). next (rest (drop key keys) l) (λ ds. Ok ((values ++ d ∷ []) ++ ds))) (drop-drop (length p.aggregates) from done ∙ ap (λ n. drop n done) (sym end))
+
+  pub whole_fails : {B : Type 0} (key from : ℕ) (left more : List ItemPlan) (p : ItemPlan) (e : EvalError) (then : List Datum → Result B DataFault) → left ≡ p ∷ more → has_none p.aggregates ≡ false
+      → Fails e (value_of g params (row_scope p.names (take (length p.aggregates) (drop from done))) p.whole)
+      → Fails e (next (values_in_group g params left (drop key keys) (drop from done)) then)
+  whole_fails key from left more p e then q k given = rw (q, k) (fails_first e _ then (fails_first e _ _ given))
+
+-- as many keys as rows of arguments
+module _ (g : PropertyGraph) (params : List (List ℕ × Datum)) (columns : ColumnList) (plan : List ItemPlan) where
+  both_case : (rows keys arguments K A : RowList) (r : Result Kept DataFault) → length keys ≡ length arguments
+      → ((k a : RowList) → length k ≡ length a → rows_kept_behind g params columns k a plan rows ≡ Ok (K, A) → length K ≡ length A)
+      → next r (λ kept. rows_kept_behind g params columns (keys ++ kept.0 ∷ []) (arguments ++ kept.1 ∷ []) plan rows) ≡ Ok (K, A) → length K ≡ length A
+  both_case rows keys arguments K A (Err f) same more given = absurd (cc)
+  both_case rows keys arguments K A (Ok kept) same more given =
+      more (keys ++ kept.0 ∷ []) (arguments ++ kept.1 ∷ []) (omega (arith, same, length-append keys (kept.0 ∷ []), length-append arguments (kept.1 ∷ []))) given
+
+  pub both_long : (rows keys arguments K A : RowList) → length keys ≡ length arguments → rows_kept_behind g params columns keys arguments plan rows ≡ Ok (K, A) → length K ≡ length A
+  both_long [] keys arguments K A same given =
+      let it = inside given in
+      sym (ap (λ (t : RowList × RowList). length t.0) it) ∙ same ∙ ap (λ (t : RowList × RowList). length t.1) it
+    where
+      inside : {x y : RowList × RowList} → ◌≡◌ {A = Result (RowList × RowList) DataFault} (Ok x) (Ok y) → x ≡ y
+      inside q = cc
+  both_long (row ∷ rows) keys arguments K A same given =
+      both_case rows keys arguments K A (kept_behind g params columns ([], []) plan row) same (λ k a p q. both_long rows k a K A p q) given
+
+-- a part of the results
+pub part_is : (results : List Value) (from m k : ℕ) → m ≡ k → map datum_of (take m (drop from results)) ≡ take k (drop from (map datum_of results))
+part_is results from m k p =
+    ap (λ n. map datum_of (take n (drop from results))) p ∙ sym (take-map datum_of k (drop from results)) ∙ ap (take k) (sym (drop-map datum_of from results))

@@ -1,0 +1,12 @@
+use Rattle.std.proofs.Common.{◌≡◌, ◌++◌, length, Ok}
+use Rattle.std.specs.Vec.Iter.{into_iter_items, into_iter_len}
+use Rattle.gql_eval.specs.Next.{next}
+use Rattle.gql_table.specs.For.{for_rows}
+use Rattle.gql_table.proofs.for_clause.for_table.Given as goal
+
+abbrev pub invariant-loop-row : goal.invariant-loop-row
+invariant-loop-row g l = record {
+  whole : next (for_rows (g.V.View.graph l.view) l.params l.columns l.clause (into_iter_items l.row-iterator)) (λ rows. Ok (l.done ++ rows))
+      ≡ for_rows (g.V.View.graph l.view) l.params l.columns l.clause l.fn.rows;
+  counted : into_iter_len l.row-iterator ≡ length (into_iter_items l.row-iterator);
+}

@@ -1,0 +1,17 @@
+pub mod Tables
+pub mod Let
+pub mod Filter
+pub mod For
+pub mod Sorting
+pub mod Paging
+pub mod Width
+pub mod Distinct
+pub mod Ranked
+pub mod Places
+pub mod Grouping
+pub mod AggregateMeaning
+pub mod GroupPlan
+pub mod GroupMeaning
+pub mod Projection
+pub mod Clauses
+pub mod Fitting

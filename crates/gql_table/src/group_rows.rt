@@ -1,0 +1,93 @@
+//! The output rows of a grouped RETURN, one for each group.
+
+ghost use Rattle.std.specs.Prelude.{◌≡◌, map, length, drop, IfOk};
+ghost use Rattle.gql_values3.specs.Meaning.{datum_of};
+ghost use Rattle.gql_ast.specs.Faults.{each};
+ghost use Rattle.gql_eval.specs.Gives.{Gives};
+ghost use Rattle.gql_table.specs.Sorting.{first_key};
+ghost use Rattle.gql_table.specs.GroupPlan.{row_of_group, values_in_group, result_count};
+ghost use Rattle.gql_table.specs.GroupMeaning.{item_meant, group_meant};
+
+use crate::cells::cell;
+use crate::group_items::GroupItem;
+use crate::group_results::group_results;
+use crate::groups::Group;
+use crate::sorting::value_at;
+use gql_eval::EvalError;
+use gql_values3::{OutOfMemory, Params, Row, Rows, Value, View};
+use std::alloc::Global;
+
+/// The row of each group.
+pub fn group_rows<V: View>(
+    alloc: Global,
+    view: &V,
+    params: &Params,
+    items: &[GroupItem],
+    groups: &[Group],
+) -> Result<Rows, EvalError>
+    ensures { Gives (λ r. r) result (each (row_of_group (V.graph view.now) params.now (map item_meant items.now)) (map group_meant groups.now)) }
+{
+    let mut done = Rows::new(alloc);
+    for i in 0..groups.len() {
+        done.push(group_row(alloc, view, params, items, &groups[i])?)?;
+    }
+    Ok(done)
+}
+
+/// All results come before the items around them.
+fn group_row<V: View>(
+    alloc: Global,
+    view: &V,
+    params: &Params,
+    items: &[GroupItem],
+    group: &Group,
+) -> Result<Row, EvalError>
+    ensures { Gives (λ r. r) result (row_of_group (V.graph view.now) params.now (map item_meant items.now) (group_meant group.now)) }
+{
+    let results = group_results(alloc, items, group.rows.as_slice())?;
+    item_values(alloc, view, params, items, group.key, results.as_slice())
+}
+
+/// The values of the items, of a group's key and its results.
+fn item_values<V: View>(
+    alloc: Global,
+    view: &V,
+    params: &Params,
+    items: &[GroupItem],
+    keys: &[Value],
+    results: &[Value],
+) -> Result<Row, EvalError>
+    requires { length results.now ≡ result_count (map item_meant items.now) }
+    ensures { Gives (λ r. r) result (values_in_group (V.graph view.now) params.now (map item_meant items.now) (map datum_of keys.now) (map datum_of results.now)) }
+{
+    let mut values = Row::new(alloc);
+    let mut key = 0;
+    let mut from = 0;
+    for i in 0..items.len() {
+        let item = &items[i];
+        if item.is_key() {
+            values.push(key_value(alloc, keys, key)?)?;
+            key += 1;
+        } else {
+            let past = from + item.aggregates.len();
+            let part = &results[from..past];
+            values.push(cell(
+                alloc,
+                view,
+                item.names.as_slice(),
+                part,
+                params,
+                &item.whole,
+            )?)?;
+            from = past;
+        }
+    }
+    Ok(values)
+}
+
+fn key_value(alloc: Global, keys: &[Value], place: usize) -> Result<Value, OutOfMemory>
+    ensures { IfOk result (λ value. datum_of value ≡ first_key (drop place (map datum_of keys.now))) }
+{
+    let none = Value::Null;
+    value_at(keys, place, &none).try_copy(alloc)
+}

@@ -1,0 +1,92 @@
+//! The rows of a RETURN with GROUP BY, or with an aggregate over rows.
+
+ghost use Rattle.std.specs.Prelude.{◌≡◌, map, IfOk};
+ghost use Rattle.gql_ast.specs.Meaning.{tree_of};
+ghost use Rattle.gql_ast.specs.Tree.{name};
+ghost use Rattle.gql_ast.specs.Projections.{output_trees};
+ghost use Rattle.gql_eval.specs.Gives.{Gives};
+ghost use Rattle.gql_table.specs.Grouping.{grouped_rows};
+
+use crate::group_items::{any_key, group_items};
+use crate::group_rows::group_rows;
+use crate::groups::groups_of_rows;
+use crate::notes::noted_table;
+use gql_ast::{Expr, ReturnItem, ReturnItems};
+use gql_eval::EvalError;
+use gql_values3::{Columns, OutOfMemory, Params, Rows, View};
+use std::alloc::Global;
+
+/// The rows, one for each group of equal keys.
+pub fn grouped_table<V: View>(
+    alloc: Global,
+    view: &V,
+    columns: &Columns,
+    rows: Rows,
+    params: &Params,
+    items: &ReturnItems,
+) -> Result<Rows, EvalError>
+    ensures { Gives (λ r. r) result (grouped_rows (V.graph view.now) params.now columns.now (output_trees columns.now items.now) rows) }
+{
+    match items {
+        ReturnItems::Listed(items) => {
+            let exprs = expressions(alloc, items.as_slice())?;
+            grouped_by(alloc, view, columns, rows, params, exprs.as_slice())
+        }
+        ReturnItems::All => {
+            let names = column_names(alloc, columns)?;
+            let exprs = references(alloc, names.as_slice())?;
+            grouped_by(alloc, view, columns, rows, params, exprs.as_slice())
+        }
+    }
+}
+
+/// First every row is noted, and then each group gives its row.
+fn grouped_by<V: View>(
+    alloc: Global,
+    view: &V,
+    columns: &Columns,
+    rows: Rows,
+    params: &Params,
+    exprs: &[&Expr],
+) -> Result<Rows, EvalError>
+    ensures { Gives (λ r. r) result (grouped_rows (V.graph view.now) params.now columns.now (map (λ e. tree_of e.now) exprs.now) rows) }
+{
+    let items = group_items(alloc, columns, exprs)?;
+    let items = items.as_slice();
+    let (keys, arguments) = noted_table(alloc, view, columns, rows, params, items)?;
+    let groups = groups_of_rows(alloc, any_key(items), keys.as_slice(), arguments.as_slice())?;
+    group_rows(alloc, view, params, items, groups.as_slice())
+}
+
+fn expressions<'a>(alloc: Global, items: &'a [ReturnItem]) -> Result<Vec<&'a Expr>, OutOfMemory>
+    ensures { IfOk result (λ exprs. map (λ e. tree_of e.now) exprs.items ≡ map (λ i. tree_of i.value) items.now) }
+{
+    let mut exprs = Vec::new(alloc);
+    for i in 0..items.len() {
+        exprs.push(&items[i].value)?;
+    }
+    Ok(exprs)
+}
+
+/// The names of all columns, as `*` gives them.
+fn column_names(alloc: Global, columns: &Columns) -> Result<Vec<Expr>, OutOfMemory>
+    ensures { IfOk result (λ names. map tree_of names.items ≡ map (λ c. name c.0) columns.now) }
+{
+    let columns = columns.as_slice();
+    let mut names = Vec::new(alloc);
+    for i in 0..columns.len() {
+        let column = &columns[i];
+        names.push(Expr::Name(column.0.try_copy(alloc)?))?;
+    }
+    Ok(names)
+}
+
+fn references<'a>(alloc: Global, names: &'a [Expr]) -> Result<Vec<&'a Expr>, OutOfMemory>
+    ensures { IfOk result (λ exprs. map (λ e. tree_of e.now) exprs.items ≡ map tree_of names.now) }
+{
+    let mut exprs = Vec::new(alloc);
+    for i in 0..names.len() {
+        exprs.push(&names[i])?;
+    }
+    Ok(exprs)
+}

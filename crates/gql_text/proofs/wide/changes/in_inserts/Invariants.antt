@@ -1,0 +1,7 @@
+use Rattle.std.proofs.Common.{◌≡◌}
+use Rattle.gql_ast.specs.NumberLiterals.{numbers_in_insert}
+use Rattle.gql_text.proofs.FindLemmas.{found}
+use Rattle.gql_text.proofs.wide.changes.in_inserts.Given as goal
+
+abbrev pub invariant-loop-path : goal.invariant-loop-path
+invariant-loop-path l = found numbers_in_insert l.paths l.path-index ≡ found numbers_in_insert l.paths 0
