@@ -279,7 +279,7 @@ const REFUSED: [Row<'static>; 4] = [
 ];
 
 /// Queries.
-const ANSWERED: [Row<'static>; 7] = [
+const ANSWERED: [Row<'static>; 10] = [
     ("a node with the label", QUERY, 0, "x\n(1)\nrows 1\n"),
     (
         "no node has the label",
@@ -312,10 +312,34 @@ const ANSWERED: [Row<'static>; 7] = [
         0,
         "a\tb\nTRUE\tFALSE\nrows 1\n",
     ),
+    (
+        "the least and the greatest of several kinds",
+        "FOR v IN ['a', 1, TRUE, NULL] RETURN MIN(v) AS least, MAX(v) AS most;",
+        0,
+        "least\tmost\nTRUE\t'a'\nrows 1\n",
+    ),
+    (
+        "a canonical text reads as what it is the text of",
+        "RETURN not 1=007, LIST[ 2,-(3)*4 ]; RETURN NOT 1 = 7, [2, -(3) * 4];",
+        0,
+        "NOT 1 = 7\t[2, -(3) * 4]\nTRUE\t[2, -12]\nrows 1\nNOT 1 = 7\t[2, -(3) * 4]\nTRUE\t[2, -12]\nrows 1\n",
+    ),
+    (
+        "so do those of chains, strings and calls",
+        "RETURN true or not false AND null is null, 'it''s'||\"a\\tb\", mod(-7,2), coalesce(null,3), +1-2*-3/2; RETURN TRUE OR NOT FALSE AND NULL IS NULL, 'it\\'s' || 'a\\tb', MOD(-7, 2), COALESCE(NULL, 3), +1 - 2 * -3 / 2;",
+        0,
+        "TRUE OR NOT FALSE AND NULL IS NULL\t'it\\'s' || 'a\\tb'\tMOD(-7, 2)\tCOALESCE(NULL, 3)\t+1 - 2 * -3 / 2\nTRUE\t'it\\'sa\\tb'\t-1\t3\t4\nrows 1\nTRUE OR NOT FALSE AND NULL IS NULL\t'it\\'s' || 'a\\tb'\tMOD(-7, 2)\tCOALESCE(NULL, 3)\t+1 - 2 * -3 / 2\nTRUE\t'it\\'sa\\tb'\t-1\t3\t4\nrows 1\n",
+    ),
 ];
 
 /// Queries over three nodes.
-const OVER_THREE: [Row<'static>; 2] = [
+const OVER_THREE: [Row<'static>; 3] = [
+    (
+        "nodes as keys",
+        "MATCH (x) RETURN x, COUNT(*) AS c, COLLECT_LIST(x) AS xs;",
+        0,
+        "x\tc\txs\n(1)\t1\t[(1)]\n(2)\t1\t[(2)]\n(3)\t1\t[(3)]\nrows 3\n",
+    ),
     (
         "a property that is missing",
         "MATCH (x) FILTER x.missing = 1 RETURN x;",
