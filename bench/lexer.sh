@@ -1,6 +1,7 @@
 #!/bin/sh
-# Prints how fast text of four kinds is cut into pieces and lexemes: ordinary statements, one long string, one long
-# comment, symbols alone; 64 MiB each, with peak memory. The files are made in a folder of their own, and dropped.
+# Prints how fast text of four kinds is cut into pieces, each piece into lexemes, and both together: ordinary statements,
+# one long string, one long comment, symbols alone; 64 MiB each, with peak memory. The files are made in a folder of their
+# own, and dropped.
 top=$(cd "$(dirname "$0")/.." && pwd) || exit 70
 program=$top/crates/gql_bench/out/gql_bench
 [ -x "$program" ] || (cd "$top/crates/gql_bench" && rt run) >/dev/null 2>&1
@@ -17,9 +18,12 @@ for kind in statements string comment symbols; do
 import re, resource, subprocess, sys
 program, text, kind = sys.argv[1:]
 ran = subprocess.run([program, "lexer", text], capture_output=True, text=True)
-took = re.search(r"(\d+) ms for (\d+) bytes", ran.stderr)
+took = re.search(r"(\d+) ms for the pieces, (\d+) ms for (\d+) bytes", ran.stderr)
 peak = resource.getrusage(resource.RUSAGE_CHILDREN).ru_maxrss / 1024
-speed = int(took[2]) / 1000 / max(1, int(took[1])) if took else 0
-print(f"{kind}: {ran.stdout.strip()}; {speed:.0f} MB/s, {peak:.0f} MB at most {ran.stderr.strip() if not took else ''}")
+if not took:
+    sys.exit(f"{kind}: {ran.stderr.strip()}")
+cut, whole, size = (int(n) for n in took.groups())
+speed = lambda ms: size / 1000 / max(1, ms)
+print(f"{kind}: {ran.stdout.strip()}; pieces {speed(cut):.0f} MB/s, lexemes {speed(whole - cut):.0f} MB/s, both {speed(whole):.0f} MB/s, {peak:.0f} MB at most")
 PY
 done

@@ -7,3 +7,4 @@ pub mod PatternLemmas
 mod EvaluationExamples
 mod NameExamples
 mod RefusalExamples
+mod ChangeExamples

@@ -1,5 +1,5 @@
 -- Examples of static refusals, computed: each was worked out by hand from the rules.
-use Rattle.std.proofs.Common.{◌≡◌, ℕ, pos, true, false, Bool, List, [], ◌∷◌, codes, Option, Some, None, refl}
+use Rattle.std.proofs.Common.{◌≡◌, ℕ, pos, true, false, List, [], ◌∷◌, codes, Option, Some, None, refl}
 use Rattle.std.specs.Fmt.{digits}
 use Rattle.std.specs.Str.{chars}
 use Rattle.unicode_ident.specs.Ident.{is_xid_start, is_xid_continue}
@@ -7,13 +7,13 @@ use Rattle.ucd_table.specs.Rows.{in_ranges}
 use Rattle.ucd_derived.specs.XidStartRanges.{xid_start_ranges}
 use Rattle.ucd_derived.specs.XidContinueRanges.{xid_continue_ranges}
 use Rattle.gql_values3.specs.Names.{reserved_words}
-use Rattle.gql_values3.specs.Datum.{Datum, integer}
+use Rattle.gql_values3.specs.Datum.{integer}
 use Rattle.gql_values3.specs.declared.table.ColumnKind.TheVariants as kind
 use Rattle.gql_ast.specs.Misuses.{misused, elsewhere, item}
 use Rattle.gql_ast.specs.ExprText.{expr_text}
 use Rattle.gql_ast.specs.RowAggregates.{row_aggregates}
 use Rattle.gql_ast.specs.StaticRefusals.{static_refusal}
-use Rattle.gql_ast.specs.Tree.{Tree, number, name, property, parameter, paren, listing, count_all, aggregate, sum, test, end_test, link, links_of, trees_of}
+use Rattle.gql_ast.specs.Tree.{Tree, number, name, property, paren, listing, count_all, aggregate, sum, test, end_test, link, links_of, trees_of}
 use Rattle.gql_ast.specs.declared.clause.Clause.{Clause}
 use Rattle.gql_ast.specs.declared.clause.Clause.TheVariants as clause
 use Rattle.gql_ast.specs.declared.clause.Counting.{Counting}
@@ -25,12 +25,10 @@ use Rattle.gql_ast.specs.declared.filler.Condition.{Condition}
 use Rattle.gql_ast.specs.declared.filler.Condition.TheVariants as condition
 use Rattle.gql_ast.specs.declared.filler.MapItem.{MapItem}
 use Rattle.gql_ast.specs.declared.page.Page.TheVariants as page
-use Rattle.gql_ast.specs.declared.page.RowCount.{RowCount}
 use Rattle.gql_ast.specs.declared.page.RowCount.TheVariants as rows
 use Rattle.gql_ast.specs.declared.page.SortDirection.TheVariants as direction
 use Rattle.gql_ast.specs.declared.page.SortItem.{SortItem}
 use Rattle.gql_ast.specs.declared.pattern.PathExpr.TheVariants as path
-use Rattle.gql_ast.specs.declared.projection.Return.{Return}
 use Rattle.gql_ast.specs.declared.projection.ReturnItem.{ReturnItem}
 use Rattle.gql_ast.specs.declared.projection.ReturnItems.{ReturnItems}
 use Rattle.gql_ast.specs.declared.projection.ReturnItems.TheVariants as items
@@ -38,7 +36,6 @@ use Rattle.gql_ast.specs.declared.refusal.ColumnRef.TheVariants as column
 use Rattle.gql_ast.specs.declared.refusal.Refusal.{Refusal}
 use Rattle.gql_ast.specs.declared.refusal.Refusal.TheVariants as refusal
 use Rattle.gql_ast.specs.declared.statement.SessionStatement.TheVariants as session
-use Rattle.gql_ast.specs.declared.statement.Statement.{Statement}
 use Rattle.gql_ast.specs.declared.statement.Statement.TheVariants as statement
 use Rattle.gql_ast.specs.declared.words.Aggregate.TheVariants as aggregates
 use Rattle.gql_ast.specs.declared.words.EdgeEnd.TheVariants as ends

@@ -2,7 +2,7 @@
 -- column outside it; GROUP BY names something else than a key, or one twice, or omits one; `RETURN *` has no column. Here
 -- stands what is at fault, in the order of the text.
 use Rattle.std.specs.Prelude.{ℕ, Bool, not, ◌&&◌, List, [], ◌∷◌, ◌++◌, map, filter, Option, Some, None, if◌then◌else◌}
-use Rattle.std.specs.List.{list_any}
+use Rattle.std.specs.List.{list_any, flat_map}
 use Rattle.gql_values3.specs.Texts.{same_text}
 use Rattle.gql_values3.specs.declared.table.ColumnKind.{ColumnKind}
 use Rattle.gql_ast.specs.Tree.{Tree, Trees, Links, constant, unknown, number, parameter, name, property, paren, listing, count_all, aggregate, call, modulo, coalesce, signed, product, sum, comparing, test, label_test, end_test, negation, conjunction, disjunction, link, no_trees, more_trees, no_links, more_links}
@@ -10,8 +10,12 @@ use Rattle.gql_ast.specs.Meaning.{tree_of}
 use Rattle.gql_ast.specs.Scope.{names_in}
 use Rattle.gql_ast.specs.Outputs.{item_name}
 use Rattle.gql_ast.specs.ClauseColumns.{ColumnList, node_of_pattern}
+use Rattle.gql_ast.specs.InsertColumns.{insert_spots}
 use Rattle.gql_ast.specs.Projections.{is_key, columns_behind}
 use Rattle.gql_ast.specs.RowAggregates.{is_over_group}
+use Rattle.gql_ast.specs.declared.change.ChangeClause.{ChangeClause}
+use Rattle.gql_ast.specs.declared.change.ChangeClause.TheVariants as change
+use Rattle.gql_ast.specs.declared.change.Fill.{Fill}
 use Rattle.gql_ast.specs.declared.clause.Clause.{Clause}
 use Rattle.gql_ast.specs.declared.clause.Clause.TheVariants as clause
 use Rattle.gql_ast.specs.declared.filler.Condition.{Condition}
@@ -119,9 +123,18 @@ module _ (columns : ColumnList) where
   abbrev pub faults_in_return : Return → List ColumnRef
   faults_in_return r = faults_in_items r.items ++ faults_in_grouping (key_names r.items) r.grouping
 
+abbrev pub faults_in_map : Option (List MapItem) → List ColumnRef
+faults_in_map None = []
+faults_in_map (Some is) = map column.Property (repeated [] (map (λ (i : MapItem). i.name) is))
+
+abbrev pub faults_in_change : ChangeClause → List ColumnRef
+faults_in_change (change.Insert ps) = flat_map (λ (s : ColumnKind × Fill). faults_in_map s.1.map) (insert_spots ps)
+faults_in_change _ = []
+
 abbrev pub faults_in_clause : ColumnList → Clause → List ColumnRef
 faults_in_clause columns (clause.Match m) = faults_in_node (node_of_pattern m.pattern)
 faults_in_clause columns (clause.Return r) = faults_in_return columns r
+faults_in_clause columns (clause.Change c) = faults_in_change c
 faults_in_clause columns _ = []
 
 abbrev pub faults_in_clauses : ColumnList → List Clause → List ColumnRef

@@ -28,6 +28,7 @@ pub mod NumberLiterals
 pub mod Outputs
 pub mod RowAggregates
 pub mod ClauseColumns
+pub mod InsertColumns
 pub mod Projections
 pub mod UnknownNames
 pub mod WrongKinds

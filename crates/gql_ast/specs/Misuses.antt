@@ -3,12 +3,19 @@
 use Rattle.std.specs.Prelude.{ℕ, Bool, true, false, not, ◌||◌, ◌&&◌, List, [], ◌∷◌, ◌++◌, filter, Option, Some, None}
 use Rattle.std.specs.List.{list_any}
 use Rattle.gql_values3.specs.Texts.{same_text}
+use Rattle.gql_values3.specs.declared.table.ColumnKind.{ColumnKind}
 use Rattle.gql_ast.specs.Tree.{Tree, Trees, Links, constant, unknown, number, parameter, name, property, paren, listing, count_all, aggregate, call, modulo, coalesce, signed, product, sum, comparing, test, label_test, end_test, negation, conjunction, disjunction, link, no_trees, more_trees, no_links, more_links}
 use Rattle.gql_ast.specs.Meaning.{tree_of}
 use Rattle.gql_ast.specs.Scope.{holds_group, names_in}
 use Rattle.gql_ast.specs.Outputs.{kind_of_name, kind_of, element_kind}
 use Rattle.gql_ast.specs.ClauseColumns.{ColumnList, node_of_pattern, match_columns, with_filler}
+use Rattle.gql_ast.specs.InsertColumns.{insert_spots}
 use Rattle.gql_ast.specs.Projections.{sort_columns, columns_behind}
+use Rattle.gql_ast.specs.declared.change.ChangeClause.{ChangeClause}
+use Rattle.gql_ast.specs.declared.change.ChangeClause.TheVariants as change
+use Rattle.gql_ast.specs.declared.change.Fill.{Fill}
+use Rattle.gql_ast.specs.declared.change.SetItem.{SetItem}
+use Rattle.gql_ast.specs.declared.change.SetItem.TheVariants as set_item
 use Rattle.gql_ast.specs.declared.clause.Clause.{Clause}
 use Rattle.gql_ast.specs.declared.clause.Clause.TheVariants as clause
 use Rattle.gql_ast.specs.declared.clause.LetItem.{LetItem}
@@ -145,6 +152,19 @@ abbrev pub misused_items : ColumnList → ReturnItems → Bool
 misused_items columns items.All = false
 misused_items columns (items.Listed is) = list_any (λ (i : ReturnItem). misused_expr columns item i.value) is
 
+abbrev pub misused_map : ColumnList → Option (List MapItem) → Bool
+misused_map columns None = false
+misused_map columns (Some is) = list_any (λ (i : MapItem). misused_expr columns elsewhere i.value) is
+
+abbrev pub misused_set : ColumnList → SetItem → Bool
+misused_set columns (set_item.Property x p e) = misused_expr columns elsewhere e
+misused_set columns (set_item.Label x l) = false
+
+abbrev pub misused_change : ColumnList → ChangeClause → Bool
+misused_change columns (change.Insert ps) = list_any (λ (s : ColumnKind × Fill). misused_map columns s.1.map) (insert_spots ps)
+misused_change columns (change.Set is) = list_any (misused_set columns) is
+misused_change columns _ = false
+
 abbrev pub misused_clause : ColumnList → Clause → Bool
 misused_clause columns (clause.Match m) = misused_pattern columns m.pattern
 misused_clause columns (clause.Let is) = misused_let columns is
@@ -152,7 +172,7 @@ misused_clause columns (clause.Filter e) = misused_expr columns elsewhere e
 misused_clause columns (clause.For f) = misused_expr columns elsewhere f.list
 misused_clause columns (clause.Page p) = misused_page columns p
 misused_clause columns (clause.Return r) = misused_items columns r.items || misused_order (sort_columns columns r) r.order
-misused_clause columns (clause.Change c) = false
+misused_clause columns (clause.Change c) = misused_change columns c
 
 abbrev pub misused_clauses : ColumnList → List Clause → Bool
 misused_clauses columns [] = false

@@ -6,6 +6,7 @@ use Rattle.gql_ast.specs.Tree.{Tree, name}
 use Rattle.gql_ast.specs.Meaning.{tree_of}
 use Rattle.gql_ast.specs.Outputs.{item_column}
 use Rattle.gql_ast.specs.ClauseColumns.{ColumnList, let_columns, for_columns, match_columns}
+use Rattle.gql_ast.specs.InsertColumns.{change_columns}
 use Rattle.gql_ast.specs.RowAggregates.{RowAggregate, row_aggregates}
 use Rattle.gql_ast.specs.declared.clause.Clause.{Clause}
 use Rattle.gql_ast.specs.declared.clause.Clause.TheVariants as clause
@@ -55,4 +56,5 @@ columns_behind columns (clause.Match m) = match_columns columns m.pattern
 columns_behind columns (clause.Let is) = let_columns columns is
 columns_behind columns (clause.For f) = for_columns columns f
 columns_behind columns (clause.Return r) = output_columns columns r.items
+columns_behind columns (clause.Change c) = change_columns columns c
 columns_behind columns _ = columns

@@ -1,5 +1,5 @@
 -- Static refusals: the first in the order of their codes, and within one code the first in the order of the text. Only
--- E08, E09, E15, E16 and E23 stand here, as they come in statements over one node pattern.
+-- E08, E09, E15, E16 and E23 stand here, as they come in statements over one node pattern and in changes of data.
 use Rattle.std.specs.Prelude.{ℕ, Bool, true, false, List, [], ◌∷◌, Option, Some, None}
 use Rattle.std.specs.List.{flat_map}
 use Rattle.std.specs.Option.{option_or}

@@ -1,14 +1,24 @@
--- E08 VARIABLE: an expression names a variable that isn't in scope, or LET or FOR declares a name that is taken. Here
--- stand the names at fault in the order of the text.
-use Rattle.std.specs.Prelude.{ℕ, not, List, [], ◌∷◌, ◌++◌, filter, Option, Some, None, if◌then◌else◌}
+-- E08 VARIABLE: an expression, SET, REMOVE or DELETE names a variable that isn't in scope; LET or FOR declares a name that
+-- is taken; an INSERT variable that stands already has labels or a map, or is an edge's. Here stand the names at fault in
+-- the order of the text.
+use Rattle.std.specs.Prelude.{ℕ, Bool, true, false, not, ◌&&◌, List, [], ◌∷◌, ◌++◌, filter, Option, Some, None, if◌then◌else◌}
 use Rattle.std.specs.List.{flat_map}
+use Rattle.gql_values3.specs.declared.table.ColumnKind.{ColumnKind}
 use Rattle.gql_values3.specs.declared.table.ColumnKind.TheVariants as kind
 use Rattle.gql_ast.specs.Tree.{Tree}
 use Rattle.gql_ast.specs.Meaning.{tree_of}
 use Rattle.gql_ast.specs.Scope.{names_in}
 use Rattle.gql_ast.specs.Outputs.{kind_of}
 use Rattle.gql_ast.specs.ClauseColumns.{ColumnList, is_column, node_of_pattern, match_columns, with_filler}
+use Rattle.gql_ast.specs.InsertColumns.{Spots, insert_spots, with_variable}
 use Rattle.gql_ast.specs.Projections.{sort_columns, columns_behind}
+use Rattle.gql_ast.specs.declared.change.ChangeClause.{ChangeClause}
+use Rattle.gql_ast.specs.declared.change.ChangeClause.TheVariants as change
+use Rattle.gql_ast.specs.declared.change.Fill.{Fill}
+use Rattle.gql_ast.specs.declared.change.RemoveItem.{RemoveItem}
+use Rattle.gql_ast.specs.declared.change.RemoveItem.TheVariants as remove_item
+use Rattle.gql_ast.specs.declared.change.SetItem.{SetItem}
+use Rattle.gql_ast.specs.declared.change.SetItem.TheVariants as set_item
 use Rattle.gql_ast.specs.declared.clause.Clause.{Clause}
 use Rattle.gql_ast.specs.declared.clause.Clause.TheVariants as clause
 use Rattle.gql_ast.specs.declared.clause.Counting.{Counting}
@@ -90,6 +100,43 @@ unknown_in_items columns (items.Listed is) = flat_map (λ (i : ReturnItem). unkn
 abbrev pub unknown_in_return : ColumnList → Return → List (List ℕ)
 unknown_in_return columns r = unknown_in_items columns r.items ++ unknown_in_order (sort_columns columns r) r.order
 
+-- a node without labels and a map may be one that stands already
+abbrev pub may_refer : ColumnKind → Option (List (List ℕ)) → Option (List MapItem) → Bool
+may_refer kind.Node None None = true
+may_refer _ _ _ = false
+
+abbrev pub misplaced : ColumnList → ColumnKind → Fill → Option (List ℕ) → List (List ℕ)
+misplaced columns k f None = []
+misplaced columns k f (Some x) = if is_column columns x && not (may_refer k f.labels f.map) then x ∷ [] else []
+
+abbrev pub unknown_in_map : ColumnList → Option (List MapItem) → List (List ℕ)
+unknown_in_map columns None = []
+unknown_in_map columns (Some is) = flat_map (λ (i : MapItem). unknown_in_expr columns i.value) is
+
+-- the expressions of an INSERT see the incoming columns alone
+abbrev pub unknown_in_spots : ColumnList → ColumnList → Spots → List (List ℕ)
+unknown_in_spots incoming columns [] = []
+unknown_in_spots incoming columns (s ∷ ss) =
+    misplaced columns s.0 s.1 s.1.variable ++ unknown_in_map incoming s.1.map ++ unknown_in_spots incoming (with_variable columns s.0 s.1.variable) ss
+
+-- a target that is no column
+abbrev pub missing : ColumnList → List ℕ → List (List ℕ)
+missing columns x = if is_column columns x then [] else x ∷ []
+
+abbrev pub unknown_in_set : ColumnList → SetItem → List (List ℕ)
+unknown_in_set columns (set_item.Property x p e) = missing columns x ++ unknown_in_expr columns e
+unknown_in_set columns (set_item.Label x l) = missing columns x
+
+abbrev pub unknown_in_remove : ColumnList → RemoveItem → List (List ℕ)
+unknown_in_remove columns (remove_item.Property x p) = missing columns x
+unknown_in_remove columns (remove_item.Label x l) = missing columns x
+
+abbrev pub unknown_in_change : ColumnList → ChangeClause → List (List ℕ)
+unknown_in_change columns (change.Insert ps) = unknown_in_spots columns columns (insert_spots ps)
+unknown_in_change columns (change.Set is) = flat_map (unknown_in_set columns) is
+unknown_in_change columns (change.Remove is) = flat_map (unknown_in_remove columns) is
+unknown_in_change columns (change.Delete d xs) = flat_map (missing columns) xs
+
 abbrev pub unknown_in_clause : ColumnList → Clause → List (List ℕ)
 unknown_in_clause columns (clause.Match m) = unknown_in_pattern columns m.pattern
 unknown_in_clause columns (clause.Let is) = unknown_in_let columns is
@@ -97,7 +144,7 @@ unknown_in_clause columns (clause.Filter e) = unknown_in_expr columns e
 unknown_in_clause columns (clause.For f) = unknown_in_for columns f
 unknown_in_clause columns (clause.Page p) = unknown_in_page columns p
 unknown_in_clause columns (clause.Return r) = unknown_in_return columns r
-unknown_in_clause columns (clause.Change c) = []
+unknown_in_clause columns (clause.Change c) = unknown_in_change columns c
 
 -- of a query's clauses, each under the columns behind the one before
 abbrev pub unknown_in_clauses : ColumnList → List Clause → List (List ℕ)

@@ -3,9 +3,16 @@ use Rattle.std.specs.Prelude.{ℕ, Bool, not, List, [], ◌∷◌, ◌++◌, fil
 use Rattle.std.specs.List.{list_any, flat_map}
 use Rattle.gql_values3.specs.Datum.{Datum}
 use Rattle.gql_values3.specs.Texts.{same_text}
+use Rattle.gql_values3.specs.declared.table.ColumnKind.{ColumnKind}
 use Rattle.gql_ast.specs.Tree.{Tree, Trees, Links, constant, unknown, number, parameter, name, property, paren, listing, count_all, aggregate, call, modulo, coalesce, signed, product, sum, comparing, test, label_test, end_test, negation, conjunction, disjunction, link, no_trees, more_trees, no_links, more_links}
 use Rattle.gql_ast.specs.Meaning.{tree_of}
 use Rattle.gql_ast.specs.ClauseColumns.{node_of_pattern}
+use Rattle.gql_ast.specs.InsertColumns.{insert_spots}
+use Rattle.gql_ast.specs.declared.change.ChangeClause.{ChangeClause}
+use Rattle.gql_ast.specs.declared.change.ChangeClause.TheVariants as change
+use Rattle.gql_ast.specs.declared.change.Fill.{Fill}
+use Rattle.gql_ast.specs.declared.change.SetItem.{SetItem}
+use Rattle.gql_ast.specs.declared.change.SetItem.TheVariants as set_item
 use Rattle.gql_ast.specs.declared.clause.Clause.{Clause}
 use Rattle.gql_ast.specs.declared.clause.Clause.TheVariants as clause
 use Rattle.gql_ast.specs.declared.clause.LetItem.{LetItem}
@@ -106,6 +113,19 @@ parameters_of_items (items.Listed is) = flat_map (λ (i : ReturnItem). parameter
 abbrev pub parameters_of_return : Return → List (List ℕ)
 parameters_of_return r = parameters_of_items r.items ++ parameters_of_order r.order ++ parameters_of_count_if r.skip ++ parameters_of_count_if r.limit
 
+abbrev pub parameters_of_map : Option (List MapItem) → List (List ℕ)
+parameters_of_map None = []
+parameters_of_map (Some is) = flat_map (λ (i : MapItem). parameters_of i.value) is
+
+abbrev pub parameters_of_set : SetItem → List (List ℕ)
+parameters_of_set (set_item.Property x p e) = parameters_of e
+parameters_of_set (set_item.Label x l) = []
+
+abbrev pub parameters_of_change : ChangeClause → List (List ℕ)
+parameters_of_change (change.Insert ps) = flat_map (λ (s : ColumnKind × Fill). parameters_of_map s.1.map) (insert_spots ps)
+parameters_of_change (change.Set is) = flat_map parameters_of_set is
+parameters_of_change _ = []
+
 abbrev pub parameters_of_clause : Clause → List (List ℕ)
 parameters_of_clause (clause.Match m) = parameters_of_pattern m.pattern
 parameters_of_clause (clause.Let is) = flat_map (λ (i : LetItem). parameters_of i.value) is
@@ -113,7 +133,7 @@ parameters_of_clause (clause.Filter e) = parameters_of e
 parameters_of_clause (clause.For f) = parameters_of f.list
 parameters_of_clause (clause.Page p) = parameters_of_page p
 parameters_of_clause (clause.Return r) = parameters_of_return r
-parameters_of_clause (clause.Change c) = []
+parameters_of_clause (clause.Change c) = parameters_of_change c
 
 abbrev pub is_set : List (List ℕ × Datum) → List ℕ → Bool
 is_set params p = list_any (λ (q : List ℕ × Datum). same_text p q.0) params

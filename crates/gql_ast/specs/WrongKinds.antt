@@ -1,11 +1,19 @@
--- E09 KIND: a pattern's variable is a column of another kind than the pattern needs. Here stand the names at fault in the
--- order of the text.
-use Rattle.std.specs.Prelude.{ℕ, Bool, true, false, List, [], ◌∷◌, ◌++◌, Option, Some, None, if◌then◌else◌}
+-- E09 KIND: a pattern's variable, an INSERT endpoint or a target of SET, REMOVE or DELETE is a column of another kind than
+-- is needed. Here stand the names at fault in the order of the text.
+use Rattle.std.specs.Prelude.{ℕ, Bool, true, false, not, ◌&&◌, List, [], ◌∷◌, ◌++◌, Option, Some, None, if◌then◌else◌}
+use Rattle.std.specs.List.{flat_map}
 use Rattle.gql_values3.specs.declared.table.ColumnKind.{ColumnKind}
 use Rattle.gql_values3.specs.declared.table.ColumnKind.TheVariants as kind
 use Rattle.gql_ast.specs.Outputs.{kind_of_name}
 use Rattle.gql_ast.specs.ClauseColumns.{ColumnList, is_column, node_of_pattern}
+use Rattle.gql_ast.specs.InsertColumns.{Spots, insert_spots, with_variable}
 use Rattle.gql_ast.specs.Projections.{columns_behind}
+use Rattle.gql_ast.specs.declared.change.ChangeClause.{ChangeClause}
+use Rattle.gql_ast.specs.declared.change.ChangeClause.TheVariants as change
+use Rattle.gql_ast.specs.declared.change.RemoveItem.{RemoveItem}
+use Rattle.gql_ast.specs.declared.change.RemoveItem.TheVariants as remove_item
+use Rattle.gql_ast.specs.declared.change.SetItem.{SetItem}
+use Rattle.gql_ast.specs.declared.change.SetItem.TheVariants as set_item
 use Rattle.gql_ast.specs.declared.clause.Clause.{Clause}
 use Rattle.gql_ast.specs.declared.clause.Clause.TheVariants as clause
 use Rattle.gql_ast.specs.declared.filler.Filler.{Filler}
@@ -24,8 +32,45 @@ abbrev pub wrong_in_node : ColumnList → Option Filler → List (List ℕ)
 wrong_in_node columns None = []
 wrong_in_node columns (Some f) = wrong_variable columns f.variable
 
+abbrev pub is_node : ColumnKind → Bool
+is_node kind.Node = true
+is_node _ = false
+
+-- what SET, REMOVE and DELETE act on; a group is no element
+abbrev pub is_element : ColumnKind → Bool
+is_element kind.Node = true
+is_element kind.Edge = true
+is_element _ = false
+
+-- an endpoint that stands already is a node
+abbrev pub wrong_endpoint : ColumnList → ColumnKind → Option (List ℕ) → List (List ℕ)
+wrong_endpoint columns kind.Node (Some x) = if is_column columns x && not (is_node (kind_of_name columns x)) then x ∷ [] else []
+wrong_endpoint columns _ _ = []
+
+abbrev pub wrong_in_spots : ColumnList → Spots → List (List ℕ)
+wrong_in_spots columns [] = []
+wrong_in_spots columns (s ∷ ss) = wrong_endpoint columns s.0 s.1.variable ++ wrong_in_spots (with_variable columns s.0 s.1.variable) ss
+
+abbrev pub wrong_target : ColumnList → List ℕ → List (List ℕ)
+wrong_target columns x = if is_column columns x && not (is_element (kind_of_name columns x)) then x ∷ [] else []
+
+abbrev pub set_target : SetItem → List ℕ
+set_target (set_item.Property x p e) = x
+set_target (set_item.Label x l) = x
+
+abbrev pub remove_target : RemoveItem → List ℕ
+remove_target (remove_item.Property x p) = x
+remove_target (remove_item.Label x l) = x
+
+abbrev pub wrong_in_change : ColumnList → ChangeClause → List (List ℕ)
+wrong_in_change columns (change.Insert ps) = wrong_in_spots columns (insert_spots ps)
+wrong_in_change columns (change.Set is) = flat_map (λ (i : SetItem). wrong_target columns (set_target i)) is
+wrong_in_change columns (change.Remove is) = flat_map (λ (i : RemoveItem). wrong_target columns (remove_target i)) is
+wrong_in_change columns (change.Delete d xs) = flat_map (wrong_target columns) xs
+
 abbrev pub wrong_in_clause : ColumnList → Clause → List (List ℕ)
 wrong_in_clause columns (clause.Match m) = wrong_in_node columns (node_of_pattern m.pattern)
+wrong_in_clause columns (clause.Change c) = wrong_in_change columns c
 wrong_in_clause columns _ = []
 
 abbrev pub wrong_in_clauses : ColumnList → List Clause → List (List ℕ)

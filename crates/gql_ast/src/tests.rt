@@ -106,17 +106,37 @@ fn filler(
     }
 }
 
-/// `(x WHERE x.n=1)-[:T]->*(y)`
-fn walk(alloc: Global) -> Result<PathExpr, OutOfMemory> {
+/// `(x WHERE x.n=1)`
+fn walk_start(alloc: Global) -> Result<PathSub, OutOfMemory> {
     let condition = Condition::Where(is_one(alloc, "x", "n")?);
-    let start = PathExpr::Node(filler(Some(Text::from_str(alloc, "x")?), None, Some(condition)));
+    let variable = Some(Text::from_str(alloc, "x")?);
+    PathSub::new(
+        alloc,
+        PathExpr::Node(filler(variable, None, Some(condition))),
+    )
+}
+
+/// `-[:T]->*`
+fn walk_edges(alloc: Global) -> Result<PathExpr, OutOfMemory> {
     let label = LabelExpr::Name(Text::from_str(alloc, "T")?);
     let edge = PathExpr::Edge(Direction::Right, filler(None, Some(label), None));
+    Ok(PathExpr::Repeat(PathSub::new(alloc, edge)?, Quantifier::Star))
+}
+
+/// `-[:T]->*(y)`
+fn walk_rest(alloc: Global) -> Result<PathList, OutOfMemory> {
     let mut rest = PathList::new(alloc);
-    rest.push(PathExpr::Repeat(PathSub::new(alloc, edge)?, Quantifier::Star))?;
-    let end = filler(Some(Text::from_str(alloc, "y")?), None, None);
-    rest.push(PathExpr::Node(end))?;
-    Ok(PathExpr::Concat(PathSub::new(alloc, start)?, rest))
+    rest.push(walk_edges(alloc)?)?;
+    let variable = Some(Text::from_str(alloc, "y")?);
+    rest.push(PathExpr::Node(filler(variable, None, None)))?;
+    Ok(rest)
+}
+
+/// `(x WHERE x.n=1)-[:T]->*(y)`
+fn walk(alloc: Global) -> Result<PathExpr, OutOfMemory> {
+    let start = walk_start(alloc)?;
+    let rest = walk_rest(alloc)?;
+    Ok(PathExpr::Concat(start, rest))
 }
 
 /// `MATCH p = TRAIL (x WHERE x.n=1)-[:T]->*(y)`

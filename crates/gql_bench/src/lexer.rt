@@ -18,6 +18,7 @@ pub fn lexer(
     let Ok(all) = pieces(alloc, bytes.as_slice()) else {
         bail!("no memory for the pieces");
     };
+    let cut = begun.elapsed(rt)?.as_millis();
     let counts = count(alloc, &all)?;
     let took = begun.elapsed(rt)?.as_millis();
     println!(rt;
@@ -26,7 +27,10 @@ pub fn lexer(
         counts.lexemes,
         counts.bad
     )?;
-    eprintln!(rt; "{took} ms for {} bytes", bytes.len())?;
+    eprintln!(rt;
+        "{cut} ms for the pieces, {took} ms for {} bytes",
+        bytes.len()
+    )?;
     Ok(())
 }
 

@@ -4,6 +4,7 @@ pub mod ElementLemmas
 pub mod HeadingLemmas
 pub mod JoiningLemmas
 pub mod ScopeLemmas
+pub mod OperationLemmas
 pub mod PartLemmas
 pub mod AggregateLemmas
 pub mod EvaluationLemmas

@@ -1,6 +1,6 @@
 ghost use Rattle.std.specs.Prelude.{◌≡◌, map, Ok};
 ghost use Rattle.gql_values3.specs.Meaning.{datum_of};
-ghost use Rattle.gql_ast.specs.Tree.{trees_of, links_of, coalesce as coalesce_tree, sum as sum_tree, conjunction, disjunction, aggregate as aggregate_tree};
+ghost use Rattle.gql_ast.specs.Tree.{trees_of, links_of, listing, coalesce as coalesce_tree, sum as sum_tree, conjunction, disjunction, aggregate as aggregate_tree};
 ghost use Rattle.gql_ast.specs.Meaning.{tree_of, link_of};
 ghost use Rattle.gql_ast.specs.Faults.{each};
 ghost use Rattle.gql_ast.specs.Scope.{with_item};
@@ -8,13 +8,14 @@ ghost use Rattle.gql_ast.specs.Evaluation.{value_of, values_of};
 ghost use Rattle.gql_eval.specs.Held.{held_datum};
 ghost use Rattle.gql_eval.specs.ScopeMeaning.{scope_of};
 ghost use Rattle.gql_eval.specs.Gives.{Gives};
+ghost use Rattle.gql_eval.specs.Next.{next};
+ghost use Rattle.gql_eval.specs.Operations.{of_operand, of_operands};
 
 use crate::aggregates::aggregate;
-use crate::elements::property;
 use crate::error::EvalError;
 use crate::groups::{group_name, items_in};
 use crate::held::Held;
-use crate::leaves::{number_value, parameter};
+use crate::leaves::{held_name, held_number, held_parameter, held_property};
 use crate::making::list_value;
 use crate::operations::{binary_value, operation_value};
 use crate::operators::operate;
@@ -24,8 +25,8 @@ use gql_ast::{Aggregate, Expr, Operator, SetQuantifier, Step};
 use gql_values3::{List, Params, Text, Truth, Value, View, and3};
 use std::alloc::Global;
 
-// A function pays at entry for the size of its locals, and `value_in` is entered at each node: what it calls is kept out
-// of line.
+// A function pays at entry for the size of its locals, and `value_in` is entered at each node: each of its arms is one
+// call, and what it calls is kept out of line.
 
 /// The value of an expression in a scope. What is lent stands in the graph, the scope, the parameters or the expression.
 #[cycle(evaluation)]
@@ -42,18 +43,12 @@ pub fn value_in<'a, V: View>(
     match expr {
         Expr::Constant(value) => Ok(Held::Lent(value)),
         Expr::Unknown | Expr::CountAll => Ok(Held::Own(Value::Null)),
-        Expr::Number(digits) => Ok(Held::Own(number_value(digits)?)),
-        Expr::Parameter(name) => Ok(parameter(params, name)),
-        Expr::Name(name) => Ok(look_up(alloc, scope, name)?),
-        Expr::Property(name, key) => {
-            let element = look_up(alloc, scope, name)?;
-            property(view, element.value(), key)
-        }
+        Expr::Number(digits) => held_number(digits),
+        Expr::Parameter(name) => held_parameter(params, name),
+        Expr::Name(name) => held_name(alloc, scope, name),
+        Expr::Property(name, key) => held_property(alloc, view, scope, name, key),
         Expr::Paren(part) => value_in(alloc, view, scope, params, part.expr()),
-        Expr::List(parts) => {
-            let items = values_in(alloc, view, scope, params, parts.as_slice())?;
-            Ok(Held::Own(list_value(items)?))
-        }
+        Expr::List(parts) => listed(alloc, view, scope, params, parts.as_slice()),
         Expr::Aggregate(word, quantifier, part) => {
             over_group(alloc, view, scope, params, *word, *quantifier, part.expr())
         }
@@ -62,14 +57,9 @@ pub fn value_in<'a, V: View>(
         | Expr::Is(part, _, _)
         | Expr::IsLabeled(part, _, _)
         | Expr::IsEnd(part, _, _, _)
-        | Expr::Not(part) => {
-            let value = value_in(alloc, view, scope, params, part.expr())?;
-            Ok(Held::Own(operation_value(alloc, view, scope, expr, value.value())?))
-        }
+        | Expr::Not(part) => operation(alloc, view, scope, params, expr, part.expr()),
         Expr::Mod(a, b) | Expr::Compare(_, a, b) => {
-            let a = value_in(alloc, view, scope, params, a.expr())?;
-            let b = value_in(alloc, view, scope, params, b.expr())?;
-            Ok(Held::Own(binary_value(expr, a.value(), b.value())?))
+            binary(alloc, view, scope, params, expr, a.expr(), b.expr())
         }
         Expr::Coalesce(first, rest) => {
             coalesce(alloc, view, scope, params, first.expr(), rest.as_slice())
@@ -84,6 +74,61 @@ pub fn value_in<'a, V: View>(
             any(alloc, view, scope, params, first.expr(), steps.as_slice())
         }
     }
+}
+
+/// The list of its items.
+#[inline(never)]
+#[cycle(evaluation)]
+#[tactic(auto, unfolding(gql_ast::specs::Evaluation::value_of))]
+fn listed<'a, V: View>(
+    alloc: Global,
+    view: &'a V,
+    scope: &Scope<'a>,
+    params: &'a Params,
+    parts: &'a [Expr],
+) -> Result<Held<'a>, EvalError>
+    ensures { Gives held_datum result (value_of (V.graph view.now) params.now (scope_of scope.now) (listing (trees_of (map tree_of parts.now)))) }
+{
+    let items = values_in(alloc, view, scope, params, parts)?;
+    Ok(Held::Own(list_value(items)?))
+}
+
+/// What the expression makes of its operand.
+#[inline(never)]
+#[cycle(evaluation)]
+#[tactic(auto, unfolding(gql_ast::specs::Evaluation::value_of))]
+fn operation<'a, V: View>(
+    alloc: Global,
+    view: &'a V,
+    scope: &Scope<'a>,
+    params: &'a Params,
+    expr: &'a Expr,
+    part: &'a Expr,
+) -> Result<Held<'a>, EvalError>
+    ensures { Gives held_datum result (next (value_of (V.graph view.now) params.now (scope_of scope.now) (tree_of part.now)) (of_operand (V.graph view.now) (scope_of scope.now) (tree_of expr.now))) }
+{
+    let value = value_in(alloc, view, scope, params, part)?;
+    Ok(Held::Own(operation_value(alloc, view, scope, expr, value.value())?))
+}
+
+/// What the expression makes of its two operands.
+#[inline(never)]
+#[cycle(evaluation)]
+#[tactic(auto, unfolding(gql_ast::specs::Evaluation::value_of))]
+fn binary<'a, V: View>(
+    alloc: Global,
+    view: &'a V,
+    scope: &Scope<'a>,
+    params: &'a Params,
+    expr: &'a Expr,
+    a: &'a Expr,
+    b: &'a Expr,
+) -> Result<Held<'a>, EvalError>
+    ensures { let value = value_of (V.graph view.now) params.now (scope_of scope.now) in Gives held_datum result (next (value (tree_of a.now)) (λ x. next (value (tree_of b.now)) (of_operands (tree_of expr.now) x))) }
+{
+    let a = value_in(alloc, view, scope, params, a)?;
+    let b = value_in(alloc, view, scope, params, b)?;
+    Ok(Held::Own(binary_value(expr, a.value(), b.value())?))
 }
 
 /// The values of a list's items.

@@ -3,13 +3,19 @@ ghost use Rattle.std.specs.Str.{all_ascii_digits};
 ghost use Rattle.gql_values3.specs.Datum.{integer};
 ghost use Rattle.gql_values3.specs.IntegerLiterals.{value_of_digits};
 ghost use Rattle.gql_values3.specs.Meaning.{datum_of};
+ghost use Rattle.gql_ast.specs.Scope.{datum_of_name};
+ghost use Rattle.gql_ast.specs.ElementTests.{property_value};
 ghost use Rattle.gql_ast.specs.Evaluation.{parameter_value};
 ghost use Rattle.gql_eval.specs.Gives.{Gives};
 ghost use Rattle.gql_eval.specs.Held.{held_datum};
+ghost use Rattle.gql_eval.specs.ScopeMeaning.{scope_of};
 
+use crate::elements::property;
 use crate::error::EvalError;
 use crate::held::Held;
-use gql_values3::{Params, Text, Value, int_of};
+use crate::scope::{Scope, look_up};
+use gql_values3::{Params, Text, Value, View, int_of};
+use std::alloc::Global;
 
 /// The value of a parameter; one that isn't set is NULL.
 pub fn parameter<'a>(params: &'a Params, name: &Text) -> Held<'a>
@@ -44,4 +50,45 @@ fn are_digits(bytes: &[u8]) -> bool
         }
     }
     true
+}
+
+// The leaves as the evaluation of a tree meets them: out of line, so that their locals are no part of its frame.
+
+/// The value of a number.
+#[inline(never)]
+pub fn held_number<'a>(digits: &Text) -> Result<Held<'a>, EvalError>
+    ensures { Gives held_datum result (Ok (integer (pos (value_of_digits digits.now)))) }
+{
+    Ok(Held::Own(number_value(digits)?))
+}
+
+/// The value of a parameter.
+#[inline(never)]
+pub fn held_parameter<'a>(params: &'a Params, name: &Text) -> Result<Held<'a>, EvalError>
+    ensures { Gives held_datum result (Ok (parameter_value params.now name.now)) }
+{
+    Ok(parameter(params, name))
+}
+
+/// What a name stands for.
+#[inline(never)]
+pub fn held_name<'a>(alloc: Global, scope: &Scope<'a>, name: &Text) -> Result<Held<'a>, EvalError>
+    ensures { Gives held_datum result (Ok (datum_of_name (scope_of scope.now) name.now)) }
+{
+    Ok(look_up(alloc, scope, name)?)
+}
+
+/// A property of what a name stands for.
+#[inline(never)]
+pub fn held_property<'a, V: View>(
+    alloc: Global,
+    view: &'a V,
+    scope: &Scope<'a>,
+    name: &Text,
+    key: &Text,
+) -> Result<Held<'a>, EvalError>
+    ensures { Gives held_datum result (property_value (V.graph view.now) (datum_of_name (scope_of scope.now) name.now) key.now) }
+{
+    let element = look_up(alloc, scope, name)?;
+    property(view, element.value(), key)
 }

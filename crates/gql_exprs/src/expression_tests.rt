@@ -1,6 +1,6 @@
 //! Tests of expressions. Trees are shown by `shown::write`, which puts braces around each node with operators.
 
-mod shown;
+pub mod shown;
 
 use crate::{parse_expr, too_deep};
 use gql_ast::{Expr, ParseFault};
@@ -10,9 +10,9 @@ use std::alloc::{AllocError, Global};
 use std::test::Fail;
 
 /// A text, the tree of its longest front, and the place behind that front.
-type Case = (&'static [u8], &'static str, u32);
+pub type Case = (&'static [u8], &'static str, u32);
 
-const LEAVES: [Case; 15] = [
+pub const LEAVES: [Case; 15] = [
     (b"1", "1", 1),
     (b"'a b'", "'a b'", 1),
     (b"TRUE", "TRUE", 1),
@@ -30,7 +30,7 @@ const LEAVES: [Case; 15] = [
     (b"COUNT(*)", "COUNT(*)", 4),
 ];
 
-const BRACKETS: [Case; 21] = [
+pub const BRACKETS: [Case; 21] = [
     (b"(a)", "(a)", 3),
     (b"((a))", "((a))", 5),
     (b"[]", "[]", 2),
@@ -54,7 +54,7 @@ const BRACKETS: [Case; 21] = [
     (b"COALESCE(a, b, c)", "COALESCE(a, b, c)", 8),
 ];
 
-const TESTS: [Case; 21] = [
+pub const TESTS: [Case; 21] = [
     (b"a = b", "{a = b}", 3),
     (b"a <> b", "{a <> b}", 3),
     (b"a < b", "{a < b}", 3),
@@ -82,7 +82,7 @@ const TESTS: [Case; 21] = [
     (b"NOT x:A", "{NOT {x IS LABELED A}}", 4),
 ];
 
-const CHAINS: [Case; 13] = [
+pub const CHAINS: [Case; 13] = [
     (b"-1", "{-1}", 2),
     (b"+x", "{+x}", 2),
     (b"a * b / c", "{a * b / c}", 5),
@@ -143,7 +143,7 @@ const NONE: [&[u8]; 18] = [
 ];
 
 /// The lexemes of a text.
-fn read(alloc: Global, text: &[u8]) -> Result<Lexemes, Fail> {
+pub fn read(alloc: Global, text: &[u8]) -> Result<Lexemes, Fail> {
     if text.len() > 1_000_000 {
         return Err(Fail::from("long"));
     }
@@ -154,7 +154,7 @@ fn read(alloc: Global, text: &[u8]) -> Result<Lexemes, Fail> {
 }
 
 /// The longest front of the lexemes from a place on, and the place behind it.
-fn parsed(alloc: Global, all: &Lexemes, at: u32) -> Result<(Expr, u32), ParseFault> {
+pub fn parsed(alloc: Global, all: &Lexemes, at: u32) -> Result<(Expr, u32), ParseFault> {
     let all = all.as_slice();
     if all.len() >= 1 << 32 || at as usize > all.len() || too_deep(all) {
         return Err(ParseFault::Deep);

@@ -8,6 +8,8 @@
 
 pub mod atom_word;
 pub mod brackets;
+#[cfg(test)]
+mod canonical_tests;
 pub mod chain;
 pub mod depth;
 pub mod ending;

@@ -9,11 +9,11 @@ use Rattle.gql_graph.specs.Ascending.{AscendsBy}
 use Rattle.gql_graph.proofs.NumberLemmas.{ascends, fewer}
 
 -- of two tests that both hold, each does
-first_true : (a b : Bool) → (a && b) ≡ true → a ≡ true
+pub first_true : (a b : Bool) → (a && b) ≡ true → a ≡ true
 first_true true b h = refl
 first_true false b h = h
 
-second_true : (a b : Bool) → (a && b) ≡ true → b ≡ true
+pub second_true : (a b : Bool) → (a && b) ≡ true → b ≡ true
 second_true true b h = h
 second_true false b h = absurd (cc)
 
@@ -28,10 +28,10 @@ module _ {X : Type 0} (key : X → ℕ) (xs : List X) (next : ℕ) (are : are_nu
 
 module _ (nodes : List NodeRecord) (edges : List EdgeRecord) (next_node next_edge : ℕ) (one : is_graph (record { nodes = nodes; edges = edges; next_node = next_node; next_edge = next_edge }) ≡ true) where
   -- the tests of the numbers are part of that of the graph
-  node_numbers : are_numbers (map (λ r. r.number.0) nodes) next_node ≡ true
+  pub node_numbers : are_numbers (map (λ r. r.number.0) nodes) next_node ≡ true
   node_numbers = first_true _ (list_all is_node_record nodes) (first_true (are_nodes nodes next_node) _ one)
 
-  edge_numbers : are_numbers (map (λ r. r.number.0) edges) next_edge ≡ true
+  pub edge_numbers : are_numbers (map (λ r. r.number.0) edges) next_edge ≡ true
   edge_numbers = first_true _ (list_all (is_edge_record nodes) edges) (second_true (are_nodes nodes next_node) _ one)
 
   -- so nodes and edges ascend by number, as a search asks

@@ -2,3 +2,8 @@ pub mod NumberLemmas
 pub mod SearchLemmas
 pub mod PropertyLemmas
 pub mod GraphLemmas
+pub mod CatalogLemmas
+pub mod EditLemmas
+pub mod UndoLemmas
+pub mod RoomLemmas
+pub mod SharedGraph

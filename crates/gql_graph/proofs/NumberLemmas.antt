@@ -7,15 +7,15 @@ use Rattle.gql_graph.specs.Ascending.{AscendsBy}
 
 module _ {X : Type 0} (key : X → ℕ) where
   -- the first key is above the lower bound
-  first_above : (x : X) (xs : List X) (low high : ℕ) → numbers_ascend low (map key (x ∷ xs)) high ≡ true → low < key x
+  pub first_above : (x : X) (xs : List X) (low high : ℕ) → numbers_ascend low (map key (x ∷ xs)) high ≡ true → low < key x
   first_above x xs low high h = grind (arith, nat_tests, h)
 
   -- the others ascend from the first
-  rest_ascends : (x : X) (xs : List X) (low high : ℕ) → numbers_ascend low (map key (x ∷ xs)) high ≡ true → numbers_ascend (key x) (map key xs) high ≡ true
+  pub rest_ascends : (x : X) (xs : List X) (low high : ℕ) → numbers_ascend low (map key (x ∷ xs)) high ≡ true → numbers_ascend (key x) (map key xs) high ≡ true
   rest_ascends x xs low high h = grind (arith, nat_tests, h)
 
   -- each key is above the lower bound
-  all_above : (xs : List X) (low high : ℕ) → numbers_ascend low (map key xs) high ≡ true → (j : ℕ) (d : X) → j < length xs → low < key (get_or xs j d)
+  pub all_above : (xs : List X) (low high : ℕ) → numbers_ascend low (map key xs) high ≡ true → (j : ℕ) (d : X) → j < length xs → low < key (get_or xs j d)
   all_above [] low high h j d lt = absurd (omega arith)
   all_above (x ∷ xs) low high h zero d lt = first_above x xs low high h
   all_above (x ∷ xs) low high h (suc j) d lt = omega (arith, first_above x xs low high h, all_above xs (key x) high (rest_ascends x xs low high h) j d (omega arith))

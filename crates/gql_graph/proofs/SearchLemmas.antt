@@ -1,5 +1,5 @@
 -- What a binary search finds among items that ascend by a number is what a scan for that number finds.
-use Rattle.std.proofs.Common.{◌≡◌, ℕ, zero, suc, ◌<◌, ◌≢◌, eqb, Bool, List, [], ◌∷◌, length, get_or, Option, None, Some, Bor, slice_get, Result, Ok, Err, inl, inr, refl, sym, arith}
+use Rattle.std.proofs.Common.{◌≡◌, ℕ, zero, suc, ◌<◌, ◌≤◌, ◌≢◌, eqb, Bool, List, [], ◌∷◌, length, get_or, Option, None, Some, Bor, slice_get, Result, Ok, Err, inl, inr, refl, sym, ap, arith}
 use Rattle.std.specs.Prelude.{find, is_some}
 use Rattle.std.specs.List.{list_any}
 use Rattle.std.specs.Option.{option_copied}
@@ -9,6 +9,7 @@ use Rattle.std.proofs.lemmas.Cmp.{ranked}
 use Rattle.std.proofs.lemmas.Bool.{cases_lt}
 use Rattle.std.proofs.lemmas.Bool.Decides.{nat_tests}
 use Rattle.gql_graph.specs.Ascending.{AscendsBy}
+use Rattle.gql_graph.specs.Made.{place_of}
 
 -- the item at a place, or none
 abbrev pub item_at : {X : Type 0} → List X → Result ℕ ℕ → Option X
@@ -60,3 +61,25 @@ module _ {X : Type 0} (key : X → ℕ) (n : ℕ) where
           | inl below ↦ omega (arith, ranked _ n _ (sym ((parted comparisons_rise).0 j d (omega arith) below)))
           | inr at_least ↦ omega (arith, ranked _ n _ (sym ((parted comparisons_rise).1 j d at_least lt)))
         ])
+
+  -- the place where a search ends is that of the number
+  place_is : (xs : List X) (i : ℕ) → i ≤ length xs → ((j : ℕ) (d : X) → j < i → key (get_or xs j d) < n) → ((j : ℕ) (d : X) → i ≤ j → j < length xs → n ≤ key (get_or xs j d)) → place_of key n xs ≡ i
+  place_is [] i within below above = omega arith
+  place_is (x ∷ xs) zero within below above = grind (arith, nat_tests, above 0 x)
+  place_is (x ∷ xs) (suc i) within below above =
+      let rest = place_is xs i (omega arith) (λ j d lt. below (suc j) d (omega arith)) (λ j d le lt. above (suc j) d (omega arith) (omega arith)) in
+      grind (arith, nat_tests, below 0 x)
+
+  module _ (xs : List X) (up : AscendsBy key xs) where
+    pub place_found : (i : ℕ) → i < length xs → IsBinarySearchResult (λ y. nat_cmp (key y) n) xs (Ok i) → i ≡ place_of key n xs
+    place_found i in_range equal =
+        let here : (d : X) → key (get_or xs i d) ≡ n = λ d. ranked _ n _ (sym (equal d)) in
+        sym (place_is xs i (omega arith) (λ j d lt. omega (arith, up j i d lt in_range, here d)) (λ j d le lt. elim (cases_lt i j) [
+          | inl below ↦ omega (arith, up i j d below lt, here d)
+          | inr at_most ↦ let same : j ≡ i = omega arith in omega (arith, ap (λ k. key (get_or xs k d)) same, here d)
+        ]))
+
+    pub place_missed : (i : ℕ) → i ≤ length xs → IsBinarySearchResult (λ y. nat_cmp (key y) n) xs (Err i) → i ≡ place_of key n xs
+    place_missed i in_range parted =
+        let rise = comparisons_rise xs up in
+        sym (place_is xs i in_range (λ j d lt. ranked _ n _ (sym ((parted rise).0 j d (omega arith) lt))) (λ j d le lt. omega (arith, ranked _ n _ (sym ((parted rise).1 j d le lt)))))

@@ -1,2 +1,6 @@
 pub mod Ascending
 pub mod Catalog
+pub mod Edits
+pub mod Room
+pub mod Made
+pub mod Shown

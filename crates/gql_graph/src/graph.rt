@@ -1,13 +1,16 @@
-ghost use Rattle.std.specs.Prelude.{◌≡◌, [], length, IfSome, is_some, IsTrue};
+ghost use Rattle.std.specs.Prelude.{◌≡◌, [], length, IfOk, IfSome, is_some, IsTrue};
 ghost use Rattle.std.specs.Option.{option_copied};
 ghost use Rattle.gql_values3.specs.PropertyGraph.{is_graph, are_edges};
 ghost use Rattle.gql_values3.specs.Lookup.{node_of, edge_of, labels_in, labels_of, properties_in, properties_of};
 ghost use Rattle.gql_graph.specs.Ascending.{AscendsBy};
 
+use crate::copies::{copy_edges, copy_nodes};
 use crate::lookup::{find_edge, find_node};
 use crate::numbers::{edge_numbers_fit, node_numbers_fit};
 use crate::records::{edge_records_fit, node_records_fit};
-use gql_values3::{EdgeId, EdgeRecord, Elem, Names, NodeId, NodeRecord, Properties, Sequence};
+use gql_values3::{
+    EdgeId, EdgeRecord, Elem, Names, NodeId, NodeRecord, OutOfMemory, Properties, Sequence,
+};
 use std::alloc::Global;
 use std::marker::Model;
 
@@ -20,36 +23,37 @@ pub type EdgeRecords = Sequence<EdgeRecord>;
 /// A property graph. Every value of this type is one: numbers ascend, endpoints are there, labels and properties are in order.
 #[derive(Debug, Drop)]
 pub struct Graph {
-    nodes: NodeRecords,
-    edges: EdgeRecords,
-    next_node: u32,
-    next_edge: u32,
+    pub(crate) nodes: Vec<NodeRecord>,
+    pub(crate) edges: Vec<EdgeRecord>,
+    pub(crate) next_node: u32,
+    pub(crate) next_edge: u32,
 }
 
 impl Model for Graph {
-    ghost use Rattle.std.specs.Prelude.{◌≡◌, true};
-    ghost use Rattle.gql_values3.specs.PropertyGraph.{PropertyGraph, is_graph};
+    ghost use Rattle.std.specs.Prelude.{◌≡◌, true, vec_capacity};
+    ghost use Rattle.gql_values3.specs.PropertyGraph.{is_graph};
+    ghost use Rattle.gql_graph.specs.Room.{HeldGraph};
 
-    ghost Value = { PropertyGraph };
+    ghost Value = { HeldGraph };
 
     ghost use Rattle.std.specs.Coded.{codes};
     ghost use Rattle.gql_values3.specs.Datum.{coded_datum};
 
     ghost coded = { Prim.hlevel (codes, coded_datum) };
 
-    ghost view = { λ g. record { nodes = g.nodes; edges = g.edges; next_node = g.next_node; next_edge = g.next_edge } };
+    ghost view = { λ g. record { graph = record { nodes = g.nodes.items; edges = g.edges.items; next_node = g.next_node; next_edge = g.next_edge }; node_room = vec_capacity g.nodes; edge_room = vec_capacity g.edges } };
 
-    ghost invariant = { λ g. is_graph (record { nodes = g.nodes; edges = g.edges; next_node = g.next_node; next_edge = g.next_edge }) ≡ true };
+    ghost invariant = { λ g. is_graph (record { nodes = g.nodes.items; edges = g.edges.items; next_node = g.next_node; next_edge = g.next_edge }) ≡ true };
 }
 
 impl Graph {
     /// The graph without elements.
     pub fn new(alloc: Global) -> Graph
-        ensures { result ≡ record { nodes = []; edges = []; next_node = 1; next_edge = 1 } }
+        ensures { result.graph ≡ record { nodes = []; edges = []; next_node = 1; next_edge = 1 } }
     {
         Graph {
-            nodes: Sequence::new(alloc),
-            edges: Sequence::new(alloc),
+            nodes: Vec::new(alloc),
+            edges: Vec::new(alloc),
             next_node: 1,
             next_edge: 1,
         }
@@ -62,13 +66,13 @@ impl Graph {
         next_node: u32,
         next_edge: u32,
     ) -> Option<Graph>
-        ensures some { IfSome result (λ graph. graph ≡ record { nodes = nodes; edges = edges; next_node = next_node; next_edge = next_edge }) }
+        ensures some { IfSome result (λ graph. graph.graph ≡ record { nodes = nodes; edges = edges; next_node = next_node; next_edge = next_edge }) }
         ensures exact { is_some result ≡ is_graph (record { nodes = nodes; edges = edges; next_node = next_node; next_edge = next_edge }) }
     {
         if are_graph(nodes.as_slice(), edges.as_slice(), next_node, next_edge) {
             Some(Graph {
-                nodes,
-                edges,
+                nodes: nodes.into_vec(),
+                edges: edges.into_vec(),
                 next_node,
                 next_edge,
             })
@@ -77,59 +81,71 @@ impl Graph {
         }
     }
 
-    /// The nodes, by ascending number.
-    pub fn nodes(&self) -> &NodeRecords
-        ensures { result.now ≡ self.now.nodes }
+    /// An equal graph.
+    pub fn try_copy(&self, alloc: Global) -> Result<Graph, OutOfMemory>
+        ensures { IfOk result (λ copy. copy.graph ≡ self.now.graph) }
     {
-        &self.nodes
+        Ok(Graph {
+            nodes: copy_nodes(alloc, self.nodes.as_slice())?,
+            edges: copy_edges(alloc, self.edges.as_slice())?,
+            next_node: self.next_node,
+            next_edge: self.next_edge,
+        })
+    }
+
+    /// The nodes, by ascending number.
+    pub fn nodes(&self) -> &[NodeRecord]
+        ensures { result.now ≡ self.now.graph.nodes }
+    {
+        self.nodes.as_slice()
     }
 
     /// The edges, by ascending number.
-    pub fn edges(&self) -> &EdgeRecords
-        ensures { result.now ≡ self.now.edges }
+    pub fn edges(&self) -> &[EdgeRecord]
+        ensures { result.now ≡ self.now.graph.edges }
     {
-        &self.edges
+        self.edges.as_slice()
     }
 
     /// The number that the next new node takes.
     pub fn next_node(&self) -> u32
-        ensures { result ≡ self.now.next_node }
+        ensures { result ≡ self.now.graph.next_node }
     {
         self.next_node
     }
 
     /// The number that the next new edge takes.
     pub fn next_edge(&self) -> u32
-        ensures { result ≡ self.now.next_edge }
+        ensures { result ≡ self.now.graph.next_edge }
     {
         self.next_edge
     }
 
     /// How many nodes there are: fewer than there are numbers. It also says what every graph is.
     pub fn count_nodes(&self) -> u32
-        ensures count { result ≡ length self.now.nodes }
-        ensures graph { IsTrue (is_graph self.now) }
+        ensures count { result ≡ length self.now.graph.nodes }
+        ensures graph { IsTrue (is_graph self.now.graph) }
     {
         self.nodes.len() as u32
     }
 
     /// The node of that number.
     pub fn node(&self, node: NodeId) -> Option<&NodeRecord>
-        ensures { option_copied result ≡ node_of self.now node }
+        ensures { option_copied result ≡ node_of self.now.graph node }
     {
         find_node(self.nodes.as_slice(), node)
     }
 
     /// The edge of that number.
     pub fn edge(&self, edge: EdgeId) -> Option<&EdgeRecord>
-        ensures { option_copied result ≡ edge_of self.now edge }
+        ensures { option_copied result ≡ edge_of self.now.graph edge }
     {
         find_edge(self.edges.as_slice(), edge)
     }
 
     /// The labels of the element, where it is there.
     pub fn labels(&self, elem: Elem) -> Option<&Names>
-        ensures { labels_in (option_copied result) ≡ labels_of self.now elem }
+        ensures { labels_in (option_copied result) ≡ labels_of self.now.graph elem }
     {
         match elem {
             Elem::Node(node) => Some(&self.node(node)?.labels),
@@ -139,7 +155,7 @@ impl Graph {
 
     /// The properties of the element, where it is there.
     pub fn properties(&self, elem: Elem) -> Option<&Properties>
-        ensures { properties_in (option_copied result) ≡ properties_of self.now elem }
+        ensures { properties_in (option_copied result) ≡ properties_of self.now.graph elem }
     {
         match elem {
             Elem::Node(node) => Some(&self.node(node)?.properties),

@@ -6,16 +6,28 @@
 #![tactic(auto)]
 
 pub mod catalog;
+pub mod change;
+pub mod copies;
+pub mod edge_list;
+pub mod edge_steps;
+pub mod edit;
+pub mod edits;
 pub mod graph;
 pub mod lookup;
 pub mod names;
+pub mod node_list;
+pub mod node_steps;
 pub mod numbers;
 pub mod records;
 pub mod storable;
+#[cfg(test)]
+mod test_edits;
 #[cfg(test)]
 mod tests;
 pub mod view;
 
 pub use catalog::Catalog;
+pub use change::{Change, Changes};
+pub use edit::Edit;
 pub use gql_values3::{EdgeRecord, NodeRecord};
 pub use graph::{EdgeRecords, Graph, NodeRecords};

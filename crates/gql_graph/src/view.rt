@@ -4,7 +4,7 @@ use crate::names::{contains_name, key_of_place, name_of_place};
 use gql_values3::{EdgeId, Elem, Ends, NodeId, Text, Value, View};
 
 impl View for Graph {
-    ghost graph = { λ g. g };
+    ghost graph = { λ g. g.graph };
 
     fn has_node(&self, node: NodeId) -> bool {
         self.node(node).is_some()
@@ -19,7 +19,7 @@ impl View for Graph {
     }
 
     fn node_at(&self, index: u32) -> Option<NodeId> {
-        Some(self.nodes().as_slice().get(index as usize)?.number)
+        Some(self.nodes().get(index as usize)?.number)
     }
 
     fn has_label(&self, elem: Elem, label: &str) -> bool {
@@ -41,7 +41,7 @@ impl View for Graph {
     }
 
     fn touching(&self, node: NodeId, index: u32) -> Option<EdgeId> {
-        nth_touching(self.edges().as_slice(), node, index)
+        nth_touching(self.edges(), node, index)
     }
 
     fn label_at(&self, elem: Elem, index: u64) -> Option<&Text> {

@@ -5,12 +5,12 @@ use Rattle.std.specs.Option.{option_map}
 use Rattle.std.proofs.lemmas.Bool.{ne_eqb}
 use Rattle.std.proofs.lemmas.Bool.Decides.{nat_tests}
 use Rattle.std.proofs.Common.{◌||◌, lt-ltb}
-use Rattle.std.specs.Char.{is_ascii_alphanumeric}
-use Rattle.unicode_ident.proofs.IdentLemmas.{is_xid_continue-ascii}
+use Rattle.std.specs.Char.{is_ascii_alphabetic, is_ascii_alphanumeric}
+use Rattle.unicode_ident.proofs.IdentLemmas.{is_xid_start-ascii, is_xid_continue-ascii}
 use Rattle.unicode_ident.specs.Ident.{is_xid_continue}
 use Rattle.bstr.specs.Utf8.{decoded}
 use Rattle.bstr.proofs.lemmas.PieceLemmas.{piece-bounds}
-use Rattle.gql_lexer.specs.Lengths.{begins, block_length, quoted_length, continue_length, first_passes, first_size}
+use Rattle.gql_lexer.specs.Lengths.{begins, block_length, quoted_length, continue_length, first_passes, first_size, may_start}
 
 -- a length that is counted from a place further on
 abbrev pub ahead : ℕ → Option ℕ → Option ℕ
@@ -156,3 +156,21 @@ pub ascii-fails : (bs : List ℕ) → 0 < length bs → get_or bs 0 0 < 128 → 
     → None ≡ (if first_passes is_xid_continue bs then Some (first_size bs) else None)
 ascii-fails [] h s t = absurd (omega arith)
 ascii-fails (b ∷ bs) h s t = first-fails is_xid_continue (b ∷ bs) b (ascii-char b bs s).0 (is_xid_continue-ascii b s ∙ t)
+
+-- an ASCII letter begins a name, and goes on with one
+letter-starts : (b : ℕ) → b < 128 → is_ascii_alphabetic b ≡ true → may_start b ≡ true
+unfolding may_start
+letter-starts b s t = let passes : (is_ascii_alphabetic b || (b == 95)) ≡ true = grind (arith, nat_tests) in rw (is_xid_start-ascii b s) passes
+
+pub letter-passes : (bs : List ℕ) → 0 < length bs → is_ascii_alphabetic (get_or bs 0 0) ≡ true
+    → Some 1 ≡ (if first_passes may_start bs then Some (first_size bs) else None)
+letter-passes [] h t = absurd (omega arith)
+letter-passes (b ∷ bs) h t =
+    let s : b < 128 = grind (arith, nat_tests) in
+    let c = ascii-char b bs s in first-passes may_start (b ∷ bs) b 1 c.0 c.1 (letter-starts b s t)
+
+pub letter-goes_on : (bs : List ℕ) → 0 < length bs → is_ascii_alphabetic (get_or bs 0 0) ≡ true
+    → Some 1 ≡ (if first_passes is_xid_continue bs then Some (first_size bs) else None)
+letter-goes_on bs h t =
+    let s : get_or bs 0 0 < 128 = grind (arith, nat_tests) in
+    let passes : (is_ascii_alphanumeric (get_or bs 0 0) || (get_or bs 0 0 == 95)) ≡ true = grind (arith, nat_tests) in ascii-passes bs h s passes

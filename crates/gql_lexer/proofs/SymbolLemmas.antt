@@ -1,5 +1,6 @@
 -- Symbols that get no longer: the first that fits is the longest.
-use Rattle.std.proofs.Common.{◌≡◌, ℕ, zero, suc, ◌+◌, ◌<◌, ◌≤◌, Bool, true, false, cond, ◌&&◌, ◌==◌, List, [], ◌∷◌, length, map, drop, get_or, Bor, Some, None, refl, sym, ap, ◌∙◌, arith, nat_lt, nat_le, nat_eq}
+use Rattle.std.proofs.Common.{◌≡◌, ◌≢◌, ℕ, zero, suc, ◌+◌, ◌<◌, ◌≤◌, Bool, true, false, cond, ◌&&◌, ◌==◌, List, [], ◌∷◌, length, map, drop, get_or, Bor, Some, None, refl, sym, ap, ◌∙◌, arith, nat_lt, nat_le, nat_eq}
+use Rattle.std.proofs.lemmas.Bool.{ne_eqb}
 use Rattle.std.proofs.lemmas.Bool.Decides.{nat_tests}
 use Rattle.std.proofs.lemmas.List.{drop_more}
 use Rattle.std.specs.List.{starts_with}
@@ -7,7 +8,7 @@ use Rattle.gql_lexer.specs.declared.front.Front.{Front}
 use Rattle.gql_lexer.specs.declared.front.Shape.TheVariants.{Symbol, Bad}
 use Rattle.gql_lexer.specs.Lengths.{begins}
 use Rattle.gql_lexer.specs.Forms.{form, symbols, symbols_from, longest, longer}
-use Rattle.gql_lexer.specs.Symbols.{no_longer, ends_symbol}
+use Rattle.gql_lexer.specs.Symbols.{no_longer}
 
 -- std's word for the same
 begins-starts_with : (xs bs : List ℕ) → starts_with nat_eq bs xs ≡ begins xs bs
@@ -91,50 +92,92 @@ found at most xs bs d h e n =
 pub first-of : (bs : List ℕ) → 0 < length bs → bs ≡ get_or bs 0 0 ∷ drop 1 bs
 first-of bs h = drop_more bs 0 0 h
 
--- no byte that may go on with a symbol
-module _ (b : ℕ) (h : ends_symbol b ≡ true) where
-  not_minus : (45 == b) ≡ false
-  not_minus = grind (arith, nat_tests)
+-- the symbols at the front
+abbrev symbol_at : List ℕ → Front
+symbol_at bs = longest (symbols_from 0 symbols bs) (form Bad 1)
 
-  not_plus : (43 == b) ≡ false
-  not_plus = grind (arith, nat_tests)
+other : (x b : ℕ) → b ≢ x → (x == b) ≡ false
+other x b n = ne_eqb x b (λ e. n (sym e))
 
-  not_greater : (62 == b) ≡ false
-  not_greater = grind (arith, nat_tests)
+-- the symbols that begin with `<`
+pub less-minus-greater : (bs : List ℕ) → form (Symbol 0) 3 ≡ symbol_at (60 ∷ 45 ∷ 62 ∷ bs)
+unfolding symbols
+less-minus-greater bs = refl
 
-  not_tilde : (126 == b) ≡ false
-  not_tilde = grind (arith, nat_tests)
+pub less-minus : (c : ℕ) (bs : List ℕ) → c ≢ 62 → form (Symbol 2) 2 ≡ symbol_at (60 ∷ 45 ∷ c ∷ bs)
+unfolding symbols
+less-minus c bs n = rw (other 62 c n) refl
 
-  not_equals : (61 == b) ≡ false
-  not_equals = grind (arith, nat_tests)
+pub less-tilde : (bs : List ℕ) → form (Symbol 4) 2 ≡ symbol_at (60 ∷ 126 ∷ bs)
+unfolding symbols
+less-tilde bs = refl
 
-  not_bar : (124 == b) ≡ false
-  not_bar = grind (arith, nat_tests)
+pub less-greater : (bs : List ℕ) → form (Symbol 6) 2 ≡ symbol_at (60 ∷ 62 ∷ bs)
+unfolding symbols
+less-greater bs = refl
 
-  not_colon : (58 == b) ≡ false
-  not_colon = grind (arith, nat_tests)
+pub less-equals : (bs : List ℕ) → form (Symbol 7) 2 ≡ symbol_at (60 ∷ 61 ∷ bs)
+unfolding symbols
+less-equals bs = refl
 
-  -- the symbol of the byte before it is the longest
-  pub short-minus : (bs : List ℕ) → form (Symbol 11) 1 ≡ longest (symbols_from 0 symbols (45 ∷ b ∷ bs)) (form Bad 1)
-  unfolding symbols
-  short-minus bs = rw not_greater refl
+pub less : (b : ℕ) (bs : List ℕ) → b ≢ 45 → b ≢ 126 → b ≢ 62 → b ≢ 61 → form (Symbol 13) 1 ≡ symbol_at (60 ∷ b ∷ bs)
+unfolding symbols
+less b bs n45 n126 n62 n61 = rw (other 45 b n45, other 126 b n126, other 62 b n62, other 61 b n61) refl
 
-  pub short-tilde : (bs : List ℕ) → form (Symbol 12) 1 ≡ longest (symbols_from 0 symbols (126 ∷ b ∷ bs)) (form Bad 1)
-  unfolding symbols
-  short-tilde bs = rw not_greater refl
+-- those that begin with `-`
+pub minus-greater : (bs : List ℕ) → form (Symbol 3) 2 ≡ symbol_at (45 ∷ 62 ∷ bs)
+unfolding symbols
+minus-greater bs = refl
 
-  pub short-less : (bs : List ℕ) → form (Symbol 13) 1 ≡ longest (symbols_from 0 symbols (60 ∷ b ∷ bs)) (form Bad 1)
-  unfolding symbols
-  short-less bs = rw (not_minus, not_tilde, not_greater, not_equals) refl
+pub minus : (b : ℕ) (bs : List ℕ) → b ≢ 62 → form (Symbol 11) 1 ≡ symbol_at (45 ∷ b ∷ bs)
+unfolding symbols
+minus b bs n = rw (other 62 b n) refl
 
-  pub short-greater : (bs : List ℕ) → form (Symbol 14) 1 ≡ longest (symbols_from 0 symbols (62 ∷ b ∷ bs)) (form Bad 1)
-  unfolding symbols
-  short-greater bs = rw not_equals refl
+-- those that begin with `~`
+pub tilde-greater : (bs : List ℕ) → form (Symbol 5) 2 ≡ symbol_at (126 ∷ 62 ∷ bs)
+unfolding symbols
+tilde-greater bs = refl
 
-  pub short-colon : (bs : List ℕ) → form (Symbol 27) 1 ≡ longest (symbols_from 0 symbols (58 ∷ b ∷ bs)) (form Bad 1)
-  unfolding symbols
-  short-colon bs = rw not_colon refl
+pub tilde : (b : ℕ) (bs : List ℕ) → b ≢ 62 → form (Symbol 12) 1 ≡ symbol_at (126 ∷ b ∷ bs)
+unfolding symbols
+tilde b bs n = rw (other 62 b n) refl
 
-  pub short-bar : (bs : List ℕ) → form (Symbol 30) 1 ≡ longest (symbols_from 0 symbols (124 ∷ b ∷ bs)) (form Bad 1)
-  unfolding symbols
-  short-bar bs = rw (not_plus, not_bar) refl
+-- those that begin with `>`
+pub greater-equals : (bs : List ℕ) → form (Symbol 8) 2 ≡ symbol_at (62 ∷ 61 ∷ bs)
+unfolding symbols
+greater-equals bs = refl
+
+pub greater : (b : ℕ) (bs : List ℕ) → b ≢ 61 → form (Symbol 14) 1 ≡ symbol_at (62 ∷ b ∷ bs)
+unfolding symbols
+greater b bs n = rw (other 61 b n) refl
+
+-- those that begin with `:`
+pub colon-colon : (bs : List ℕ) → form (Symbol 10) 2 ≡ symbol_at (58 ∷ 58 ∷ bs)
+unfolding symbols
+colon-colon bs = refl
+
+pub colon : (b : ℕ) (bs : List ℕ) → b ≢ 58 → form (Symbol 27) 1 ≡ symbol_at (58 ∷ b ∷ bs)
+unfolding symbols
+colon b bs n = rw (other 58 b n) refl
+
+-- those that begin with `|`
+pub bar-bar : (bs : List ℕ) → form (Symbol 9) 2 ≡ symbol_at (124 ∷ 124 ∷ bs)
+unfolding symbols
+bar-bar bs = refl
+
+pub bar-plus-bar : (bs : List ℕ) → form (Symbol 1) 3 ≡ symbol_at (124 ∷ 43 ∷ 124 ∷ bs)
+unfolding symbols
+bar-plus-bar bs = refl
+
+pub bar-plus : (c : ℕ) (bs : List ℕ) → c ≢ 124 → form (Symbol 30) 1 ≡ symbol_at (124 ∷ 43 ∷ c ∷ bs)
+unfolding symbols
+bar-plus c bs n = rw (other 124 c n) refl
+
+pub bar : (b : ℕ) (bs : List ℕ) → b ≢ 124 → b ≢ 43 → form (Symbol 30) 1 ≡ symbol_at (124 ∷ b ∷ bs)
+unfolding symbols
+bar b bs n124 n43 = rw (other 124 b n124, other 43 b n43) refl
+
+-- `/`
+pub slash : (bs : List ℕ) → form (Symbol 18) 1 ≡ symbol_at (47 ∷ bs)
+unfolding symbols
+slash bs = refl

@@ -1,4 +1,4 @@
-ghost use Rattle.std.specs.Prelude.{◌≡◌, ◌≢◌, ◌⊎◌, ◌+◌, ◌<◌, ◌≤◌, length, take, drop, slice_index, IsTrue, IfSome};
+ghost use Rattle.std.specs.Prelude.{◌≡◌, ◌≢◌, ◌⊎◌, ◌+◌, ◌<◌, ◌≤◌, length, take, drop, slice_index, false, IsTrue, IfSome};
 ghost use Rattle.std.specs.Option.{option_map, option_or};
 ghost use Rattle.gql_lexer.specs.Lengths.{quoted_length};
 ghost use Rattle.gql_lexer.specs.Forms.{form, closed, is_blank, plain, ticked, dollar_shape, front};
@@ -6,7 +6,7 @@ ghost use Rattle.gql_lexer.specs.Shapes.{Tells};
 ghost use Rattle.gql_lexer.specs.Firsts.{is_letter, IsMark};
 
 use crate::lengths::{block_length, digits_length, line_length, name_length, quoted_length};
-use crate::symbol::symbol;
+use crate::symbol::{lone_place, symbol};
 
 /// Which form of the language some bytes are.
 #[derive(Clone, Copy, Debug, PartialEq, Eq)]
@@ -45,6 +45,7 @@ impl Front {
 }
 
 /// The longest form that stands at the front, or one bad byte. The first byte tells which forms it can be.
+#[inline(always)]
 pub fn longest_form(rest: &[u8]) -> Front
     requires { 0 < length rest.now }
     ensures value { result ≡ front rest.now }
@@ -54,15 +55,39 @@ pub fn longest_form(rest: &[u8]) -> Front
     by_first(rest)
 }
 
-/// The longest form, by the first byte.
+/// The longest form, by the first byte. White space, and a symbol whose byte begins nothing else, need no other.
+#[inline(always)]
 fn by_first(rest: &[u8]) -> Front
     requires { 0 < length rest.now }
     ensures { result ≡ front rest.now }
 {
-    let first = rest[0];
-    if is_blank(first) {
-        return Front::new(Shape::Gap, 1);
+    match lone_place(rest[0]) {
+        Some(place) => Front::new(Shape::Symbol(place), 1),
+        None => no_lone(rest),
     }
+}
+
+/// The longest form, where the first byte is mostly no symbol by itself.
+#[inline(always)]
+fn no_lone(rest: &[u8]) -> Front
+    requires { 0 < length rest.now }
+    ensures { result ≡ front rest.now }
+{
+    if is_blank(rest[0]) {
+        Front::new(Shape::Gap, 1)
+    } else {
+        by_sort(rest)
+    }
+}
+
+/// The longest form at a byte that is no white space, by the sort of that byte.
+#[inline(never)]
+fn by_sort(rest: &[u8]) -> Front
+    requires some_bytes { 0 < length rest.now }
+    requires no_blank { is_blank (slice_index rest.now 0) ≡ false }
+    ensures { result ≡ front rest.now }
+{
+    let first = rest[0];
     if is_letter(first) {
         return letters(rest);
     }
@@ -166,6 +191,7 @@ fn ticked(rest: &[u8]) -> Front
 }
 
 /// A parameter, from its `$`.
+#[inline(never)]
 fn dollar(rest: &[u8]) -> Front
     requires some_bytes { 0 < length rest.now }
     requires first { slice_index rest.now 0 ≡ 36 }

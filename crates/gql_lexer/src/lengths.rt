@@ -6,6 +6,7 @@ ghost use Rattle.unicode_ident.specs.Ident.{is_xid_continue};
 ghost use Rattle.gql_lexer.specs.Lengths.{begins, line_length, block_length, quoted_length, first_passes, first_size, may_start, continue_length, name_length};
 
 /// How many bytes stand before the next line feed, or before the end.
+#[inline(never)]
 pub fn line_length(rest: &[u8]) -> usize
     ensures value { result ≡ line_length rest.now }
     ensures bounds { result ≤ length rest.now }
@@ -32,6 +33,7 @@ pub fn digits_length(rest: &[u8]) -> usize
 }
 
 /// How many bytes stand before the first `*/`.
+#[inline(never)]
 pub fn block_length(rest: &[u8]) -> Option<usize>
     ensures value { result ≡ block_length rest.now }
     ensures bounds { IfSome result (λ n. n + 2 ≤ length rest.now) }
@@ -56,6 +58,7 @@ fn closes_block(rest: &[u8]) -> bool
 
 /// How many bytes stand before the closing quote. A backslash takes the next byte with it, and a doubled quote closes
 /// nothing.
+#[inline(never)]
 pub fn quoted_length(rest: &[u8], quote: u8) -> Option<usize>
     requires { quote ≢ 92 }
     ensures value { result ≡ quoted_length quote rest.now }
@@ -95,6 +98,7 @@ fn quoted_part(rest: &[u8], quote: u8) -> Option<usize>
 }
 
 /// How many bytes the name takes that stands at the front.
+#[inline(never)]
 pub fn name_length(rest: &[u8]) -> Option<usize>
     ensures value { result ≡ name_length rest.now }
     ensures bounds { IfSome result (λ n. (0 < n) × (n ≤ length rest.now)) }
@@ -107,6 +111,18 @@ pub fn name_length(rest: &[u8]) -> Option<usize>
 
 /// How many bytes the first character takes if a name may begin with it.
 fn starting(rest: &[u8]) -> Option<usize>
+    ensures value { result ≡ (if first_passes may_start rest.now then Some (first_size rest.now) else None) }
+    ensures bounds { IfSome result (λ n. (0 < n) × (n ≤ length rest.now)) }
+{
+    if rest.len() > 0 && rest[0].is_ascii_alphabetic() {
+        return Some(1);
+    }
+    starting_otherwise(rest)
+}
+
+/// The same, by the whole character.
+#[inline(never)]
+fn starting_otherwise(rest: &[u8]) -> Option<usize>
     ensures value { result ≡ (if first_passes may_start rest.now then Some (first_size rest.now) else None) }
     ensures bounds { IfSome result (λ n. (0 < n) × (n ≤ length rest.now)) }
 {
@@ -130,6 +146,9 @@ fn continuing(rest: &[u8]) -> Option<usize>
     ensures bounds { IfSome result (λ n. (0 < n) × (n ≤ length rest.now)) }
 {
     let byte = rest[0];
+    if byte.is_ascii_alphabetic() {
+        return Some(1);
+    }
     if byte >= 128 {
         return continuing_beyond(rest);
     }
@@ -144,6 +163,7 @@ fn may_continue(byte: u8) -> bool
 }
 
 /// The same for any character.
+#[inline(never)]
 fn continuing_beyond(rest: &[u8]) -> Option<usize>
     ensures value { result ≡ (if first_passes is_xid_continue rest.now then Some (first_size rest.now) else None) }
     ensures bounds { IfSome result (λ n. (0 < n) × (n ≤ length rest.now)) }

@@ -1,8 +1,7 @@
-ghost use Rattle.std.specs.Prelude.{◌≡◌, ◌<◌, ◌^◌, IsTrue, IsFalse, IfSome, ℕ, List, ◌∷◌, length, map};
-ghost use Rattle.std.specs.Option.{option_map};
+ghost use Rattle.std.specs.Prelude.{◌≡◌, ◌<◌, ◌^◌, IsTrue, IfSome, ℕ, List, ◌∷◌, length, map};
 ghost use Rattle.gql_lexer.specs.declared.front.Shape.TheVariants.{Symbol, Bad};
-ghost use Rattle.gql_lexer.specs.Forms.{form, symbols, symbols_from, longest};
-ghost use Rattle.gql_lexer.specs.Symbols.{no_longer, ends_symbol};
+ghost use Rattle.gql_lexer.specs.Forms.{form, symbols, symbols_from, longest, front};
+ghost use Rattle.gql_lexer.specs.Symbols.{no_longer};
 
 use crate::front::{Front, Shape};
 
@@ -12,92 +11,149 @@ static SYMBOLS: [&str; 34] = [
     "+", "*", "/", "%", "(", ")", "[", "]", "{", "}", ",", ":", ".", "&", "|", "!", "?", ";",
 ];
 
-/// The longest symbol at the front, or one bad byte. Most bytes begin one symbol only, which needs no search.
+/// The longest symbol at the front, or one bad byte. Where three bytes do not tell it, all symbols are tried.
+#[inline(always)]
 pub fn symbol(rest: &[u8]) -> Front
     requires { 0 < length rest.now }
     ensures { result ≡ longest (symbols_from 0 symbols rest.now) (form Bad 1) }
 {
-    match lone_place(rest[0]) {
-        Some(place) => Front {
-            shape: Shape::Symbol(place),
-            size: 1,
-        },
-        None => shared(rest),
-    }
-}
-
-/// The longest symbol where several begin with the first byte. The first two bytes tell most of them.
-fn shared(rest: &[u8]) -> Front
-    requires { 0 < length rest.now }
-    ensures { result ≡ longest (symbols_from 0 symbols rest.now) (form Bad 1) }
-{
-    match by_two(rest) {
+    match by_three(rest) {
         Some(found) => found,
         None => first_among(SYMBOLS.as_slice(), rest),
     }
 }
 
-/// The longest symbol, where the first two bytes tell it.
-fn by_two(rest: &[u8]) -> Option<Front>
+/// The longest symbol by three bytes, if there are so many and the first begins several symbols or is `/`.
+#[inline(always)]
+fn by_three(rest: &[u8]) -> Option<Front>
     ensures { IfSome result (λ found. found ≡ longest (symbols_from 0 symbols rest.now) (form Bad 1)) }
 {
     match rest {
-        [first, second, ..] => {
-            if goes_on(*second) {
-                sized(pair_place(*first, *second), 2)
-            } else {
-                sized(short_place(*first, *second), 1)
-            }
-        }
+        [first, second, third, ..] => several(*first, *second, *third),
         _ => None,
     }
 }
 
-/// The form of a symbol of some bytes.
-fn sized(place: Option<u32>, size: usize) -> Option<Front>
-    ensures { result ≡ option_map (λ p. form (Symbol p) size) place }
-{
-    match place {
-        Some(place) => Some(Front {
-            shape: Shape::Symbol(place),
-            size,
-        }),
-        None => None,
-    }
-}
-
-/// Whether the byte is the second of some symbol.
-fn goes_on(byte: u8) -> bool
-    ensures { IsFalse result → IsTrue (ends_symbol byte) }
-{
-    matches!(byte, b'-' | b'+' | b'>' | b'~' | b'=' | b'|' | b':')
-}
-
-/// The place of the symbol of a byte before one that goes on with none.
-fn short_place(first: u8, second: u8) -> Option<u32>
-    requires { IsTrue (ends_symbol second) }
-    ensures { IfSome result (λ place. (bs : List ℕ) → form (Symbol place) 1 ≡ longest (symbols_from 0 symbols (first ∷ second ∷ bs)) (form Bad 1)) }
+/// The longest symbol of three bytes and others, if the first begins several symbols or is `/`.
+#[inline(always)]
+fn several(first: u8, second: u8, third: u8) -> Option<Front>
+    ensures { IfSome result (λ found. (bs : List ℕ) → found ≡ longest (symbols_from 0 symbols (first ∷ second ∷ third ∷ bs)) (form Bad 1)) }
 {
     match first {
-        b'-' => Some(11),
-        b'~' => Some(12),
-        b'<' => Some(13),
-        b'>' => Some(14),
-        b':' => Some(27),
-        b'|' => Some(30),
+        b'<' => Some(at_less(second, third)),
+        b'-' => Some(at_minus(second)),
+        b'>' => Some(at_greater(second)),
+        b'~' => Some(at_tilde(second)),
+        b':' => Some(at_colon(second)),
+        b'|' => Some(at_bar(second, third)),
+        b'/' => Some(sign(18, 1)),
         _ => None,
     }
 }
 
-/// The place of the only symbol that begins with the byte, where it is one byte long and a match alone finds it.
-fn lone_place(first: u8) -> Option<u32>
-    ensures { IfSome result (λ place. (bs : List ℕ) → form (Symbol place) 1 ≡ longest (symbols_from 0 symbols (first ∷ bs)) (form Bad 1)) }
+/// A symbol of some bytes.
+fn sign(place: u32, size: usize) -> Front
+    ensures { result ≡ form (Symbol place) size }
+{
+    Front {
+        shape: Shape::Symbol(place),
+        size,
+    }
+}
+
+/// `<->`, `<-`, `<~`, `<>`, `<=` and `<`.
+fn at_less(second: u8, third: u8) -> Front
+    ensures { (bs : List ℕ) → result ≡ longest (symbols_from 0 symbols (60 ∷ second ∷ third ∷ bs)) (form Bad 1) }
+{
+    if second == b'-' {
+        return if third == b'>' {
+            sign(0, 3)
+        } else {
+            sign(2, 2)
+        };
+    }
+    if second == b'~' {
+        return sign(4, 2);
+    }
+    if second == b'>' {
+        return sign(6, 2);
+    }
+    if second == b'=' {
+        return sign(7, 2);
+    }
+    sign(13, 1)
+}
+
+/// `->` and `-`.
+fn at_minus(second: u8) -> Front
+    ensures { (bs : List ℕ) → result ≡ longest (symbols_from 0 symbols (45 ∷ second ∷ bs)) (form Bad 1) }
+{
+    if second == b'>' {
+        sign(3, 2)
+    } else {
+        sign(11, 1)
+    }
+}
+
+/// `~>` and `~`.
+fn at_tilde(second: u8) -> Front
+    ensures { (bs : List ℕ) → result ≡ longest (symbols_from 0 symbols (126 ∷ second ∷ bs)) (form Bad 1) }
+{
+    if second == b'>' {
+        sign(5, 2)
+    } else {
+        sign(12, 1)
+    }
+}
+
+/// `>=` and `>`.
+fn at_greater(second: u8) -> Front
+    ensures { (bs : List ℕ) → result ≡ longest (symbols_from 0 symbols (62 ∷ second ∷ bs)) (form Bad 1) }
+{
+    if second == b'=' {
+        sign(8, 2)
+    } else {
+        sign(14, 1)
+    }
+}
+
+/// `::` and `:`.
+fn at_colon(second: u8) -> Front
+    ensures { (bs : List ℕ) → result ≡ longest (symbols_from 0 symbols (58 ∷ second ∷ bs)) (form Bad 1) }
+{
+    if second == b':' {
+        sign(10, 2)
+    } else {
+        sign(27, 1)
+    }
+}
+
+/// `|+|`, `||` and `|`.
+fn at_bar(second: u8, third: u8) -> Front
+    ensures { (bs : List ℕ) → result ≡ longest (symbols_from 0 symbols (124 ∷ second ∷ third ∷ bs)) (form Bad 1) }
+{
+    if second == b'|' {
+        return sign(9, 2);
+    }
+    if second == b'+' {
+        return if third == b'|' {
+            sign(1, 3)
+        } else {
+            sign(30, 1)
+        };
+    }
+    sign(30, 1)
+}
+
+/// The place of the symbol that is the byte, where no other form begins with it: then the byte tells all.
+#[inline(always)]
+pub fn lone_place(first: u8) -> Option<u32>
+    ensures { IfSome result (λ place. (bs : List ℕ) → form (Symbol place) 1 ≡ front (first ∷ bs)) }
 {
     match first {
         b'=' => Some(15),
         b'+' => Some(16),
         b'*' => Some(17),
-        b'/' => Some(18),
         b'%' => Some(19),
         b'(' => Some(20),
         b')' => Some(21),
@@ -115,74 +171,8 @@ fn lone_place(first: u8) -> Option<u32>
     }
 }
 
-/// The place of the symbol that two bytes are, where no longer one begins with them.
-fn pair_place(first: u8, second: u8) -> Option<u32>
-    ensures { IfSome result (λ place. (bs : List ℕ) → form (Symbol place) 2 ≡ longest (symbols_from 0 symbols (first ∷ second ∷ bs)) (form Bad 1)) }
-{
-    match second {
-        b'>' => before_greater(first),
-        b'=' => before_equals(first),
-        b'~' => before_tilde(first),
-        b'|' => before_bar(first),
-        b':' => before_colon(first),
-        _ => None,
-    }
-}
-
-/// `->`, `~>` and `<>`.
-fn before_greater(first: u8) -> Option<u32>
-    ensures { IfSome result (λ place. (bs : List ℕ) → form (Symbol place) 2 ≡ longest (symbols_from 0 symbols (first ∷ 62 ∷ bs)) (form Bad 1)) }
-{
-    match first {
-        b'-' => Some(3),
-        b'~' => Some(5),
-        b'<' => Some(6),
-        _ => None,
-    }
-}
-
-/// `<=` and `>=`.
-fn before_equals(first: u8) -> Option<u32>
-    ensures { IfSome result (λ place. (bs : List ℕ) → form (Symbol place) 2 ≡ longest (symbols_from 0 symbols (first ∷ 61 ∷ bs)) (form Bad 1)) }
-{
-    match first {
-        b'<' => Some(7),
-        b'>' => Some(8),
-        _ => None,
-    }
-}
-
-/// `<~`.
-fn before_tilde(first: u8) -> Option<u32>
-    ensures { IfSome result (λ place. (bs : List ℕ) → form (Symbol place) 2 ≡ longest (symbols_from 0 symbols (first ∷ 126 ∷ bs)) (form Bad 1)) }
-{
-    match first {
-        b'<' => Some(4),
-        _ => None,
-    }
-}
-
-/// `||`.
-fn before_bar(first: u8) -> Option<u32>
-    ensures { IfSome result (λ place. (bs : List ℕ) → form (Symbol place) 2 ≡ longest (symbols_from 0 symbols (first ∷ 124 ∷ bs)) (form Bad 1)) }
-{
-    match first {
-        b'|' => Some(9),
-        _ => None,
-    }
-}
-
-/// `::`.
-fn before_colon(first: u8) -> Option<u32>
-    ensures { IfSome result (λ place. (bs : List ℕ) → form (Symbol place) 2 ≡ longest (symbols_from 0 symbols (first ∷ 58 ∷ bs)) (form Bad 1)) }
-{
-    match first {
-        b':' => Some(10),
-        _ => None,
-    }
-}
-
 /// The longest at the front of texts that get no longer: it is the first that fits.
+#[inline(never)]
 fn first_among(symbols: &[&str], rest: &[u8]) -> Front
     requires few { length symbols.now < 2 ^ 32 }
     requires no_longer { IsTrue (no_longer 3 (map (λ s. s.now) symbols.now)) }

@@ -1,4 +1,4 @@
 pub mod BoundLemmas
 pub mod CandidateLemmas
 pub mod Examples
-pub mod SharedGraph
+pub mod LastClause

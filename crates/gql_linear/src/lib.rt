@@ -1,8 +1,8 @@
 //! Linear queries: the clauses of a query act one after the other over a table of rows.
 //!
 //! `run_query` answers what the definition `query_run` of `specs/QueryRun.antt` says of a query over a graph and
-//! parameters: its table, or its first fault. MATCH of one node stands here; every other clause is that of `gql_table`.
-//! It stands on `gql_table` and `gql_eval`.
+//! parameters: its table and the graph behind it, or its first refusal. MATCH of one node stands here; the clauses over
+//! tables are those of `gql_table`, and those that change data those of `gql_change`.
 #![tactic(auto)]
 
 pub mod answer;
@@ -20,4 +20,4 @@ mod test_queries;
 mod tests;
 
 pub use answer::{Answer, RunFault};
-pub use query::run_query;
+pub use query::{changes_data, read_query, run_query};

@@ -1,36 +1,85 @@
-ghost use Rattle.std.specs.Prelude.{◌≡◌, map, IfOk};
-ghost use Rattle.gql_linear.specs.QueryRun.{query_run, shown_table};
+ghost use Rattle.std.specs.Prelude.{◌≡◌, false, map, IfOk};
+ghost use Rattle.gql_values3.specs.PropertyGraph.{PropertyGraph};
+ghost use Rattle.gql_linear.specs.QueryRun.{query_run, shown_table, answer_table, changes_data, ends_in_change, is_change};
 ghost use Rattle.gql_linear.specs.Runs.{Runs};
 
 use crate::answer::{Answer, RunFault};
-use crate::clauses::table_behind;
-use gql_ast::Query;
+use crate::clauses::{acted_on, table_behind};
+use gql_ast::{Clause, Query};
+use gql_graph::Edit;
 use gql_values3::{Columns, Names, OutOfMemory, Params, Rows, Table, View};
 use std::alloc::Global;
 
-/// Runs the clauses of a query one after the other over the graph of a view.
+/// Runs the clauses of a query one after the other over a graph, which becomes the one behind them.
 ///
-/// Ok holds the table of its RETURN. `Refused` is E18 with the first fault that a clause met, rows in order and, within
-/// a row, expressions in the order of the text. Nothing is changed.
-pub fn run_query<V: View>(
+/// Ok holds the table of its RETURN, or none where the query ends in a change of data. `Refused` is the first refusal
+/// that a clause met: E18 with its first fault, rows in order and, within a row, expressions in the order of the text;
+/// E20, E21 or E24 of a change. After a refusal, and where memory runs out, the graph may be any of those on the way.
+pub fn run_query<G: Edit>(
+    alloc: Global,
+    graph: &mut G,
+    params: &Params,
+    query: &Query,
+) -> Result<Answer, RunFault>
+    ensures { Runs query.now result (G.View.graph graph.new) (query_run (G.View.graph graph.old) params.now query.now) }
+{
+    let (columns, rows) = acted_on(alloc, graph, params, query.clauses.as_slice())?;
+    Ok(answered(alloc, query, columns, rows)?)
+}
+
+/// The same for a query in which no clause changes data, over the graph of a view.
+pub fn read_query<V: View>(
     alloc: Global,
     view: &V,
     params: &Params,
     query: &Query,
 ) -> Result<Answer, RunFault>
-    ensures { Runs result (query_run (V.graph view.now) params.now query.now) }
+    requires { changes_data query.now ≡ false }
+    ensures { Runs query.now result (V.graph view.now) (query_run (V.graph view.now) params.now query.now) }
 {
     let (columns, rows) = table_behind(alloc, view, params, query.clauses.as_slice())?;
-    let table = shown(alloc, columns, rows)?;
-    Ok(Answer { table: Some(table) })
+    Ok(answered(alloc, query, columns, rows)?)
 }
 
-/// The table that is shown: the names of the columns, and the rows.
-fn shown(alloc: Global, columns: Columns, rows: Rows) -> Result<Table, OutOfMemory>
-    ensures { IfOk result (λ table. table ≡ shown_table (columns, rows)) }
+/// Whether some clause of the query changes data.
+pub fn changes_data(query: &Query) -> bool
+    ensures { result ≡ changes_data query.now }
 {
+    query.clauses.as_slice().iter().any(is_change)
+}
+
+fn is_change(clause: &Clause) -> bool
+    ensures { result ≡ is_change clause.now }
+{
+    matches!(clause, Clause::Change(_))
+}
+
+/// The answer with its table, if it has one.
+fn answered(
+    alloc: Global,
+    query: &Query,
+    columns: Columns,
+    rows: Rows,
+) -> Result<Answer, OutOfMemory>
+    ensures { IfOk result (λ a. (g : PropertyGraph) → a.table ≡ answer_table query.now (record { graph = g; columns = columns; rows = rows })) }
+{
+    if ends_in_change(query.clauses.as_slice()) {
+        return Ok(Answer { table: None });
+    }
     let columns = names_of(alloc, columns)?;
-    Ok(Table { columns, rows })
+    Ok(Answer {
+        table: Some(Table { columns, rows }),
+    })
+}
+
+/// Whether the last clause changes data.
+fn ends_in_change(clauses: &[Clause]) -> bool
+    ensures { result ≡ ends_in_change clauses.now }
+{
+    match clauses.last() {
+        Some(clause) => is_change(clause),
+        None => false,
+    }
 }
 
 fn names_of(alloc: Global, columns: Columns) -> Result<Names, OutOfMemory>

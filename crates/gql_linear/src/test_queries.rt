@@ -242,18 +242,18 @@ fn return_all() -> Clause {
 
 /// What the clauses and `RETURN *` give: the columns' names and then the rows, or the fault.
 pub fn given(alloc: Global, parts: &[Part]) -> Result<Text, RunFault> {
-    let Some(graph) = three_nodes(alloc)? else {
+    let Some(mut graph) = three_nodes(alloc)? else {
         return Err(RunFault::OutOfMemory);
     };
     let query = query_of(alloc, parts)?;
     let params = Params::new(alloc);
-    shown(alloc, answer_over(alloc, &graph, &params, &query)?)
+    shown(alloc, answer_over(alloc, &mut graph, &params, &query)?)
 }
 
 /// The same over a graph; a call that is generic in the graph stands best in a function of its own.
 fn answer_over(
     alloc: Global,
-    graph: &Graph,
+    graph: &mut Graph,
     params: &Params,
     query: &Query,
 ) -> Result<Answer, RunFault> {

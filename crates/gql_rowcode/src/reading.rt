@@ -64,7 +64,7 @@ fn catalog_of(alloc: Global, seen: Seen) -> Result<Catalog, OutOfMemory>
 
 fn graph_of(alloc: Global, next_node: u32, next_edge: u32, nodes: NodeRecords) -> Graph
     requires { is_graph (record { nodes = nodes; edges = []; next_node = next_node; next_edge = next_edge }) ≡ true }
-    ensures { result ≡ record { nodes = nodes; edges = []; next_node = next_node; next_edge = next_edge } }
+    ensures { result.graph ≡ record { nodes = nodes; edges = []; next_node = next_node; next_edge = next_edge } }
 {
     Graph::of(nodes, Sequence::new(alloc), next_node, next_edge).unwrap()
 }

@@ -53,7 +53,7 @@ fn a_graph_is_read(rt: HostRuntime) -> Result<(), Fail> {
     let graph = catalog.graph("home").ok_or("home is there")?;
     assert_eq!(rt; graph.next_node(), 3);
     assert_eq!(rt; graph.next_edge(), 1);
-    let [one, two] = graph.nodes().as_slice() else {
+    let [one, two] = graph.nodes() else {
         return Err("two nodes".into());
     };
     assert_eq!(rt; one.number.0, 1);

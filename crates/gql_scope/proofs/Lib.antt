@@ -5,3 +5,5 @@ pub mod MisuseLemmas
 pub mod RefusalLemmas
 pub mod LetLemmas
 pub mod SeenLemmas
+pub mod SpotLemmas
+pub mod MapLemmas

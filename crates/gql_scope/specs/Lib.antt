@@ -5,3 +5,4 @@ pub mod Places
 pub mod Answers
 pub mod Seen
 pub mod ValueRefusal
+pub mod Questions

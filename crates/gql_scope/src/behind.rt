@@ -8,6 +8,7 @@ ghost use Rattle.gql_ast.specs.ClauseColumns.{let_columns, counter_column, for_c
 ghost use Rattle.gql_ast.specs.Projections.{columns_behind, output_columns};
 
 use crate::columns::Scope;
+use crate::insert_columns::push_change;
 use crate::outputs::output_scope;
 use gql_ast::{
     Clause, Counting, Expr, Filler, For, GraphPattern, LetItem, PathExpr, PathPattern, ReturnItems,
@@ -155,7 +156,8 @@ pub fn step(alloc: Global, scope: &mut Scope, clause: &Clause) -> Result<(), Out
         Clause::Let(items) => push_let(alloc, scope, items.as_slice()),
         Clause::For(clause) => push_for(alloc, scope, clause),
         Clause::Return(clause) => keep_outputs(alloc, scope, &clause.items),
-        Clause::Filter(_) | Clause::Page(_) | Clause::Change(_) => Ok(()),
+        Clause::Change(change) => push_change(alloc, scope, change),
+        Clause::Filter(_) | Clause::Page(_) => Ok(()),
     }
 }
 

@@ -13,6 +13,7 @@ ghost use Rattle.gql_scope.specs.Seen.{seen_names};
 
 use crate::aggregates::has_aggregate;
 use crate::behind::{node_of, push_copy, step};
+use crate::change_maps::check_change;
 use crate::columns::Scope;
 use crate::fault::ScopeFault;
 use crate::grouping::check_grouping;
@@ -63,7 +64,7 @@ pub fn note_name(alloc: Global, seen: &mut Scope, name: &Text) -> Result<(), Sco
 
 /// Checks that a map names no property twice.
 #[tactic(auto, using(crate::proofs::SeenLemmas::repeated_step))]
-fn check_map(alloc: Global, items: &[MapItem]) -> Result<(), ScopeFault>
+pub fn check_map(alloc: Global, items: &[MapItem]) -> Result<(), ScopeFault>
     ensures { Answers result (first_of Refusal.Column (map column.Property (repeated [] (map (λ i. i.name) items.now)))) }
 {
     let mut seen = Scope::new(alloc);
@@ -169,6 +170,7 @@ fn check_clause(alloc: Global, scope: &Scope, clause: &Clause) -> Result<(), Sco
 {
     match clause {
         Clause::Match(m) => check_node(alloc, node_of(&m.pattern)),
+        Clause::Change(change) => check_change(alloc, change),
         Clause::Return(clause) => check_return(alloc, scope, clause),
         _ => Ok(()),
     }

@@ -7,17 +7,28 @@
 
 pub mod aggregates;
 pub mod behind;
+pub mod change_kinds;
+pub mod change_maps;
+pub mod change_misuses;
+pub mod change_names;
+pub mod change_parameters;
+#[cfg(test)]
+mod change_tests;
 pub mod codes;
 pub mod column_faults;
 pub mod columns;
 pub mod fault;
 pub mod grouping;
+pub mod insert_columns;
+pub mod insert_maps;
+pub mod insert_spots;
 pub mod misused_clauses;
 pub mod misuses;
 pub mod names;
 pub mod outputs;
 pub mod outside;
 pub mod parameters;
+pub mod standing;
 #[cfg(test)]
 mod tests;
 pub mod unknown_names;

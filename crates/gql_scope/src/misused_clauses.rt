@@ -4,8 +4,9 @@ ghost use Rattle.std.specs.Prelude.{◌≡◌, [], ◌∷◌, ◌++◌, ◌||◌
 ghost use Rattle.std.specs.Option.{option_copied};
 ghost use Rattle.std.specs.List.{list_any};
 ghost use Rattle.gql_ast.specs.ClauseColumns.{with_filler, match_columns, let_columns, for_columns};
+ghost use Rattle.gql_ast.specs.InsertColumns.{change_columns};
 ghost use Rattle.gql_ast.specs.Meaning.{tree_of};
-ghost use Rattle.gql_ast.specs.Misuses.{misused_expr, misused_if, misused_condition, misused_node, misused_pattern, misused_let, misused_keys, misused_order, misused_page, misused_items, misused_clause, misused_clauses, item, elsewhere};
+ghost use Rattle.gql_ast.specs.Misuses.{misused_expr, misused_if, misused_condition, misused_node, misused_pattern, misused_let, misused_keys, misused_order, misused_page, misused_items, misused_change, misused_clause, misused_clauses, item, elsewhere};
 ghost use Rattle.gql_ast.specs.Outputs.{kind_of};
 ghost use Rattle.gql_ast.specs.Projections.{columns_behind, sort_columns, output_columns};
 ghost use Rattle.gql_ast.specs.StaticRefusals.{misuse_if};
@@ -13,13 +14,15 @@ ghost use Rattle.gql_scope.specs.Answers.{Answers};
 ghost use Rattle.gql_scope.specs.Places.{place_of, columns_at};
 
 use crate::behind::{keep_outputs, node_of, push_for, push_let_item, push_node};
+use crate::change_misuses::check_change;
 use crate::columns::Scope;
 use crate::fault::ScopeFault;
+use crate::insert_columns::push_change;
 use crate::misuses::{Place, is_misused};
 use crate::outputs::sort_scope;
 use gql_ast::{
-    Clause, Condition, Expr, Filler, For, GraphPattern, LetItem, MapItem, Page, Refusal, Return,
-    ReturnItem, ReturnItems, SortItem,
+    ChangeClause, Clause, Condition, Expr, Filler, For, GraphPattern, LetItem, MapItem, Page,
+    Refusal, Return, ReturnItem, ReturnItems, SortItem,
 };
 use std::alloc::Global;
 
@@ -52,7 +55,7 @@ fn check_if(scope: &Scope, expr: &Option<Expr>) -> Result<(), ScopeFault>
 
 /// Checks a map's values.
 #[tactic(auto, using(crate::proofs::RefusalLemmas::misuse_in_two))]
-fn check_map(scope: &Scope, items: &[MapItem]) -> Result<(), ScopeFault>
+pub fn check_map(scope: &Scope, items: &[MapItem]) -> Result<(), ScopeFault>
     ensures { Answers result (misuse_if (list_any (λ i. misused_expr scope.now elsewhere i.value) items.now)) }
 {
     for item in items {
@@ -194,6 +197,16 @@ fn check_return(alloc: Global, scope: &mut Scope, clause: &Return) -> Result<(),
     Ok(())
 }
 
+/// Checks a clause that changes data, and adds its columns.
+fn pass_change(alloc: Global, scope: &mut Scope, change: &ChangeClause) -> Result<(), ScopeFault>
+    ensures misuses { Answers result (misuse_if (misused_change scope.old change.now)) }
+    ensures columns { OnOk result (scope.new ≡ change_columns scope.old change.now) }
+{
+    check_change(alloc, scope, change)?;
+    push_change(alloc, scope, change)?;
+    Ok(())
+}
+
 /// Checks a clause, and changes the columns to those behind it.
 fn check_clause(alloc: Global, scope: &mut Scope, clause: &Clause) -> Result<(), ScopeFault>
     ensures misuses { Answers result (misuse_if (misused_clause scope.old clause.now)) }
@@ -206,7 +219,7 @@ fn check_clause(alloc: Global, scope: &mut Scope, clause: &Clause) -> Result<(),
         Clause::For(clause) => check_for(alloc, scope, clause),
         Clause::Page(page) => check_page(scope, page),
         Clause::Return(clause) => check_return(alloc, scope, clause),
-        Clause::Change(_) => Ok(()),
+        Clause::Change(change) => pass_change(alloc, scope, change),
     }
 }
 

@@ -35,7 +35,7 @@ fn limit(alloc: Global, chars: &str) -> Result<Clause, OutOfMemory> {
     Ok(Clause::Page(Page::Limit(RowCount::Parameter(name))))
 }
 
-fn let_clause(alloc: Global, chars: &str) -> Result<Clause, OutOfMemory> {
+pub fn let_clause(alloc: Global, chars: &str) -> Result<Clause, OutOfMemory> {
     let name = Text::from_str(alloc, chars)?;
     let mut items = LetItems::new(alloc);
     items.push(LetItem {
@@ -57,7 +57,7 @@ fn node(name: Text) -> PathPattern {
     }
 }
 
-fn match_clause(alloc: Global, chars: &str) -> Result<Clause, OutOfMemory> {
+pub fn match_clause(alloc: Global, chars: &str) -> Result<Clause, OutOfMemory> {
     let name = Text::from_str(alloc, chars)?;
     let mut paths = PathPatterns::new(alloc);
     paths.push(node(name))?;
@@ -70,10 +70,10 @@ fn match_clause(alloc: Global, chars: &str) -> Result<Clause, OutOfMemory> {
     }))
 }
 
-fn return_all() -> Clause {
+pub fn return_of(items: ReturnItems) -> Clause {
     Clause::Return(Return {
         quantifier: SetQuantifier::All,
-        items: ReturnItems::All,
+        items,
         grouping: None,
         order: None,
         skip: None,
@@ -88,7 +88,7 @@ fn clause_of(alloc: Global, part: Part) -> Result<Clause, OutOfMemory> {
         Part::Let(chars) => let_clause(alloc, chars),
         Part::Node(chars) => match_clause(alloc, chars),
         Part::Limit(chars) => limit(alloc, chars),
-        Part::All => Ok(return_all()),
+        Part::All => Ok(return_of(ReturnItems::All)),
     }
 }
 
@@ -101,7 +101,7 @@ fn query_of(alloc: Global, parts: &[Part]) -> Result<Statement, OutOfMemory> {
 }
 
 /// Whether the check answers the code, with the name; no code is no refusal.
-fn answers(answer: &Result<(), ScopeFault>, code: &str, name: &str) -> bool {
+pub fn answers(answer: &Result<(), ScopeFault>, code: &str, name: &str) -> bool {
     let Err(ScopeFault::Defect(refusal)) = answer else {
         return answer.is_ok() && code.is_empty();
     };
@@ -110,6 +110,7 @@ fn answers(answer: &Result<(), ScopeFault>, code: &str, name: &str) -> bool {
         Refusal::Kind(x) => code == "E09" && x.as_str() == name,
         Refusal::Misuse => code == "E15",
         Refusal::Column(ColumnRef::All) => code == "E16",
+        Refusal::Column(ColumnRef::Property(x)) => code == "E16" && x.as_str() == name,
         Refusal::Parameter(x) => code == "E23" && x.as_str() == name,
         _ => false,
     }

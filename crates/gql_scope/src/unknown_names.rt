@@ -6,19 +6,22 @@ ghost use Rattle.std.specs.List.{flat_map};
 ghost use Rattle.gql_ast.specs.Meaning.{tree_of};
 ghost use Rattle.gql_ast.specs.Outputs.{kind_of, element_kind};
 ghost use Rattle.gql_ast.specs.ClauseColumns.{with_filler, match_columns, let_columns, for_columns, counter_column};
+ghost use Rattle.gql_ast.specs.InsertColumns.{change_columns};
 ghost use Rattle.gql_ast.specs.Projections.{columns_behind, sort_columns, output_columns};
 ghost use Rattle.gql_ast.specs.StaticRefusals.{first_of};
-ghost use Rattle.gql_ast.specs.UnknownNames.{unknown_in_expr, unknown_if, taken, unknown_in_condition, unknown_in_node, unknown_in_pattern, unknown_in_let, unknown_in_counter, unknown_in_for, unknown_in_keys, unknown_in_order, unknown_in_page, unknown_in_items, unknown_in_return, unknown_in_clause, unknown_in_clauses};
+ghost use Rattle.gql_ast.specs.UnknownNames.{unknown_in_expr, unknown_if, taken, unknown_in_condition, unknown_in_node, unknown_in_pattern, unknown_in_let, unknown_in_counter, unknown_in_for, unknown_in_keys, unknown_in_order, unknown_in_page, unknown_in_items, unknown_in_return, unknown_in_change, unknown_in_clause, unknown_in_clauses};
 ghost use Rattle.gql_scope.specs.Answers.{Answers};
 
 use crate::behind::{keep_outputs, node_of, push_counter, push_for_item, push_let_item, push_node};
+use crate::change_names::check_change;
 use crate::columns::Scope;
 use crate::fault::ScopeFault;
+use crate::insert_columns::push_change;
 use crate::names::{Sought, first_name};
 use crate::outputs::sort_scope;
 use gql_ast::{
-    Clause, Condition, Counting, Expr, Filler, For, GraphPattern, LetItem, MapItem, Page, Refusal,
-    Return, ReturnItem, ReturnItems, SortItem,
+    ChangeClause, Clause, Condition, Counting, Expr, Filler, For, GraphPattern, LetItem, MapItem,
+    Page, Refusal, Return, ReturnItem, ReturnItems, SortItem,
 };
 use gql_values3::Text;
 use std::alloc::Global;
@@ -55,7 +58,7 @@ fn check_if(alloc: Global, scope: &Scope, expr: &Option<Expr>) -> Result<(), Sco
 }
 
 /// Checks the names of a map's values.
-fn check_map(alloc: Global, scope: &Scope, items: &[MapItem]) -> Result<(), ScopeFault>
+pub fn check_map(alloc: Global, scope: &Scope, items: &[MapItem]) -> Result<(), ScopeFault>
     ensures { Answers result (first_of Refusal.Variable (flat_map (λ i. unknown_in_expr scope.now i.value) items.now)) }
 {
     for item in items {
@@ -231,6 +234,16 @@ fn check_return(alloc: Global, scope: &mut Scope, clause: &Return) -> Result<(),
     Ok(())
 }
 
+/// Checks the names of a clause that changes data, and adds its columns.
+fn pass_change(alloc: Global, scope: &mut Scope, change: &ChangeClause) -> Result<(), ScopeFault>
+    ensures names { Answers result (first_of Refusal.Variable (unknown_in_change scope.old change.now)) }
+    ensures columns { OnOk result (scope.new ≡ change_columns scope.old change.now) }
+{
+    check_change(alloc, scope, change)?;
+    push_change(alloc, scope, change)?;
+    Ok(())
+}
+
 /// Checks the names of a clause, and changes the columns to those behind it.
 fn check_clause(alloc: Global, scope: &mut Scope, clause: &Clause) -> Result<(), ScopeFault>
     ensures names { Answers result (first_of Refusal.Variable (unknown_in_clause scope.old clause.now)) }
@@ -243,7 +256,7 @@ fn check_clause(alloc: Global, scope: &mut Scope, clause: &Clause) -> Result<(),
         Clause::For(clause) => check_for(alloc, scope, clause),
         Clause::Page(page) => check_page(alloc, scope, page),
         Clause::Return(clause) => check_return(alloc, scope, clause),
-        Clause::Change(_) => Ok(()),
+        Clause::Change(change) => pass_change(alloc, scope, change),
     }
 }
 

@@ -8,6 +8,7 @@ ghost use Rattle.gql_ast.specs.UnsetParameters.{unset, parameters_of, parameters
 ghost use Rattle.gql_scope.specs.Answers.{Answers};
 
 use crate::behind::node_of;
+use crate::change_parameters::check_change;
 use crate::fault::ScopeFault;
 use crate::parameters::{if_unset, unset_parameter};
 use gql_ast::{
@@ -46,7 +47,7 @@ fn check_if(alloc: Global, params: &Params, expr: &Option<Expr>) -> Result<(), S
 }
 
 /// Checks the parameters of a map's values.
-fn check_map(alloc: Global, params: &Params, items: &[MapItem]) -> Result<(), ScopeFault>
+pub fn check_map(alloc: Global, params: &Params, items: &[MapItem]) -> Result<(), ScopeFault>
     ensures { Answers result (first_of Refusal.Parameter (unset params.now (flat_map (λ i. parameters_of i.value) items.now))) }
 {
     for item in items {
@@ -225,7 +226,7 @@ fn check_clause(alloc: Global, params: &Params, clause: &Clause) -> Result<(), S
         Clause::For(clause) => check_expr(alloc, params, &clause.list),
         Clause::Page(page) => check_page(alloc, params, page),
         Clause::Return(clause) => check_return(alloc, params, clause),
-        Clause::Change(_) => Ok(()),
+        Clause::Change(change) => check_change(alloc, params, change),
     }
 }
 

@@ -1,4 +1,4 @@
-//! E09: a node's variable that is a column of another kind.
+//! E09: a node's variable that is a column of another kind; `change_kinds` has the clauses that change data.
 
 ghost use Rattle.std.specs.Prelude.{◌≡◌, [], OnOk};
 ghost use Rattle.std.specs.Option.{option_copied};
@@ -8,6 +8,7 @@ ghost use Rattle.gql_ast.specs.WrongKinds.{holds_nodes, wrong_variable, wrong_in
 ghost use Rattle.gql_scope.specs.Answers.{Answers};
 
 use crate::behind::{node_of, step};
+use crate::change_kinds::check_change;
 use crate::columns::Scope;
 use crate::fault::ScopeFault;
 use gql_ast::{Clause, Filler, Refusal};
@@ -49,6 +50,7 @@ fn check_clause(alloc: Global, scope: &Scope, clause: &Clause) -> Result<(), Sco
 {
     match clause {
         Clause::Match(m) => check_node(alloc, scope, node_of(&m.pattern)),
+        Clause::Change(change) => check_change(alloc, scope, change),
         _ => Ok(()),
     }
 }

@@ -1,5 +1,5 @@
 -- No statement changes the catalog that is kept.
-use Rattle.std.proofs.Common.{◌≡◌, ℕ, List, [], Option, Some, None, Result, Ok, Err, refl, ap, ◌∙◌}
+use Rattle.std.proofs.Common.{◌≡◌, ℕ, Bool, true, false, List, [], Option, Some, None, Result, Ok, Err, refl, ap, ◌∙◌}
 use Rattle.gql_values3.specs.Datum.{Datum}
 use Rattle.gql_ast.specs.Meaning.{tree_of}
 use Rattle.gql_ast.specs.Evaluation.{value_of}
@@ -10,15 +10,22 @@ use Rattle.gql_ast.specs.declared.statement.SessionStatement.{SessionStatement}
 use Rattle.gql_ast.specs.declared.statement.SessionStatement.TheVariants as session
 use Rattle.gql_ast.specs.declared.statement.Statement.{Statement}
 use Rattle.gql_ast.specs.declared.statement.Statement.TheVariants as statement
-use Rattle.gql_linear.specs.QueryRun.{Working, query_run}
+use Rattle.std.specs.Prelude.{if◌then◌else◌}
+use Rattle.gql_values3.specs.PropertyGraph.{PropertyGraph}
+use Rattle.gql_ast.specs.declared.clause.Query.{Query}
+use Rattle.gql_linear.specs.QueryRun.{Working, changes_data, query_run}
 use Rattle.gql_session.specs.Reading.{Reading, blank, bad, deep, unread, read}
-use Rattle.gql_session.specs.SessionState.{SessionState}
-use Rattle.gql_session.specs.StatementRun.{query_end, value_end, acting_graph, session_end, acted, first_refusal, ended}
+use Rattle.gql_session.specs.SessionState.{SessionState, with_graph}
+use Rattle.gql_session.specs.StatementRun.{query_after, value_end, acting_graph, session_end, acted, first_refusal, ended}
 use Rattle.gql_session.specs.SessionRun.{Step, state_behind}
 
-query_kept : (s : SessionState) (r : Result Working DataFault) → (query_end s r).after.kept ≡ s.kept
-query_kept s (Ok t) = refl
-query_kept s (Err f) = refl
+put_kept : (s : SessionState) (g : PropertyGraph) (changes : Bool) → (if changes then with_graph s g else s).kept ≡ s.kept
+put_kept s g true = refl
+put_kept s g false = refl
+
+query_kept : (s : SessionState) (q : Query) (r : Result Working Refusal) → (query_after q s r).kept ≡ s.kept
+query_kept s q (Ok t) = put_kept s t.graph (changes_data q)
+query_kept s q (Err f) = refl
 
 value_kept : (s : SessionState) (p : List ℕ) (r : Result Datum DataFault) → (value_end s p r).after.kept ≡ s.kept
 value_kept s p (Ok d) = refl
@@ -31,7 +38,7 @@ session_kept s session.Close = refl
 session_kept s (session.SetGraph x) = refl
 
 acted_kept : (s : SessionState) (t : Statement) → (acted s t).after.kept ≡ s.kept
-acted_kept s (statement.Query q) = query_kept s (query_run (acting_graph s) s.parameters q)
+acted_kept s (statement.Query q) = query_kept s q (query_run (acting_graph s) s.parameters q)
 acted_kept s (statement.Session t) = session_kept s t
 acted_kept s (statement.Transaction t) = refl
 acted_kept s (statement.Catalog c) = refl

@@ -6,5 +6,4 @@ pub mod LoadLemmas
 pub mod KeptLemmas
 pub mod ParameterLemmas
 pub mod StepLemmas
-pub mod SharedGraph
 pub mod EndingLemmas

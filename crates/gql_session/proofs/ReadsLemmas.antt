@@ -1,8 +1,12 @@
 -- No piece reads in two ways. Key idea: its lexemes decide, since they are one list.
-use Rattle.std.proofs.Common.{◌≡◌, ◌≢◌, ℕ, Bool, true, false, List, [], ◌∷◌, Option, Some, None, refl, sym, ap, ◌∙◌, subst}
+use Rattle.std.proofs.Common.{◌≡◌, ◌≢◌, ℕ, Bool, true, false, List, [], ◌∷◌, Option, Some, None, refl, sym, ap, ◌∙◌, inl, inr, subst}
 use Rattle.std.specs.Prelude.{unwrap_or}
 use Rattle.gql_lexer.specs.Lexemes.{lexemes_of}
 use Rattle.gql_lexer.specs.declared.lexeme.Lexeme.{Lexeme}
+use Rattle.gql_ast.specs.declared.change.ChangeClause.{ChangeClause}
+use Rattle.gql_ast.specs.declared.change.ChangeClause.TheVariants as change
+use Rattle.gql_ast.specs.declared.change.Detachment.{Detachment}
+use Rattle.gql_ast.specs.declared.change.Detachment.TheVariants as detachment
 use Rattle.gql_ast.specs.declared.clause.Clause.{Clause}
 use Rattle.gql_ast.specs.declared.clause.Clause.TheVariants as clause
 use Rattle.gql_ast.specs.declared.page.Page.{Page}
@@ -12,6 +16,7 @@ use Rattle.gql_ast.specs.declared.statement.SessionStatement.TheVariants as sess
 use Rattle.gql_ast.specs.declared.statement.Statement.{Statement}
 use Rattle.gql_ast.specs.declared.statement.Statement.TheVariants as statement
 use Rattle.gql_exprs.specs.Depth.{too_deep}
+use Rattle.gql_statements.specs.ChangeGrammar.{Detaches, IsChange}
 use Rattle.gql_statements.specs.StatementGrammar.{Derives}
 use Rattle.gql_statements.specs.Parts.{Passes}
 use Rattle.gql_statements.specs.ClauseGrammar.{IsClause, IsLast}
@@ -59,13 +64,29 @@ no_page (page.Order is s l) r h = nothing_passes _ h.1.0 h.1.1
 no_page (page.Skip c l) r h = nothing_passes _ h.1.0 h.1.1
 no_page (page.Limit c) r h = nothing_passes _ h.0 h.1
 
+nothing_passes_from : (test : Lexeme → Bool) (ts r : List Lexeme) → ts ≡ [] → Passes test ts r → ⊥
+nothing_passes_from test ts r e h =
+    let P : List Lexeme → Type 0 = λ us. Passes test us r in
+    nothing_passes test r (subst P e h)
+
+no_detachment : (d : Detachment) (r : List Lexeme) → Detaches d [] r → r ≡ []
+no_detachment detachment.Detach r h = absurd (nothing_passes _ r h)
+no_detachment detachment.NoDetach r (inl same) = sym same
+no_detachment detachment.NoDetach r (inr p) = absurd (nothing_passes _ r p)
+
+no_change : (c : ChangeClause) (r : List Lexeme) → IsChange c [] r → ⊥
+no_change (change.Insert ps) r h = nothing_passes _ h.0 h.1
+no_change (change.Set is) r h = nothing_passes _ h.0 h.1
+no_change (change.Remove is) r h = nothing_passes _ h.0 h.1
+no_change (change.Delete d xs) r h = nothing_passes_from _ h.0 h.2 (no_detachment d h.0 h.1) h.3
+
 no_clause : (c : Clause) (r : List Lexeme) → IsClause c [] r → ⊥
 no_clause (clause.Match m) r h = nothing_passes _ h.1 h.2
 no_clause (clause.Let is) r h = nothing_passes _ h.0 h.1
 no_clause (clause.Filter e) r h = nothing_passes _ h.0 h.1
 no_clause (clause.For f) r h = nothing_passes _ h.0 h.1
 no_clause (clause.Page p) r h = no_page p r h
-no_clause (clause.Change c) r h = h
+no_clause (clause.Change c) r h = no_change c r h
 no_clause (clause.Return ret) r h = h
 
 no_last : (c : Clause) (r : List Lexeme) → IsLast c [] r → ⊥
@@ -74,7 +95,7 @@ no_last (clause.Let is) r h = h
 no_last (clause.Filter e) r h = h
 no_last (clause.For f) r h = h
 no_last (clause.Page p) r h = h
-no_last (clause.Change c) r h = h
+no_last (clause.Change c) r h = no_change c r h
 no_last (clause.Return ret) r h = nothing_passes _ h.0 h.1
 
 no_clauses : (cs : List Clause) (r : List Lexeme) → AreClauses cs [] r → ⊥

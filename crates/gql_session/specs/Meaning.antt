@@ -6,9 +6,9 @@ use Rattle.gql_session.specs.declared.reading.Read.{Read}
 use Rattle.gql_session.specs.declared.reading.Read.TheVariants as found
 use Rattle.gql_session.specs.declared.state.Session.{Session}
 
--- nothing changes a catalog in this stage
+-- nothing changes the catalog that is kept in this stage
 abbrev pub state_of : CatalogData → Session → SessionState
-state_of c s = record { catalog = c; kept = c; parameters = s.parameters; is_closed = s.is_closed }
+state_of kept s = record { catalog = s.catalog; kept = kept; parameters = s.parameters; is_closed = s.is_closed }
 
 abbrev pub reading_of : Read → Reading
 reading_of found.Blank = blank

@@ -3,7 +3,7 @@ use Rattle.std.specs.Prelude.{ℕ, Bool, true, false, not, List, [], ◌∷◌, 
 use Rattle.gql_values3.specs.Datum.{Datum}
 use Rattle.gql_values3.specs.Texts.{same_text}
 use Rattle.gql_values3.specs.PropertyGraph.{PropertyGraph}
-use Rattle.gql_graph.specs.Catalog.{CatalogData, graph_of, empty_graph}
+use Rattle.gql_graph.specs.Catalog.{CatalogData, graph_of, replaced, empty_graph}
 
 -- parameters by name, each once
 abbrev pub ParameterList : Type 0
@@ -23,6 +23,10 @@ starting c = record { catalog = c; kept = c; parameters = []; is_closed = false 
 
 abbrev pub with_parameters : SessionState → ParameterList → SessionState
 with_parameters s ps = record { catalog = s.catalog; kept = s.kept; parameters = ps; is_closed = s.is_closed }
+
+-- another graph in the place of the current one
+abbrev pub with_graph : SessionState → PropertyGraph → SessionState
+with_graph s g = record { catalog = replaced (codes "home") g s.catalog; kept = s.kept; parameters = s.parameters; is_closed = s.is_closed }
 
 abbrev pub closed : SessionState → SessionState
 closed s = record { catalog = s.catalog; kept = s.kept; parameters = s.parameters; is_closed = true }

@@ -2,7 +2,7 @@
 --
 -- It is refused with the first static refusal in the order of their codes: a number literal beyond 64 bits (E04), a
 -- missing current graph of a query (E06), and then those of scopes (E08, E09, E15, E16, E23). Otherwise it runs.
-use Rattle.std.specs.Prelude.{ℕ, List, [], Option, Some, None, option_map, Result, Ok, Err, codes}
+use Rattle.std.specs.Prelude.{ℕ, List, [], Option, Some, None, option_map, Result, Ok, Err, codes, if◌then◌else◌}
 use Rattle.std.specs.Option.{option_or}
 use Rattle.gql_values3.specs.Datum.{Datum}
 use Rattle.gql_values3.specs.PropertyGraph.{PropertyGraph}
@@ -10,6 +10,8 @@ use Rattle.gql_ast.specs.Meaning.{tree_of}
 use Rattle.gql_ast.specs.Evaluation.{value_of}
 use Rattle.gql_ast.specs.NumberLiterals.{wide_number}
 use Rattle.gql_ast.specs.StaticRefusals.{static_refusal}
+use Rattle.gql_values3.specs.declared.table.Table.{Table}
+use Rattle.gql_ast.specs.declared.clause.Query.{Query}
 use Rattle.gql_ast.specs.declared.fault.DataFault.{DataFault}
 use Rattle.gql_ast.specs.declared.refusal.Outcome.{Outcome}
 use Rattle.gql_ast.specs.declared.refusal.Outcome.TheVariants as outcome
@@ -19,8 +21,8 @@ use Rattle.gql_ast.specs.declared.statement.SessionStatement.{SessionStatement}
 use Rattle.gql_ast.specs.declared.statement.SessionStatement.TheVariants as session
 use Rattle.gql_ast.specs.declared.statement.Statement.{Statement}
 use Rattle.gql_ast.specs.declared.statement.Statement.TheVariants as statement
-use Rattle.gql_linear.specs.QueryRun.{Working, shown_table, query_run}
-use Rattle.gql_session.specs.SessionState.{SessionState, with_parameters, closed, set_parameter, current_graph, graph_or_empty}
+use Rattle.gql_linear.specs.QueryRun.{Working, answer_table, changes_data, query_run}
+use Rattle.gql_session.specs.SessionState.{SessionState, with_parameters, with_graph, closed, set_parameter, current_graph, graph_or_empty}
 
 pub record StatementEnd : Type 0 where
   pub outcome : Outcome
@@ -33,10 +35,20 @@ refused_with before r = record { outcome = outcome.Refused r; after = before }
 abbrev pub done_with : SessionState → StatementEnd
 done_with after = record { outcome = outcome.Done; after = after }
 
--- a query: its table, or its first fault
-abbrev pub query_end : SessionState → Result Working DataFault → StatementEnd
-query_end before (Ok t) = record { outcome = outcome.Table (shown_table t); after = before }
-query_end before (Err f) = refused_with before (refusal.Fault f)
+-- a query's table, or ok where it has none
+abbrev pub outcome_of_table : Option Table → Outcome
+outcome_of_table None = outcome.Done
+outcome_of_table (Some t) = outcome.Table t
+
+-- what a query is answered with: its table, ok, or its first refusal
+abbrev pub query_outcome : Query → Result Working Refusal → Outcome
+query_outcome q (Ok t) = outcome_of_table (answer_table q t)
+query_outcome q (Err r) = outcome.Refused r
+
+-- the graph behind an answered query that changes data is the current one from then on
+abbrev pub query_after : Query → SessionState → Result Working Refusal → SessionState
+query_after q before (Ok t) = if changes_data q then with_graph before t.graph else before
+query_after q before (Err r) = before
 
 -- SESSION SET VALUE: the parameter has the value, or the expression's fault is the answer
 abbrev pub value_end : SessionState → List ℕ → Result Datum DataFault → StatementEnd
@@ -47,6 +59,12 @@ value_end before p (Err f) = refused_with before (refusal.Fault f)
 abbrev pub acting_graph : SessionState → PropertyGraph
 acting_graph before = graph_or_empty (current_graph before)
 
+abbrev pub query_end : SessionState → Query → StatementEnd
+query_end before q = record {
+  outcome = query_outcome q (query_run (acting_graph before) before.parameters q);
+  after = query_after q before (query_run (acting_graph before) before.parameters q);
+}
+
 -- SESSION RESET forgets all parameters, SESSION CLOSE ends the session; SESSION SET GRAPH is no statement yet
 abbrev pub session_end : SessionState → SessionStatement → StatementEnd
 session_end before (session.SetValue p e) = value_end before p (value_of (acting_graph before) before.parameters [] (tree_of e))
@@ -56,7 +74,7 @@ session_end before (session.SetGraph x) = refused_with before refusal.Syntax
 
 -- the statement acts; those about transactions and catalogs are no statements yet
 abbrev pub acted : SessionState → Statement → StatementEnd
-acted before (statement.Query q) = query_end before (query_run (acting_graph before) before.parameters q)
+acted before (statement.Query q) = query_end before q
 acted before (statement.Session s) = session_end before s
 acted before (statement.Transaction t) = refused_with before refusal.Syntax
 acted before (statement.Catalog c) = refused_with before refusal.Syntax

@@ -1,5 +1,6 @@
 //! The answer to one piece of a session.
 ghost use Rattle.std.specs.Prelude.{◌≡◌, ◌<◌, ◌^◌, false, length, option_to_list, IfOk, OnOk};
+ghost use Rattle.gql_graph.specs.Catalog.{CatalogData};
 ghost use Rattle.gql_session.specs.SessionRun.{outcomes_of, state_behind, Step};
 ghost use Rattle.gql_session.specs.Meaning.{state_of, reading_of};
 
@@ -7,34 +8,31 @@ use crate::reading::{Read, read_piece};
 use crate::state::Session;
 use crate::statement::run_statement;
 use gql_ast::{Outcome, Refusal};
-use gql_graph::Catalog;
 use gql_values3::OutOfMemory;
 use std::alloc::Global;
 
 /// The outcome of a piece, or none where it is blank; the session goes one step.
 pub fn answer_piece(
     alloc: Global,
-    catalog: &Catalog,
     session: &mut Session,
     piece: &[u8],
 ) -> Result<Option<Outcome>, OutOfMemory>
     requires short { length piece.now < 2 ^ 32 }
     requires goes_on { session.old.is_closed ≡ false }
-    ensures { IfOk result (λ made. Step (state_of catalog.now session.old) piece.now (option_to_list made) (state_of catalog.now session.new)) }
+    ensures { (kept : CatalogData) → IfOk result (λ made. Step (state_of kept session.old) piece.now (option_to_list made) (state_of kept session.new)) }
 {
     let read = read_piece(alloc, piece)?;
-    answer_read(alloc, catalog, session, &read)
+    answer_read(alloc, session, &read)
 }
 
 /// The same of a piece that reads so.
 fn answer_read(
     alloc: Global,
-    catalog: &Catalog,
     session: &mut Session,
     read: &Read,
 ) -> Result<Option<Outcome>, OutOfMemory>
-    ensures outcomes { IfOk result (λ made. option_to_list made ≡ outcomes_of (state_of catalog.now session.old) (reading_of read.now)) }
-    ensures state { OnOk result (state_of catalog.now session.new ≡ state_behind (state_of catalog.now session.old) (reading_of read.now)) }
+    ensures outcomes { (kept : CatalogData) → IfOk result (λ made. option_to_list made ≡ outcomes_of (state_of kept session.old) (reading_of read.now)) }
+    ensures state { (kept : CatalogData) → OnOk result (state_of kept session.new ≡ state_behind (state_of kept session.old) (reading_of read.now)) }
 {
     match read {
         Read::Blank => Ok(None),
@@ -42,7 +40,7 @@ fn answer_read(
         Read::Deep => Ok(Some(Outcome::Refused(Refusal::Deep))),
         Read::Unread => Ok(Some(Outcome::Refused(Refusal::Syntax))),
         Read::Statement(statement) => {
-            let outcome = run_statement(alloc, catalog, session, statement)?;
+            let outcome = run_statement(alloc, session, statement)?;
             Ok(Some(outcome))
         }
     }

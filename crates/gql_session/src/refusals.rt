@@ -1,9 +1,8 @@
 //! The first refusal of a statement that stands before it runs.
 ghost use Rattle.std.specs.Prelude.{◌≡◌, IfOk, codes};
-ghost use Rattle.gql_graph.specs.Catalog.{graph_of};
+ghost use Rattle.gql_graph.specs.Catalog.{CatalogData, graph_of};
 ghost use Rattle.gql_ast.specs.StaticRefusals.{static_refusal};
 ghost use Rattle.gql_session.specs.Meaning.{state_of};
-ghost use Rattle.gql_session.specs.declared.state.Session.{Session as SessionData};
 ghost use Rattle.gql_session.specs.StatementRun.{missing_graph, graph_refusal, first_refusal};
 
 use crate::current::current_graph;
@@ -19,16 +18,15 @@ use std::alloc::Global;
 /// scopes refuse. None where the statement may run.
 pub fn first_refusal(
     alloc: Global,
-    catalog: &Catalog,
     session: &Session,
     statement: &Statement,
 ) -> Result<Option<Refusal>, OutOfMemory>
-    ensures { IfOk result (λ found. found ≡ first_refusal (state_of catalog.now session.now) statement.now) }
+    ensures { (kept : CatalogData) → IfOk result (λ found. found ≡ first_refusal (state_of kept session.now) statement.now) }
 {
     if let Some(digits) = wide_number(statement) {
         return Ok(Some(Refusal::Number(digits.try_copy(alloc)?)));
     }
-    if let Some(refusal) = graph_refusal(alloc, catalog, statement)? {
+    if let Some(refusal) = graph_refusal(alloc, session, statement)? {
         return Ok(Some(refusal));
     }
     scope_refusal(alloc, statement, &session.parameters)
@@ -37,13 +35,13 @@ pub fn first_refusal(
 /// A query needs the current graph.
 fn graph_refusal(
     alloc: Global,
-    catalog: &Catalog,
+    session: &Session,
     statement: &Statement,
 ) -> Result<Option<Refusal>, OutOfMemory>
-    ensures { (session : SessionData) → IfOk result (λ found. found ≡ graph_refusal (state_of catalog.now session) statement.now) }
+    ensures { (kept : CatalogData) → IfOk result (λ found. found ≡ graph_refusal (state_of kept session.now) statement.now) }
 {
     match statement {
-        Statement::Query(_) => missing_graph(alloc, catalog),
+        Statement::Query(_) => missing_graph(alloc, &session.catalog),
         _ => Ok(None),
     }
 }

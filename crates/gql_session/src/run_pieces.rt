@@ -1,6 +1,7 @@
 //! The pieces of a text, one after another.
 ghost use Rattle.std.specs.Prelude.{◌≡◌, ℕ, ◌<◌, ◌≤◌, ◌^◌, false, List, [], ◌∷◌, length, Some};
 ghost use Rattle.gql_ports.specs.Causes.{Rose};
+ghost use Rattle.gql_graph.specs.Catalog.{CatalogData};
 ghost use Rattle.gql_session.specs.Outcomes.{is_refusal};
 ghost use Rattle.gql_session.specs.SessionState.{SessionState, starting};
 ghost use Rattle.gql_session.specs.SessionRun.{Step};
@@ -40,17 +41,18 @@ impl From<OutOfMemory> for RunFault {
 /// SESSION CLOSE that was answered isn't looked at. Ok tells whether some statement was refused.
 pub fn run_pieces<W: Sink>(
     alloc: Global,
-    catalog: &Catalog,
+    catalog: Catalog,
     text: &[u8],
     sink: &mut W,
 ) -> Result<bool, RunFault>
     requires { length text.now ≤ most_bytes }
-    ensures told { (before : List ℕ) → W.written sink.old ≡ Some before → TextEnding (starting catalog.now) text.now before result (W.written sink.new) }
+    ensures told { (before : List ℕ) → W.written sink.old ≡ Some before → TextEnding (starting catalog) text.now before result (W.written sink.new) }
     ensures later { W.faults sink.old ≤ W.faults sink.new }
     ensures failed { result ≡ Err RunFault.Sink → Rose (W.faults sink.old) (W.faults sink.new) }
 {
     let all = pieces(alloc, text)?;
     let mut session = Session {
+        catalog,
         parameters: Params::new(alloc),
         is_closed: false,
     };
@@ -59,13 +61,7 @@ pub fn run_pieces<W: Sink>(
         if session.is_closed {
             return Ok(refused);
         }
-        let piece_refused = match run_piece(
-            alloc,
-            catalog,
-            &mut session,
-            piece.bytes.as_slice(),
-            sink,
-        ) {
+        let piece_refused = match run_piece(alloc, &mut session, piece.bytes.as_slice(), sink) {
             Ok(piece_refused) => piece_refused,
             Err(fault) => return Err(fault),
         };
@@ -77,18 +73,17 @@ pub fn run_pieces<W: Sink>(
 /// Runs one piece, writes its outcome's text, and tells whether it is a refusal.
 fn run_piece<W: Sink>(
     alloc: Global,
-    catalog: &Catalog,
     session: &mut Session,
     piece: &[u8],
     sink: &mut W,
 ) -> Result<bool, RunFault>
     requires short { length piece.now < 2 ^ 32 }
     requires goes_on { session.old.is_closed ≡ false }
-    ensures told { (before : List ℕ) → W.written sink.old ≡ Some before → PieceEnding (state_of catalog.now session.old) piece.now before result (state_of catalog.now session.new) (W.written sink.new) }
+    ensures told { (kept : CatalogData) (before : List ℕ) → W.written sink.old ≡ Some before → PieceEnding (state_of kept session.old) piece.now before result (state_of kept session.new) (W.written sink.new) }
     ensures later { W.faults sink.old ≤ W.faults sink.new }
     ensures failed { result ≡ Err RunFault.Sink → Rose (W.faults sink.old) (W.faults sink.new) }
 {
-    match answer_piece(alloc, catalog, session, piece)? {
+    match answer_piece(alloc, session, piece)? {
         None => Ok(false),
         Some(outcome) => write_outcome(alloc, &outcome, sink),
     }

@@ -37,7 +37,7 @@ pub fn run_session<S: Source, W: Sink, K: Keeper>(
     ensures store_fault { result ≡ Status.StoreFault → Rose (K.faults keeper.old) (K.faults keeper.new) }
 {
     match load(alloc, keeper) {
-        Ok(catalog) => run_loaded(alloc, name, &catalog, source, sink),
+        Ok(catalog) => run_loaded(alloc, name, catalog, source, sink),
         Err(LoadFault::Failed) => Status::StoreFault,
         Err(LoadFault::BadRecord(index)) => Status::BadStore(index),
         Err(LoadFault::OutOfMemory) => Status::NoMemory,
@@ -48,12 +48,12 @@ pub fn run_session<S: Source, W: Sink, K: Keeper>(
 fn run_loaded<S: Source, W: Sink>(
     alloc: Global,
     name: &str,
-    catalog: &Catalog,
+    catalog: Catalog,
     source: &mut S,
     sink: &mut W,
 ) -> Status
     ensures ends { (content : Content) (before : List ℕ) → S.told source.old ≡ Some content → content.name ≡ name.now → W.written sink.old ≡ Some before
-        → LoadedEndsAs (starting catalog.now) content.left before result (W.written sink.new) }
+        → LoadedEndsAs (starting catalog) content.left before result (W.written sink.new) }
     ensures loaded { is_before_reading result ≡ false }
     ensures source_fault { result ≡ Status.SourceFault → Rose (S.faults source.old) (S.faults source.new) }
     ensures sink_fault { result ≡ Status.SinkFault → Rose (W.faults sink.old) (W.faults sink.new) }

@@ -1,7 +1,7 @@
 //! Statements about the session.
 ghost use Rattle.std.specs.Prelude.{◌≡◌, [], IfOk, OnOk, codes};
 ghost use Rattle.gql_values3.specs.Meaning.{datum_of};
-ghost use Rattle.gql_graph.specs.Catalog.{graph_of};
+ghost use Rattle.gql_graph.specs.Catalog.{CatalogData, graph_of};
 ghost use Rattle.gql_ast.specs.Meaning.{tree_of};
 ghost use Rattle.gql_ast.specs.Evaluation.{value_of};
 ghost use Rattle.gql_eval.specs.Gives.{Gives};
@@ -22,15 +22,14 @@ use std::mem;
 /// What a statement about the session does. SESSION SET GRAPH comes at a later stage.
 pub fn act_on_session(
     alloc: Global,
-    catalog: &Catalog,
     session: &mut Session,
     statement: &SessionStatement,
 ) -> Result<Outcome, OutOfMemory>
-    ensures outcome { IfOk result (λ made. made ≡ (session_end (state_of catalog.now session.old) statement.now).outcome) }
-    ensures after { OnOk result (state_of catalog.now session.new ≡ (session_end (state_of catalog.now session.old) statement.now).after) }
+    ensures outcome { (kept : CatalogData) → IfOk result (λ made. made ≡ (session_end (state_of kept session.old) statement.now).outcome) }
+    ensures after { (kept : CatalogData) → OnOk result (state_of kept session.new ≡ (session_end (state_of kept session.old) statement.now).after) }
 {
     match statement {
-        SessionStatement::SetValue(name, expr) => set_value(alloc, catalog, session, name, expr),
+        SessionStatement::SetValue(name, expr) => set_value(alloc, session, name, expr),
         SessionStatement::Reset => {
             session.parameters = Params::new(alloc);
             Ok(Outcome::Done)
@@ -46,15 +45,14 @@ pub fn act_on_session(
 /// The parameter has the value of the expression, or the expression's fault is the answer.
 fn set_value(
     alloc: Global,
-    catalog: &Catalog,
     session: &mut Session,
     name: &Text,
     expr: &Expr,
 ) -> Result<Outcome, OutOfMemory>
-    ensures outcome { IfOk result (λ made. made ≡ (session_end (state_of catalog.now session.old) (SessionStatement.SetValue name.now expr.now)).outcome) }
-    ensures after { OnOk result (state_of catalog.now session.new ≡ (session_end (state_of catalog.now session.old) (SessionStatement.SetValue name.now expr.now)).after) }
+    ensures outcome { (kept : CatalogData) → IfOk result (λ made. made ≡ (session_end (state_of kept session.old) (SessionStatement.SetValue name.now expr.now)).outcome) }
+    ensures after { (kept : CatalogData) → OnOk result (state_of kept session.new ≡ (session_end (state_of kept session.old) (SessionStatement.SetValue name.now expr.now)).after) }
 {
-    match value_without_columns(alloc, catalog, &session.parameters, expr) {
+    match value_without_columns(alloc, &session.catalog, &session.parameters, expr) {
         Ok(found) => {
             set_parameter(alloc, session, name, found)?;
             Ok(Outcome::Done)
@@ -89,6 +87,7 @@ fn set_parameter(
 ) -> Result<(), OutOfMemory>
     ensures parameters { OnOk result (session.new.parameters ≡ set_parameter session.old.parameters name.now (datum_of value)) }
     ensures closed { session.new.is_closed ≡ session.old.is_closed }
+    ensures catalog { session.new.catalog ≡ session.old.catalog }
 {
     let before = mem::replace(&mut session.parameters, Params::new(alloc));
     session.parameters = with_parameter(alloc, before, name, value)?;

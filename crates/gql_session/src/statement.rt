@@ -1,5 +1,6 @@
 //! One statement of a session: it is refused, or it acts.
 ghost use Rattle.std.specs.Prelude.{◌≡◌, IfOk, OnOk};
+ghost use Rattle.gql_graph.specs.Catalog.{CatalogData};
 ghost use Rattle.gql_session.specs.Meaning.{state_of};
 ghost use Rattle.gql_session.specs.StatementRun.{acted, statement_run};
 
@@ -8,39 +9,32 @@ use crate::refusals::first_refusal;
 use crate::session_statement::act_on_session;
 use crate::state::Session;
 use gql_ast::{Outcome, Refusal, Statement};
-use gql_graph::Catalog;
 use gql_values3::OutOfMemory;
 use std::alloc::Global;
 
 /// The outcome of the statement; the session is then as it says. A statement that is refused changes nothing.
 pub fn run_statement(
     alloc: Global,
-    catalog: &Catalog,
     session: &mut Session,
     statement: &Statement,
 ) -> Result<Outcome, OutOfMemory>
-    ensures outcome { IfOk result (λ made. made ≡ (statement_run (state_of catalog.now session.old) statement.now).outcome) }
-    ensures after { OnOk result (state_of catalog.now session.new ≡ (statement_run (state_of catalog.now session.old) statement.now).after) }
+    ensures outcome { (kept : CatalogData) → IfOk result (λ made. made ≡ (statement_run (state_of kept session.old) statement.now).outcome) }
+    ensures after { (kept : CatalogData) → OnOk result (state_of kept session.new ≡ (statement_run (state_of kept session.old) statement.now).after) }
 {
-    match first_refusal(alloc, catalog, session, statement)? {
+    match first_refusal(alloc, session, statement)? {
         Some(refusal) => Ok(Outcome::Refused(refusal)),
-        None => act(alloc, catalog, session, statement),
+        None => act(alloc, session, statement),
     }
 }
 
 /// What a statement does that nothing refuses before. Statements about transactions and catalogs come at a later stage.
-fn act(
-    alloc: Global,
-    catalog: &Catalog,
-    session: &mut Session,
-    statement: &Statement,
-) -> Result<Outcome, OutOfMemory>
-    ensures outcome { IfOk result (λ made. made ≡ (acted (state_of catalog.now session.old) statement.now).outcome) }
-    ensures after { OnOk result (state_of catalog.now session.new ≡ (acted (state_of catalog.now session.old) statement.now).after) }
+fn act(alloc: Global, session: &mut Session, statement: &Statement) -> Result<Outcome, OutOfMemory>
+    ensures outcome { (kept : CatalogData) → IfOk result (λ made. made ≡ (acted (state_of kept session.old) statement.now).outcome) }
+    ensures after { (kept : CatalogData) → OnOk result (state_of kept session.new ≡ (acted (state_of kept session.old) statement.now).after) }
 {
     match statement {
-        Statement::Query(query) => answer_query(alloc, catalog, &session.parameters, query),
-        Statement::Session(statement) => act_on_session(alloc, catalog, session, statement),
+        Statement::Query(query) => answer_query(alloc, session, query),
+        Statement::Session(statement) => act_on_session(alloc, session, statement),
         Statement::Transaction(_) | Statement::Catalog(_) => Ok(Outcome::Refused(Refusal::Syntax)),
     }
 }

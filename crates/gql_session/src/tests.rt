@@ -1,5 +1,7 @@
 ghost use Rattle.std.specs.Prelude.{◌<◌};
 
+mod changes;
+
 use crate::status::code;
 use crate::top_call::run;
 use gql_ports::{MemKeeper, MemSink, MemSource, Record, Records};
@@ -235,7 +237,7 @@ const READING: [Row<'static>; 10] = [
     ("no space behind RETURN", "MATCH (x:A) RETURNx;", 1, SYNTAX),
     ("a digit first", "MATCH (1x:A) RETURN 1x;", 1, SYNTAX),
     ("something behind", "MATCH (x:A) RETURN x x;", 1, SYNTAX),
-    ("a form of a later stage", "INSERT (:A);", 1, SYNTAX),
+    ("a form of a later stage", "DROP GRAPH home;", 1, SYNTAX),
     (
         "a string that stays open",
         "RETURN 'a;RETURN 1;",

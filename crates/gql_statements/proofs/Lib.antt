@@ -1,11 +1,17 @@
 pub mod PartLaws
+pub mod ManyLaws
 pub mod ListLaws
 pub mod ValueLaws
 pub mod ClauseLaws
 pub mod PageLaws
 pub mod ReturnLaws
 pub mod MatchLaws
+pub mod FillLaws
+pub mod InsertLaws
+pub mod ChangeLaws
+pub mod FirstWords
 pub mod QueryLaws
 pub mod StatementLaws
 pub mod ListLoops
+pub mod ManyLoops
 pub mod QueryLoops

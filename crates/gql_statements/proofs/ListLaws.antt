@@ -3,7 +3,7 @@ use Rattle.std.proofs.Common.{◌≡◌, ◌<◌, ◌≤◌, Bool, true, false, 
 use Rattle.gql_lexer.specs.declared.lexeme.Lexeme.{Lexeme}
 use Rattle.gql_lexer.specs.declared.lexeme.Lexeme.TheVariants as lex
 use Rattle.gql_front.specs.SymbolPlaces.{comma}
-use Rattle.gql_front.specs.Reading.{◌>>=◌, Reader, is_sign, op_at, step, with_step, many, sequence}
+use Rattle.gql_front.specs.Reading.{◌>>=◌, Reader, is_sign, op_at, step, many, sequence}
 use Rattle.gql_front.proofs.Found.{Sound, StepIs, step_sound, no_operator, one_step}
 use Rattle.gql_front.proofs.Chains.{Many, sequence_read}
 use Rattle.gql_front.proofs.LexemeTests.{cond_some_is}
@@ -11,16 +11,7 @@ use Rattle.gql_exprs.specs.Readers.{comma_op}
 use Rattle.gql_statements.specs.Parts.{Passes, AreOthers, IsListOf}
 use Rattle.gql_statements.specs.PartReaders.{taken, listed}
 use Rattle.gql_statements.proofs.PartLaws.{Stops, sign_apart, passes_stops}
-
-pub many_none : {C : Type 0} (step : Reader C) (b : ℕ) (s : List Lexeme) → step s ≡ None → many step b s ≡ ([], s)
-unfolding many
-many_none step zero s e = refl
-many_none step (suc b) s e = rw e refl
-
-pub many_next : {C : Type 0} (step : Reader C) (b : ℕ) (ts : List Lexeme) (x : C) (m : List Lexeme) (xs : List C) (s : List Lexeme) → step ts ≡ Some (x, m)
-    → many step b m ≡ (xs, s) → many step (suc b) ts ≡ (x ∷ xs, s)
-unfolding many
-many_next {C} step b ts x m xs s e more = ap (λ o. with_step ts o (many step b)) e ∙ ap (λ (z : List C × List Lexeme). (x ∷ z.0, z.1)) more
+use Rattle.gql_statements.proofs.ManyLaws.{many_none, many_next}
 
 no_comma : (ts : List Lexeme) → Stops (is_sign comma) ts → op_at comma_op ts ≡ None
 no_comma [] stop = refl

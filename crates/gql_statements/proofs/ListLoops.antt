@@ -8,7 +8,7 @@ use Rattle.gql_front.proofs.Found.{no_operator, no_operand, one_step}
 use Rattle.gql_front.proofs.Loops.{with_front}
 use Rattle.gql_exprs.specs.Readers.{comma_op}
 use Rattle.gql_statements.specs.PartReaders.{taken, listed}
-use Rattle.gql_statements.proofs.ListLaws.{many_none, many_next}
+use Rattle.gql_statements.proofs.ManyLaws.{many_none, many_next}
 
 -- a comma as a test and as an operator
 abbrev comma_if : Bool → Option (Unit {0})

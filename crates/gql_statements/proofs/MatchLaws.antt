@@ -16,7 +16,7 @@ use Rattle.gql_ast.specs.declared.pattern.PathExpr.TheVariants as path
 use Rattle.gql_front.specs.SymbolPlaces.{opening, closing, opening_brace, closing_brace, colon, comma}
 use Rattle.gql_front.specs.WordPlaces.{IS, WHERE}
 use Rattle.gql_front.specs.Tables.{Begins}
-use Rattle.gql_front.specs.Reading.{◌>>=◌, is_sign, is_word, name_in, any_name_in, before, after, op_at, maybe, opted}
+use Rattle.gql_front.specs.Reading.{is_sign, is_word, name_in, any_name_in, after, op_at, maybe, opted}
 use Rattle.gql_front.proofs.Found.{Sound, is_there}
 use Rattle.gql_front.proofs.TableLemmas.{begins_read, read_begins, begins_shorter}
 use Rattle.gql_exprs.proofs.ExprLists.{goes_or}
@@ -27,7 +27,7 @@ use Rattle.gql_statements.specs.PartWords.{is_colon}
 use Rattle.gql_statements.specs.MatchGrammar.{IsWhere, IsMapItem, AreMapItems, IsCondition, AsksLabels, IsFiller, IsPathExpr, IsPattern}
 use Rattle.gql_statements.specs.PartReaders.{read_value, read_labels, listed}
 use Rattle.gql_statements.specs.MatchReaders.{where_of, map_item_of, map_items_of, empty_or_items, map_of, map_or_where, condition_of, variable_of, filler_labels_of, filler_of, node_of, alone, match_of}
-use Rattle.gql_statements.proofs.PartLaws.{Stops, Apart, bind_then, finish, passes_after, after_passes, passes_shorter, stops_after, word_apart, sign_apart, passes_stops, begins_stops, optional_stops, optional_shorter, led_sound, led_exact}
+use Rattle.gql_statements.proofs.PartLaws.{Stops, Apart, bind_then, finish, passes_after, after_passes, passes_shorter, stops_after, stops_op, word_apart, sign_apart, passes_stops, begins_stops, optional_stops, optional_shorter, led_sound, led_exact}
 use Rattle.gql_statements.proofs.ListLaws.{listed_sound, listed_exact, list_shorter}
 use Rattle.gql_statements.proofs.ValueLaws.{value_sound, value_exact, value_shorter, labels_sound, labels_exact, labels_shorter}
 
@@ -64,14 +64,14 @@ pub map_item_shorter : (i : MapItem) (ts r : List Lexeme) → IsMapItem i ts r �
 map_item_shorter i ts r h = omega (arith, begins_shorter any_name_in i.name ts h.0 h.1, passes_shorter (is_sign colon) h.0 h.2 h.3, value_shorter i.value h.2 r h.4)
 
 -- what stands behind the opening brace
-abbrev MapRest : List MapItem → List Lexeme → List Lexeme → Type 0
+abbrev pub MapRest : List MapItem → List Lexeme → List Lexeme → Type 0
 MapRest is ts r = (b : List Lexeme) × AreMapItems is ts b × Passes (is_sign closing_brace) b r
 
 as_items : (is : List MapItem) (ts r : List Lexeme) → IsListOf IsMapItem is ts r → AreMapItems is ts r
 as_items [] ts r h = absurd h
 as_items (i ∷ is) ts r h = h
 
-map_sound : Sound MapRest map_of
+pub map_sound : Sound MapRest map_of
 unfolding map_of map_items_of
 map_sound ts is r e = go (after (is_sign closing_brace) ts) refl e
   where
@@ -91,7 +91,7 @@ name_no_sign place (lex.Chars y) x e i = cc
 name_no_sign place (lex.Number y) x e i = cc
 name_no_sign place (lex.Param y) x e i = cc
 
-map_exact : (is : List MapItem) (ts s : List Lexeme) → MapRest is ts s → map_of ts ≡ Some (is, s)
+pub map_exact : (is : List MapItem) (ts s : List Lexeme) → MapRest is ts s → map_of ts ≡ Some (is, s)
 unfolding map_of map_items_of
 map_exact [] ts s h =
     ap (empty_or_items ts) (passes_after (is_sign closing_brace) ts s (subst (λ z. Passes (is_sign closing_brace) z s) (sym h.1) h.2))
@@ -103,7 +103,7 @@ map_exact (i ∷ is) ts s h =
     (passes_stops (is_sign closing_brace) (is_sign comma) (sign_apart closing_brace (is_sign comma) refl) h.0 s h.2) in
     ap (empty_or_items ts) (stops_after (is_sign closing_brace) ts begins) ∙ rw (read, passes_after (is_sign closing_brace) h.0 s h.2) refl
 
-map_shorter : (is : List MapItem) (ts r : List Lexeme) → MapRest is ts r → length r < length ts
+pub map_shorter : (is : List MapItem) (ts r : List Lexeme) → MapRest is ts r → length r < length ts
 map_shorter [] ts r h = omega (arith, ap length h.1, passes_shorter (is_sign closing_brace) h.0 r h.2)
 map_shorter (i ∷ is) ts r h = omega (arith, list_shorter map_item_of IsMapItem map_item_shorter (i ∷ is) ts h.0 h.1, passes_shorter (is_sign closing_brace) h.0 r h.2)
 
@@ -150,10 +150,10 @@ condition_shorter (Some (condition.Where e)) ts r h = omega (arith, passes_short
 
 -- [Name]
 
-abbrev is_name : Lexeme → Bool
+abbrev pub is_name : Lexeme → Bool
 is_name t = is_there (name_in t)
 
-variable_sound : Sound (IsOptional (Begins name_in)) variable_of
+pub variable_sound : Sound (IsOptional (Begins name_in)) variable_of
 unfolding variable_of maybe
 variable_sound ts x r e = go (op_at name_in ts) refl e
   where
@@ -161,22 +161,14 @@ variable_sound ts x r e = go (op_at name_in ts) refl e
     go None p k = finish (λ x r. IsOptional (Begins name_in) x ts r) None ts x r k refl
     go (Some y) p k = finish (λ x r. IsOptional (Begins name_in) x ts r) (Some y.0) y.1 x r k (read_begins name_in ts y.0 y.1 p)
 
-no_name : (ts : List Lexeme) → Stops is_name ts → op_at name_in ts ≡ None
-no_name [] stop = refl
-no_name (t ∷ ts) stop = go (name_in t) refl
-  where
-    go : (o : Option (List ℕ)) → name_in t ≡ o → (o >>= before ts) ≡ None
-    go None e = refl
-    go (Some x) e = absurd (stop (ap is_there e))
-
-variable_exact : (x : Option (List ℕ)) (ts s : List Lexeme) → IsOptional (Begins name_in) x ts s → Stops is_name s → variable_of ts ≡ Some (x, s)
+pub variable_exact : (x : Option (List ℕ)) (ts s : List Lexeme) → IsOptional (Begins name_in) x ts s → Stops is_name s → variable_of ts ≡ Some (x, s)
 unfolding variable_of maybe
-variable_exact None ts s h stop = subst (λ z. Some (opted z (op_at name_in z)) ≡ Some (None, s)) (sym h) (ap (λ o. Some (opted s o)) (no_name s stop))
+variable_exact None ts s h stop = subst (λ z. Some (opted z (op_at name_in z)) ≡ Some (None, s)) (sym h) (ap (λ o. Some (opted s o)) (stops_op name_in s stop))
 variable_exact (Some x) ts s h stop = ap (λ o. Some (opted ts o)) (begins_read name_in x ts s h)
 
 -- [(":" or IS) LabelExpr]
 
-colon_apart : (g : Lexeme → Bool) → g (lex.Sign colon) ≡ false → ((x : List ℕ) → g (lex.Word IS x) ≡ false) → Apart is_colon g
+pub colon_apart : (g : Lexeme → Bool) → g (lex.Sign colon) ≡ false → ((x : List ℕ) → g (lex.Word IS x) ≡ false) → Apart is_colon g
 colon_apart g sign word t p h = go (is_sign colon t) refl p
   where
     go : (b : Bool) → is_sign colon t ≡ b → (b || is_word IS t) ≡ true → ⊥

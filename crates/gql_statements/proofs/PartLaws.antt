@@ -4,8 +4,8 @@ use Rattle.std.proofs.Common.{◌≡◌, ◌<◌, ◌≤◌, inl, inr, Bool, tru
 use Rattle.gql_lexer.specs.declared.lexeme.Lexeme.{Lexeme}
 use Rattle.gql_lexer.specs.declared.lexeme.Lexeme.TheVariants as lex
 use Rattle.gql_front.specs.Tables.{Begins}
-use Rattle.gql_front.specs.Reading.{◌>>=◌, Reader, is_sign, is_word, after}
-use Rattle.gql_front.proofs.Found.{Goes, Goes-left, Goes-right, Sound, some_is}
+use Rattle.gql_front.specs.Reading.{◌>>=◌, Reader, is_sign, is_word, before, after, op_at}
+use Rattle.gql_front.proofs.Found.{Goes, Goes-left, Goes-right, Sound, is_there, some_is}
 use Rattle.gql_front.proofs.LexemeTests.{sign_is, word_is, after_is}
 use Rattle.gql_statements.specs.Parts.{Passes, MayPass, IsOptional}
 use Rattle.gql_statements.specs.PartReaders.{led_or, led, behind_or, past}
@@ -23,6 +23,14 @@ left_stops g h s stop i = stop (Goes-left g h s i)
 
 pub right_stops : (g h : Lexeme → Bool) (s : List Lexeme) → Stops (λ t. g t || h t) s → Stops h s
 right_stops g h s stop i = stop (Goes-right g h s i)
+
+-- no lexeme
+abbrev pub nothing : Lexeme → Bool
+nothing t = false
+
+pub nothing_stops : (s : List Lexeme) → Stops nothing s
+nothing_stops [] i = i
+nothing_stops (t ∷ ts) i = let j : false ≡ true = i in cc
 
 -- Steps of a reader
 
@@ -55,6 +63,14 @@ stops_after test (t ∷ ts) stop = go (test t) refl
     go : (b : Bool) → test t ≡ b → cond b (Some ts) None ≡ None
     go true e = absurd (stop e)
     go false e = refl
+
+pub stops_op : {A : Type 0} (says : Lexeme → Option A) (ts : List Lexeme) → Stops (λ t. is_there (says t)) ts → op_at says ts ≡ None
+stops_op says [] stop = refl
+stops_op {A} says (t ∷ ts) stop = go (says t) refl
+  where
+    go : (o : Option A) → says t ≡ o → (o >>= before ts) ≡ None
+    go None e = refl
+    go (Some x) e = absurd (stop (ap is_there e))
 
 pub word_apart : (place : ℕ) (g : Lexeme → Bool) → ((x : List ℕ) → g (lex.Word place x) ≡ false) → Apart (is_word place) g
 word_apart place g none t p h = let w = word_is place t p in let q = ap g w.1 in let f = none w.0 in cc

@@ -1,38 +1,9 @@
--- The loops of queries.
-use Rattle.std.proofs.Common.{◌≡◌, ◌<◌, ◌≤◌, Bool, true, false, not, ◌&&◌, ℕ, zero, suc, ◌+◌, List, [], ◌∷◌, ◌++◌, length, drop, get_or, Some, None, refl, sym, ap, ◌∙◌, append_assoc, add-one, drop-cons, arith}
-use Rattle.std.proofs.lemmas.List.{append-nil}
-use Rattle.gql_lexer.specs.declared.lexeme.Lexeme.{Lexeme}
+-- The loop of queries, and the last clause.
+use Rattle.std.proofs.Common.{◌≡◌, ◌<◌, Bool, true, false, not, ◌&&◌, ℕ, suc, ◌+◌, ◌-◌, List, [], ◌∷◌, length, drop, get_or, slice_get, Some, None, refl, sym, ap, ◌∙◌, add-one, drop-cons, arith}
 use Rattle.gql_ast.specs.declared.clause.Clause.{Clause}
-use Rattle.gql_front.specs.Reading.{many}
-use Rattle.gql_front.proofs.Loops.{with_front}
 use Rattle.gql_statements.specs.QueryGrammar.{is_page, no_pages_meet}
-use Rattle.gql_statements.specs.ClauseReaders.{clause_of}
-use Rattle.gql_statements.specs.QueryReaders.{clauses_of}
-use Rattle.gql_statements.proofs.ListLaws.{many_none, many_next}
-
--- what was read so far and what is still read are the clauses
-abbrev pub ClausesSoFar : List Lexeme → List Clause → List Lexeme → Type 0
-ClausesSoFar start clauses rest = (k : ℕ) × (length rest ≤ k) × (with_front clauses (many clause_of k rest) ≡ clauses_of start)
-
-pub clauses_begin : (start : List Lexeme) → ClausesSoFar start [] start
-unfolding clauses_of
-clauses_begin start = (length start, omega arith, refl)
-
-pub clauses_go_on : (start : List Lexeme) (clauses : List Clause) (rest : List Lexeme) (c : Clause) (r : List Lexeme) → ClausesSoFar start clauses rest → clause_of rest ≡ Some (c, r)
-    → length r < length rest → ClausesSoFar start (clauses ++ c ∷ []) r
-clauses_go_on start clauses rest c r (zero, le, so_far) e shorter = absurd (omega arith)
-clauses_go_on start clauses rest c r (suc k, le, so_far) e shorter =
-    let next = many_next clause_of k rest c r (many clause_of k r).0 (many clause_of k r).1 e refl in (
-      k,
-      omega arith,
-      ap (λ (z : List Clause). (z, (many clause_of k r).1)) (append_assoc clauses (c ∷ []) (many clause_of k r).0)
-          ∙ sym (ap (λ (z : List Clause × List Lexeme). with_front clauses z) next) ∙ so_far,
-    )
-
-pub clauses_end : (start : List Lexeme) (clauses : List Clause) (rest : List Lexeme) → ClausesSoFar start clauses rest → clause_of rest ≡ None
-    → ◌≡◌ {A = List Clause × List Lexeme} (clauses, rest) (clauses_of start)
-clauses_end start clauses rest h e =
-    sym (ap (λ (z : List Clause × List Lexeme). with_front clauses z) (many_none clause_of h.0 rest e) ∙ ap (λ (z : List Clause). (z, rest)) (append-nil clauses)) ∙ h.2
+use Rattle.gql_statements.specs.QueryReaders.{is_change, ends_in_change}
+use Rattle.gql_front.proofs.Found.{some_is}
 
 -- no pages meet in a list, where it is known whether a page stands before it
 abbrev pub none_meet : Bool → List Clause → Bool
@@ -51,3 +22,26 @@ pub none_meet-step : (before : Bool) (i : ℕ) (cs : List Clause) (c : Clause) �
     → none_meet before (drop i cs) ≡ (not (before && is_page c) && none_meet (is_page c) (drop (i + 1) cs))
 none_meet-step before i cs c lt is =
     ap (none_meet before) (drop-cons cs i c lt ∙ ap (λ z. z ∷ drop (suc i) cs) (sym is)) ∙ ap (λ k. not (before && is_page c) && none_meet (is_page c) (drop k cs)) (sym (add-one i))
+
+-- the last clause, by its place
+last_at : (c : Clause) (cs : List Clause) → (x : Clause) × (slice_get (c ∷ cs) (length cs) ≡ Some x) × (is_change x ≡ ends_in_change (c ∷ cs))
+last_at c [] = (c, refl, refl)
+last_at c (d ∷ ds) = last_at d ds
+
+at_end : (c : Clause) (cs : List Clause) → slice_get (c ∷ cs) (length (c ∷ cs) - 1) ≡ slice_get (c ∷ cs) (length cs)
+at_end c cs = ap (λ k. slice_get (c ∷ cs) k) (omega arith)
+
+pub last_is : (cs : List Clause) (c : Clause) → slice_get cs (length cs - 1) ≡ Some c → is_change c ≡ ends_in_change cs
+last_is [] c e = absurd cc
+last_is (x ∷ xs) c e =
+    let k = last_at x xs in
+    ap is_change (some_is c k.0 (sym e ∙ at_end x xs ∙ k.1)) ∙ k.2
+
+pub no_last : (cs : List Clause) → slice_get cs (length cs - 1) ≡ None → ends_in_change cs ≡ false
+no_last [] e = refl
+no_last (x ∷ xs) e = let k = last_at x xs in let f = at_end x xs in absurd cc
+
+-- where the last clause is a change, there is one
+pub change_there : (cs : List Clause) → ends_in_change cs ≡ true → 0 < length cs
+change_there [] e = absurd cc
+change_there (c ∷ cs) e = omega arith

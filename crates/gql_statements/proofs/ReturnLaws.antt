@@ -1,5 +1,5 @@
 -- The laws of RETURN.
-use Rattle.std.proofs.Common.{◌≡◌, ◌<◌, ◌≤◌, inl, inr, Bool, true, false, ◌||◌, ℕ, List, [], ◌∷◌, length, Option, Some, None, refl, ap, ◌∙◌, arith}
+use Rattle.std.proofs.Common.{◌≡◌, ◌<◌, ◌≤◌, inl, inr, Bool, true, ◌||◌, ℕ, List, [], ◌∷◌, length, Option, Some, None, refl, ap, ◌∙◌, arith}
 use Rattle.gql_lexer.specs.declared.lexeme.Lexeme.{Lexeme}
 use Rattle.gql_lexer.specs.declared.lexeme.Lexeme.TheVariants as lex
 use Rattle.gql_ast.specs.declared.page.SortItem.{SortItem}
@@ -26,7 +26,7 @@ use Rattle.gql_statements.specs.ReturnGrammar.{IsAlias, IsReturnItem, AreReturnI
 use Rattle.gql_statements.specs.PartReaders.{read_value, listed}
 use Rattle.gql_statements.specs.PageReaders.{order_of, skip_of, limit_of}
 use Rattle.gql_statements.specs.ReturnReaders.{alias_of, return_item_of, return_list_of, all_or_listed, return_items_of, names_of, grouped_of, grouping_of, ordering_of, return_of}
-use Rattle.gql_statements.proofs.PartLaws.{Stops, left_stops, right_stops, Apart, Led, bind_then, finish, passes_after, after_passes, passes_shorter, stops_after, word_apart, sign_apart, passes_stops, optional_stops, optional_shorter, led_sound, led_exact, led_stops}
+use Rattle.gql_statements.proofs.PartLaws.{Stops, nothing, nothing_stops, left_stops, right_stops, Apart, Led, bind_then, finish, passes_after, after_passes, passes_shorter, stops_after, word_apart, sign_apart, passes_stops, optional_stops, optional_shorter, led_sound, led_exact, led_stops}
 use Rattle.gql_statements.proofs.ListLaws.{listed_sound, listed_exact}
 use Rattle.gql_statements.proofs.ValueLaws.{value_sound, value_exact, value_shorter, value_begins}
 use Rattle.gql_statements.proofs.PageLaws.{Ordered, goes_order, order_sound, order_exact, skip_apart, skip_sound, skip_exact, skip_stops, limit_sound, limit_exact, limit_stops}
@@ -139,28 +139,29 @@ items_begin items.All ts r h =
     (passes_stops (is_sign star) (is_word DISTINCT) (sign_apart star (is_word DISTINCT) refl) ts r h, passes_stops (is_sign star) (is_word ALL) (sign_apart star (is_word ALL) refl) ts r h)
 items_begin (items.Listed is) ts r h = let b = list_begins is ts r h in (b.2, b.1)
 
+-- Names between commas
+
+pub names_sound : Sound (IsListOf (Begins name_in)) names_of
+unfolding names_of
+names_sound = listed_sound (op_at name_in) (Begins name_in) (read_begins name_in)
+
+pub names_exact : (xs : List (List ℕ)) (ts s : List Lexeme) → IsListOf (Begins name_in) xs ts s → Stops (is_sign comma) s → names_of ts ≡ Some (xs, s)
+unfolding names_of
+names_exact xs ts s h stop =
+    listed_exact (op_at name_in) (Begins name_in) nothing refl (begins_shorter name_in) (λ x ts s h stop. begins_read name_in x ts s h) xs ts s h (nothing_stops s) stop
+
 -- GROUP BY, behind GROUP
 
 abbrev Grouped : List (List ℕ) → List Lexeme → List Lexeme → Type 0
 Grouped xs ts r = (b : List Lexeme) × Passes (is_word BY) ts b × IsListOf (Begins name_in) xs b r
 
 grouped_sound : Sound Grouped grouped_of
-unfolding grouped_of names_of
-grouped_sound ts xs r e =
-    bind_then (after (is_word BY) ts) _ (xs, r) e (λ a p e. (a, after_passes (is_word BY) ts a p, listed_sound (op_at name_in) (Begins name_in) (read_begins name_in) a xs r e))
-
-abbrev nothing_more : Lexeme → Bool
-nothing_more t = false
+unfolding grouped_of
+grouped_sound ts xs r e = bind_then (after (is_word BY) ts) _ (xs, r) e (λ a p e. (a, after_passes (is_word BY) ts a p, names_sound a xs r e))
 
 grouped_exact : (xs : List (List ℕ)) (ts s : List Lexeme) → Grouped xs ts s → Stops (is_sign comma) s → grouped_of ts ≡ Some (xs, s)
-unfolding grouped_of names_of
-grouped_exact xs ts s h stop =
-    rw (passes_after (is_word BY) ts h.0 h.1)
-    (listed_exact (op_at name_in) (Begins name_in) nothing_more refl (begins_shorter name_in) (λ x ts s h stop. begins_read name_in x ts s h) xs h.0 s h.2 (none s) stop)
-  where
-    none : (s : List Lexeme) → Stops nothing_more s
-    none [] i = i
-    none (t ∷ ts) i = let j : false ≡ true = i in cc
+unfolding grouped_of
+grouped_exact xs ts s h stop = rw (passes_after (is_word BY) ts h.0 h.1) (names_exact xs h.0 s h.2 stop)
 
 grouping_back : (xs : List (List ℕ)) (ts r : List Lexeme) → Led (is_word GROUP) Grouped xs ts r → IsGrouping xs ts r
 grouping_back xs ts r h = (h.0, h.1, h.2.0, h.2.1, h.2.2)

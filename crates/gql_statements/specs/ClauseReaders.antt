@@ -17,6 +17,7 @@ use Rattle.gql_statements.specs.PartWords.{counting_word}
 use Rattle.gql_statements.specs.PartReaders.{read_value, led, past, listed}
 use Rattle.gql_statements.specs.PageReaders.{order_page_of, skip_page_of, limit_page_of}
 use Rattle.gql_statements.specs.MatchReaders.{match_of}
+use Rattle.gql_statements.specs.ChangeReaders.{changed}
 
 unfoldable pub let_item_of : Reader LetItem
 let_item_of ts = do
@@ -62,6 +63,7 @@ begun begins.For ts = as_clause clause.For (for_of ts)
 begun begins.Order ts = as_clause clause.Page (order_page_of ts)
 begun begins.Skip ts = as_clause clause.Page (skip_page_of ts)
 begun begins.Limit ts = as_clause clause.Page (limit_page_of ts)
+begun (begins.Change w) ts = as_clause clause.Change (changed w ts)
 
 unfoldable pub clause_of : Reader Clause
 clause_of ts = do

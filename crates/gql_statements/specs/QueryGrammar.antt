@@ -1,6 +1,6 @@
 -- Queries.
 --
---   Query = {Clause}* Return, where two Page clauses never stand side by side
+--   Query = {Clause}* Return; {Clause}* Change, where two Page clauses never stand side by side
 use Rattle.std.specs.Prelude.{Bool, true, false, not, ◌&&◌, IsTrue, List, [], ◌∷◌}
 use Rattle.gql_lexer.specs.declared.lexeme.Lexeme.{Lexeme}
 use Rattle.gql_ast.specs.declared.clause.Clause.{Clause}
@@ -19,7 +19,7 @@ no_pages_meet [] = true
 no_pages_meet (c ∷ []) = true
 no_pages_meet (c ∷ d ∷ cs) = not (is_page c && is_page d) && no_pages_meet (d ∷ cs)
 
--- {Clause}* Return
+-- {Clause}* and then Return or a change
 abbrev pub AreClauses : List Clause → List Lexeme → List Lexeme → Type 0
 AreClauses [] ts r = ⊥
 AreClauses (c ∷ []) ts r = IsLast c ts r

@@ -1,5 +1,5 @@
 -- QueryReaders: reading queries.
-use Rattle.std.specs.Prelude.{cond, List, [], ◌∷◌, ◌++◌, length, Option, Some, None}
+use Rattle.std.specs.Prelude.{Bool, true, false, cond, List, [], ◌∷◌, ◌++◌, length, Option, Some, None}
 use Rattle.gql_lexer.specs.declared.lexeme.Lexeme.{Lexeme}
 use Rattle.gql_ast.specs.declared.clause.Clause.{Clause}
 use Rattle.gql_ast.specs.declared.clause.Clause.TheVariants as clause
@@ -14,12 +14,26 @@ use Rattle.gql_statements.specs.ReturnReaders.{return_of}
 unfoldable pub clauses_of : List Lexeme → List Clause × List Lexeme
 clauses_of ts = many clause_of (length ts) ts
 
--- Return as the last clause
-unfoldable pub last_of : Reader Clause
-last_of ts = do
-  a ← after (is_word RETURN) ts
+abbrev pub is_change : Clause → Bool
+is_change (clause.Change c) = true
+is_change _ = false
+
+-- the last clause is a change
+abbrev pub ends_in_change : List Clause → Bool
+ends_in_change [] = false
+ends_in_change (c ∷ []) = is_change c
+ends_in_change (c ∷ d ∷ cs) = ends_in_change (d ∷ cs)
+
+-- Return as the last clause; without it, the last clause is a change
+abbrev pub return_or_change : List Clause → List Lexeme → Option (List Lexeme) → Option (List Clause × List Lexeme)
+return_or_change cs ts (Some a) = do
   r ← return_of a
-  Some (clause.Return r.0, r.1)
+  Some (cs ++ clause.Return r.0 ∷ [], r.1)
+return_or_change cs ts None = cond (ends_in_change cs) (Some (cs, ts)) None
+
+-- behind clauses: all clauses, with the last one
+unfoldable pub ended_of : List Clause → Reader (List Clause)
+ended_of cs ts = return_or_change cs ts (after (is_word RETURN) ts)
 
 -- the clauses, where no pages meet
 abbrev pub checked : List Clause → List Lexeme → Option (Query × List Lexeme)
@@ -27,5 +41,5 @@ checked cs r = cond (no_pages_meet cs) (Some (record { clauses = cs }, r)) None
 
 unfoldable pub query_of : Reader Query
 query_of ts = do
-  r ← last_of (clauses_of ts).1
-  checked ((clauses_of ts).0 ++ r.0 ∷ []) r.1
+  cs ← ended_of (clauses_of ts).0 (clauses_of ts).1
+  checked cs.0 cs.1

@@ -4,6 +4,7 @@ ghost use Rattle.std.specs.Prelude.{◌≡◌, ◌<◌, length, IfOk};
 ghost use Rattle.gql_front.specs.Gives.{Gives};
 ghost use Rattle.gql_statements.specs.ClauseReaders.{begun, clause_of};
 
+use crate::change_word::changed;
 use crate::clause_word::{ClauseWord, clause_word_at};
 use crate::filter_clause::filter;
 use crate::for_clause::for_items;
@@ -61,6 +62,10 @@ fn begun<'a>(
         ClauseWord::Limit => {
             let (page, rest) = limit_page(alloc, rest)?;
             Ok((Clause::Page(page), rest))
+        }
+        ClauseWord::Change(word) => {
+            let (change, rest) = changed(alloc, word, rest)?;
+            Ok((Clause::Change(change), rest))
         }
     }
 }

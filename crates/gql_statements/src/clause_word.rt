@@ -6,8 +6,13 @@ ghost use Rattle.gql_front.specs.Reading.{op_at};
 ghost use Rattle.gql_front.specs.Gives.{Takes};
 ghost use Rattle.gql_statements.specs.ClauseWords.{clause_words, clause_word};
 
+use crate::change_word::ChangeWord;
+use gql_ast::Detachment;
 use gql_front::NoFront;
-use gql_front::words::{FILTER, FOR, LET, LIMIT, MATCH, OFFSET, ORDER, SKIP};
+use gql_front::words::{
+    DELETE, DETACH, FILTER, FOR, INSERT, LET, LIMIT, MATCH, NODETACH, OFFSET, ORDER, REMOVE, SET,
+    SKIP,
+};
 use gql_lexer::Lexeme;
 
 /// What a reserved word at the front begins a clause of.
@@ -21,6 +26,7 @@ pub enum ClauseWord {
     /// OFFSET or SKIP.
     Skip,
     Limit,
+    Change(ChangeWord),
 }
 
 /// What the reserved word of the place begins, if it begins a clause.
@@ -36,6 +42,12 @@ fn clause_word(place: u32) -> Option<ClauseWord>
         OFFSET => Some(ClauseWord::Skip),
         SKIP => Some(ClauseWord::Skip),
         LIMIT => Some(ClauseWord::Limit),
+        INSERT => Some(ClauseWord::Change(ChangeWord::Insert)),
+        SET => Some(ClauseWord::Change(ChangeWord::Set)),
+        REMOVE => Some(ClauseWord::Change(ChangeWord::Remove)),
+        DELETE => Some(ClauseWord::Change(ChangeWord::Delete)),
+        DETACH => Some(ClauseWord::Change(ChangeWord::Detaching(Detachment::Detach))),
+        NODETACH => Some(ClauseWord::Change(ChangeWord::Detaching(Detachment::NoDetach))),
         _ => None,
     }
 }

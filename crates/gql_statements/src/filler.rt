@@ -70,7 +70,7 @@ pub fn where_value<'a>(
 
 /// A name, or nothing.
 #[tactic(auto, unfolding(crate::specs::MatchReaders::variable_of, gql_front::specs::Reading::maybe))]
-fn variable<'a>(
+pub fn variable<'a>(
     alloc: Global,
     rest: &'a [Lexeme],
 ) -> Result<(Option<Text>, &'a [Lexeme]), ParseFault>
@@ -102,7 +102,7 @@ fn filler_labels<'a>(
 }
 
 /// What is behind a colon or IS.
-fn after_colon(rest: &[Lexeme]) -> Result<&[Lexeme], NoFront>
+pub fn after_colon(rest: &[Lexeme]) -> Result<&[Lexeme], NoFront>
     ensures given { Takes (λ x. x.now) result (after is_colon rest.now) }
     ensures shorter { IfOk result (λ x. length x.now < length rest.now) }
 {
@@ -135,7 +135,7 @@ fn condition<'a>(
 
 /// The items of a map and the closing brace.
 #[tactic(auto, unfolding(crate::specs::MatchReaders::map_of, crate::specs::MatchReaders::map_items_of))]
-fn map<'a>(alloc: Global, rest: &'a [Lexeme]) -> Result<(Map, &'a [Lexeme]), ParseFault>
+pub fn map<'a>(alloc: Global, rest: &'a [Lexeme]) -> Result<(Map, &'a [Lexeme]), ParseFault>
     ensures given { Gives (λ x. (x.0, x.1.now)) result (map_of rest.now) }
     ensures shorter { IfOk result (λ x. length x.1.now < length rest.now) }
 {

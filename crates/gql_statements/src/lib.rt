@@ -6,11 +6,15 @@
 //! `gql_ast`.
 #![tactic(auto)]
 
+pub mod change_word;
 pub mod clause;
 pub mod clause_word;
+pub mod delete_clause;
+pub mod fill;
 pub mod filler;
 pub mod filter_clause;
 pub mod for_clause;
+pub mod insert_clause;
 pub mod item;
 pub mod laws;
 pub mod let_clause;
@@ -18,9 +22,11 @@ pub mod match_clause;
 pub mod page_clause;
 pub mod parser;
 pub mod query;
+pub mod remove_clause;
 pub mod return_clause;
 pub mod session;
 pub mod session_word;
+pub mod set_clause;
 pub mod sort;
 pub mod statement;
 #[cfg(test)]

@@ -1,15 +1,15 @@
 //! Queries.
 
-ghost use Rattle.std.specs.Prelude.{◌≡◌, ◌<◌, ◌≤◌, length, IfOk};
+ghost use Rattle.std.specs.Prelude.{◌≡◌, ◌<◌, ◌≤◌, ◌+◌, length, IfOk};
 ghost use Rattle.gql_front.specs.Gives.{Gives};
 ghost use Rattle.gql_statements.specs.QueryGrammar.{is_page, no_pages_meet};
-ghost use Rattle.gql_statements.specs.QueryReaders.{clauses_of, last_of, query_of};
+ghost use Rattle.gql_statements.specs.QueryReaders.{is_change, ends_in_change, clauses_of, ended_of, query_of};
 
 use crate::clause::clause;
 use crate::return_clause::returned;
 use gql_ast::{Clause, ParseFault, Query};
-use gql_front::after_word;
 use gql_front::words::RETURN;
+use gql_front::{NoFront, after_word};
 use gql_lexer::Lexeme;
 use gql_values3::{OutOfMemory, Sequence};
 use std::alloc::Global;
@@ -20,9 +20,8 @@ pub fn query<'a>(alloc: Global, rest: &'a [Lexeme]) -> Result<(Query, &'a [Lexem
     ensures given { Gives (λ x. (x.0, x.1.now)) result (query_of rest.now) }
     ensures shorter { IfOk result (λ x. length x.1.now < length rest.now) }
 {
-    let (mut clauses, rest) = clauses(alloc, rest)?;
-    let (last, rest) = last(alloc, rest)?;
-    clauses.push(last)?;
+    let (clauses, rest) = clauses(alloc, rest)?;
+    let (clauses, rest) = ended(alloc, clauses, rest)?;
     if no_pages_meet(clauses.as_slice()) {
         Ok((Query { clauses }, rest))
     } else {
@@ -36,7 +35,7 @@ fn clauses<'a>(
     start: &'a [Lexeme],
 ) -> Result<(Sequence<Clause>, &'a [Lexeme]), OutOfMemory>
     ensures given { IfOk result (λ x. (x.0, x.1.now) ≡ clauses_of start.now) }
-    ensures shorter { IfOk result (λ x. length x.1.now ≤ length start.now) }
+    ensures shorter { IfOk result (λ x. length x.0 + length x.1.now ≤ length start.now) }
 {
     let mut clauses = Sequence::new(alloc);
     let mut rest = start;
@@ -53,15 +52,47 @@ fn clauses<'a>(
     }
 }
 
-/// RETURN, the last clause.
-#[tactic(auto, unfolding(crate::specs::QueryReaders::last_of))]
-fn last<'a>(alloc: Global, rest: &'a [Lexeme]) -> Result<(Clause, &'a [Lexeme]), ParseFault>
-    ensures given { Gives (λ x. (x.0, x.1.now)) result (last_of rest.now) }
-    ensures shorter { IfOk result (λ x. length x.1.now < length rest.now) }
+/// The clauses with RETURN as the last one; without it, the last one is a change.
+#[tactic(auto, unfolding(crate::specs::QueryReaders::ended_of))]
+fn ended<'a>(
+    alloc: Global,
+    mut clauses: Sequence<Clause>,
+    rest: &'a [Lexeme],
+) -> Result<(Sequence<Clause>, &'a [Lexeme]), ParseFault>
+    ensures given { Gives (λ x. (x.0, x.1.now)) result (ended_of clauses rest.now) }
+    ensures shorter { IfOk result (λ x. length x.1.now < length clauses + length rest.now) }
 {
-    let rest = after_word(RETURN, rest)?;
-    let (found, rest) = returned(alloc, rest)?;
-    Ok((Clause::Return(found), rest))
+    match after_word(RETURN, rest) {
+        Ok(behind) => {
+            let (found, behind) = returned(alloc, behind)?;
+            clauses.push(Clause::Return(found))?;
+            Ok((clauses, behind))
+        }
+        Err(NoFront) => {
+            if ends_in_change(clauses.as_slice()) {
+                Ok((clauses, rest))
+            } else {
+                Err(ParseFault::Syntax)
+            }
+        }
+    }
+}
+
+/// Whether the last clause is a change.
+fn ends_in_change(clauses: &[Clause]) -> bool
+    ensures { result ≡ ends_in_change clauses.now }
+{
+    match clauses.last() {
+        Some(last) => is_change(last),
+        None => false,
+    }
+}
+
+/// Whether the clause is a change.
+fn is_change(clause: &Clause) -> bool
+    ensures { result ≡ is_change clause.now }
+{
+    matches!(clause, Clause::Change(_))
 }
 
 /// Whether no two Page clauses stand side by side.

@@ -1,6 +1,8 @@
 //! Tests of statements. A statement is shown by `shown::write`, with the words that may be missing written out.
 
+mod changes;
 mod shown;
+mod shown_change;
 
 use crate::parse;
 use gql_ast::{ParseFault, Statement};
@@ -139,7 +141,7 @@ const MATCHES: [Case; 10] = [
     ),
 ];
 
-const REFUSED: [&[u8]; 44] = [
+const REFUSED: [&[u8]; 43] = [
     b"",
     b"LIMIT 1 LIMIT 2 RETURN 1",
     b"LIMIT 1 OFFSET 2 RETURN 1",
@@ -177,7 +179,6 @@ const REFUSED: [&[u8]; 44] = [
     b"MATCH (x), (y) RETURN 1",
     b"MATCH (x)-[e]->(y) RETURN 1",
     b"OPTIONAL MATCH (x) RETURN 1",
-    b"INSERT (x)",
     b"COMMIT",
     b"SESSION",
     b"SESSION RESET 1",
@@ -302,6 +303,8 @@ fn queries_and_lists_may_be_long(rt: HostRuntime) -> Result<(), Fail> {
         ("", "LET x = 1 ", 10_000, "RETURN 1"),
         ("LET x = 1", ", y = 1", 10_000, " RETURN 1"),
         ("RETURN 1", ", 2 AS x", 10_000, ""),
+        ("INSERT (a)", "-[:T]->(b)", 10_000, ""),
+        ("INSERT (a:A", "&B", 10_000, ")"),
     ] {
         let text = repeated(rt.alloc(), first, again, times, last)?;
         let found = parsed(rt.alloc(), text.as_str().as_bytes())?;

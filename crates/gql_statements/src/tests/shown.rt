@@ -1,9 +1,10 @@
 //! Statements as the tests show them.
 
+use super::shown_change::write_change;
 use gql_ast::{
-    Clause, Condition, Counting, Expr, Filler, For, LabelExpr, Match, NullOrder, Page, PathExpr,
-    Return, ReturnItems, RowCount, SessionStatement, SetQuantifier, SortDirection, SortItem,
-    Statement,
+    Clause, Condition, Counting, Expr, Filler, For, LabelExpr, Map, Match, NullOrder, Page,
+    PathExpr, Return, ReturnItems, RowCount, SessionStatement, SetQuantifier, SortDirection,
+    SortItem, Statement,
 };
 use gql_values3::{Comparison, Text, Value};
 use std::alloc::AllocError;
@@ -58,7 +59,7 @@ fn write_clause(out: &mut String, clause: &Clause) -> Result<(), AllocError> {
         Clause::For(found) => write_for(out, found),
         Clause::Page(page) => write_page(out, page),
         Clause::Return(found) => write_return(out, found),
-        Clause::Change(_) => out.push_str("?"),
+        Clause::Change(change) => write_change(out, change),
     }
 }
 
@@ -107,22 +108,24 @@ fn write_filler(out: &mut String, filler: &Filler) -> Result<(), AllocError> {
 
 fn write_condition(out: &mut String, condition: &Condition) -> Result<(), AllocError> {
     match condition {
-        Condition::Map(items) => {
-            out.push_str(" {")?;
-            let mut before = "";
-            for item in items.as_slice() {
-                two(out, before, &item.name)?;
-                out.push_str(": ")?;
-                write_expr(out, &item.value)?;
-                before = ", ";
-            }
-            out.push_str("}")
-        }
+        Condition::Map(items) => write_map(out, items),
         Condition::Where(expr) => {
             out.push_str(" WHERE ")?;
             write_expr(out, expr)
         }
     }
+}
+
+pub fn write_map(out: &mut String, items: &Map) -> Result<(), AllocError> {
+    out.push_str(" {")?;
+    let mut before = "";
+    for item in items.as_slice() {
+        two(out, before, &item.name)?;
+        out.push_str(": ")?;
+        write_expr(out, &item.value)?;
+        before = ", ";
+    }
+    out.push_str("}")
 }
 
 fn write_labels(out: &mut String, labels: &LabelExpr) -> Result<(), AllocError> {
@@ -240,7 +243,7 @@ fn write_items(out: &mut String, items: &ReturnItems) -> Result<(), AllocError> 
     }
 }
 
-fn write_expr(out: &mut String, expr: &Expr) -> Result<(), AllocError> {
+pub fn write_expr(out: &mut String, expr: &Expr) -> Result<(), AllocError> {
     match expr {
         Expr::Compare(Comparison::Eq, first, second) => {
             write_leaf(out, first.expr())?;
@@ -265,7 +268,7 @@ fn write_leaf(out: &mut String, expr: &Expr) -> Result<(), AllocError> {
 }
 
 /// Writes a text and a name.
-fn two(out: &mut String, text: &str, name: &Text) -> Result<(), AllocError> {
+pub fn two(out: &mut String, text: &str, name: &Text) -> Result<(), AllocError> {
     out.push_str(text)?;
     out.push_str(name.as_str())
 }

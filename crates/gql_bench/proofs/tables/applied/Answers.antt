@@ -1,4 +1,4 @@
-use Rattle.gql_linear.proofs.SharedGraph.{graph_sync}
+use Rattle.gql_graph.proofs.SharedGraph.{graph_sync}
 use Rattle.gql_bench.proofs.tables.applied.Goals as goal
 
 pub apply-requires-sync-V : goal.apply-requires-sync-V

@@ -16,6 +16,7 @@ use Rattle.gql_ast.specs.Evaluation.{value_of, values_of, all_of, group_items}
 use Rattle.gql_eval.specs.ScopeMeaning.{scope_of}
 use Rattle.gql_eval.proofs.PartLemmas.{height_le-highest, height_lt-highest_link, parts_from, sides_from, parts_step}
 use Rattle.gql_eval.proofs.EvaluationLemmas.{all_of_false, with_values, with_none, with_more, each_from, each_step, aggregate_is, aggregate_then, fails_next, fails_with}
+use Rattle.gql_eval.proofs.OperationLemmas.{operation_value, binary_value}
 use Rattle.gql_eval.proofs.evaluation.+evaluation.Goals as goal
 
 pub all-value_in-requires-in-loop-i : goal.all-value_in-requires-in-loop-i
@@ -94,6 +95,16 @@ over_items-loop-i-preserved g t c =
 
 pub value_in-returns-in-Aggregate : goal.value_in-returns-in-Aggregate
 value_in-returns-in-Aggregate g t c = rw c.in-Aggregate.is (rw c.expr-in-Aggregate.ensures at c.over_group.ensures)
+
+pub value_in-returns-in-Call : goal.value_in-returns-in-Call
+value_in-returns-in-Call g t c =
+    let same = operation_value (g.V.View.graph c.args.view.now) c.args.params.now (scope_of c.args.scope.now) c.args.expr.now c.in-Call.part c.in-Call.is in
+    rw (← same) (rw c.expr-in-Call.ensures at c.operation.ensures)
+
+pub value_in-returns-in-Mod : goal.value_in-returns-in-Mod
+value_in-returns-in-Mod g t c =
+    let same = binary_value (g.V.View.graph c.args.view.now) c.args.params.now (scope_of c.args.scope.now) c.args.expr.now c.in-Mod.a c.in-Mod.b c.in-Mod.is in
+    rw (← same) (rw (c.expr-in-Mod.ensures, c.expr-in-Mod-2.ensures) at c.binary.ensures)
 
 pub value_in-returns-in-Coalesce : goal.value_in-returns-in-Coalesce
 value_in-returns-in-Coalesce g t c = rw c.in-Coalesce.is (rw (c.expr-in-Coalesce.ensures, c.as_slice-in-Coalesce.ensures) at c.coalesce.ensures)

@@ -21,6 +21,15 @@ decreases-value_in g l = 4 * height_of (tree_of l.expr.now)
 abbrev pub decreases-values_in : goal.decreases-values_in
 decreases-values_in g l = 4 * highest (map tree_of l.parts.now) + 1
 
+abbrev pub decreases-listed : goal.decreases-listed
+decreases-listed g l = 4 * highest (map tree_of l.parts.now) + 2
+
+abbrev pub decreases-operation : goal.decreases-operation
+decreases-operation g l = 4 * height_of (tree_of l.part.now) + 1
+
+abbrev pub decreases-binary : goal.decreases-binary
+decreases-binary g l = 4 * max (height_of (tree_of l.a.now)) (height_of (tree_of l.b.now)) + 1
+
 abbrev pub decreases-coalesce : goal.decreases-coalesce
 decreases-coalesce g l = 4 * max (height_of (tree_of l.first.now)) (highest (map tree_of l.rest.now)) + 1
 

@@ -1,8 +1,7 @@
-use Rattle.std.proofs.Common.{◌∙◌, ap, sym}
-use Rattle.gql_lexer.specs.declared.front.Shape.TheVariants.{Bad}
-use Rattle.gql_lexer.specs.Forms.{form, symbols, symbols_from, longest}
-use Rattle.gql_lexer.proofs.SymbolLemmas.{first-of}
+use Rattle.std.proofs.Common.{refl}
+use Rattle.gql_lexer.specs.Forms.{symbols}
 use Rattle.gql_lexer.proofs.symbol.symbol.Goals as goal
 
-pub returns-in-Some : goal.returns-in-Some
-returns-in-Some c = c.in-Some.ensures _ ∙ ap (λ bs. longest (symbols_from 0 symbols bs) (form Bad 1)) (sym (first-of c.args.rest.now c.requires))
+pub returns-in-None : goal.returns-in-None
+unfolding symbols
+returns-in-None c = rw (c.first_among.ensures, c.as_slice.ensures) refl

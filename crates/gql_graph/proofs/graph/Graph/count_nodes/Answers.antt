@@ -6,4 +6,4 @@ use Rattle.gql_graph.proofs.graph.Graph.count_nodes.Goals as goal
 pub overflow_cast-result : goal.overflow_cast-result
 overflow_cast-result c =
     let s = c.self.inside in
-    omega (arith, few_nodes s.nodes s.edges s.next_node s.next_edge c.self.invariant)
+    omega (arith, few_nodes s.nodes.items s.edges.items s.next_node s.next_edge c.self.invariant)

@@ -4,4 +4,4 @@ use Rattle.gql_graph.proofs.graph.Graph.edge.Goals as goal
 pub find_edge-requires : goal.find_edge-requires
 find_edge-requires c =
     let s = c.self.inside in
-    rw c.as_slice.ensures (edges_ascend s.nodes s.edges s.next_node s.next_edge c.self.invariant)
+    rw c.as_slice.ensures.value (edges_ascend s.nodes.items s.edges.items s.next_node s.next_edge c.self.invariant)

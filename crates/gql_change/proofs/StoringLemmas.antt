@@ -1,0 +1,181 @@
+-- What is stored stays in order: names and labels ascend, and the values of properties may be kept.
+use Rattle.std.proofs.Common.{◌≡◌, ℕ, Bool, true, false, cond, not, List, [], ◌∷◌, map, refl, ap, ◌∙◌}
+use Rattle.std.specs.Prelude.{◌&&◌, filter}
+use Rattle.std.specs.List.{list_all}
+use Rattle.std.specs.declared.cmp.Ordering.{Ordering}
+use Rattle.std.specs.declared.cmp.Ordering.TheVariants.{Less, Equal, Greater}
+use Rattle.std.specs.Ordering.{is_lt, nat_cmp, ordering_reverse}
+use Rattle.std.specs.Cmp.Lexicographic.{slice_cmp}
+use Rattle.std.proofs.lemmas.Cmp.{nat_list_cmp_total}
+use Rattle.std.proofs.lemmas.Map.Lookups.{exact_bytes}
+use Rattle.gql_values3.specs.Datum.{Datum, null, boolean, integer, text, list, node, edge, path}
+use Rattle.gql_values3.specs.Texts.{same_text, ascend_above, texts_ascend}
+use Rattle.gql_values3.specs.PropertyGraph.{is_storable, is_property, are_properties}
+use Rattle.gql_change.specs.Storing.{PropertyList, by_order, put_property, without_property, with_property, put_label, without_label, label_set, property_set}
+
+pub both_true : (a b : Bool) → a ≡ true → b ≡ true → (a && b) ≡ true
+both_true true b p q = q
+both_true false b p q = absurd (cc)
+
+pub left_true : (a b : Bool) → (a && b) ≡ true → a ≡ true
+left_true true b h = refl
+left_true false b h = h
+
+pub right_true : (a b : Bool) → (a && b) ≡ true → b ≡ true
+right_true true b h = h
+right_true false b h = absurd (cc)
+
+less_if : (o : Ordering) → is_lt o ≡ true → o ≡ Less
+less_if Less p = refl
+less_if Equal p = absurd (cc)
+less_if Greater p = absurd (cc)
+
+abbrev pub text_cmp : List ℕ → List ℕ → Ordering
+text_cmp a b = slice_cmp nat_cmp a b
+
+-- the first text is above the bound
+pub first_above : (low k : List ℕ) (ks : List (List ℕ)) → ascend_above low (k ∷ ks) ≡ true → text_cmp low k ≡ Less
+first_above low k ks h = less_if (text_cmp low k) (left_true (is_lt (text_cmp low k)) (ascend_above k ks) h)
+
+-- a lower bound serves too
+pub lower : (low k : List ℕ) (ks : List (List ℕ)) → text_cmp low k ≡ Less → ascend_above k ks ≡ true → ascend_above low ks ≡ true
+lower low k [] p h = refl
+lower low k (j ∷ js) p h =
+    both_true (is_lt (text_cmp low j)) (ascend_above j js) (ap is_lt (nat_list_cmp_total.trans low k j p (first_above k j js h)))
+    (right_true (is_lt (text_cmp k j)) (ascend_above j js) h)
+
+pub above_ascends : (low : List ℕ) (ks : List (List ℕ)) → ascend_above low ks ≡ true → texts_ascend ks ≡ true
+above_ascends low [] h = refl
+above_ascends low (k ∷ ks) h = right_true (is_lt (text_cmp low k)) (ascend_above k ks) h
+
+turned : (a b : List ℕ) → text_cmp a b ≡ Greater → text_cmp b a ≡ Less
+turned a b p = nat_list_cmp_total.antisymm b a ∙ ap ordering_reverse p
+
+put_above_case : (o : Ordering) (low l k : List ℕ) (ks : List (List ℕ)) → text_cmp l k ≡ o → text_cmp low l ≡ Less → ascend_above low (k ∷ ks) ≡ true
+    → (text_cmp k l ≡ Less → ascend_above k ks ≡ true → ascend_above k (put_label l ks) ≡ true)
+    → ascend_above low (by_order o (l ∷ k ∷ ks) (k ∷ ks) (k ∷ put_label l ks)) ≡ true
+put_above_case Less low l k ks p q h more =
+    both_true (is_lt (text_cmp low l)) (is_lt (text_cmp l k) && ascend_above k ks) (ap is_lt q)
+    (both_true (is_lt (text_cmp l k)) (ascend_above k ks) (ap is_lt p) (right_true (is_lt (text_cmp low k)) (ascend_above k ks) h))
+put_above_case Equal low l k ks p q h more = h
+put_above_case Greater low l k ks p q h more =
+    both_true (is_lt (text_cmp low k)) (ascend_above k (put_label l ks)) (left_true (is_lt (text_cmp low k)) (ascend_above k ks) h)
+    (more (turned l k p) (right_true (is_lt (text_cmp low k)) (ascend_above k ks) h))
+
+put_above : (low l : List ℕ) (ks : List (List ℕ)) → text_cmp low l ≡ Less → ascend_above low ks ≡ true → ascend_above low (put_label l ks) ≡ true
+put_above low l [] q h = both_true (is_lt (text_cmp low l)) true (ap is_lt q) refl
+put_above low l (k ∷ ks) q h = put_above_case (text_cmp l k) low l k ks refl q h (λ r m. put_above k l ks r m)
+
+put_case : (o : Ordering) (l k : List ℕ) (ks : List (List ℕ)) → text_cmp l k ≡ o → ascend_above k ks ≡ true
+    → texts_ascend (by_order o (l ∷ k ∷ ks) (k ∷ ks) (k ∷ put_label l ks)) ≡ true
+put_case Less l k ks p h = both_true (is_lt (text_cmp l k)) (ascend_above k ks) (ap is_lt p) h
+put_case Equal l k ks p h = h
+put_case Greater l k ks p h = put_above k l ks (turned l k p) h
+
+pub texts_ascend-put_label : (l : List ℕ) (ks : List (List ℕ)) → texts_ascend ks ≡ true → texts_ascend (put_label l ks) ≡ true
+texts_ascend-put_label l [] h = refl
+texts_ascend-put_label l (k ∷ ks) h = put_case (text_cmp l k) l k ks refl h
+
+kept_above_case : (b : Bool) (low k : List ℕ) (ks rest : List (List ℕ)) → ascend_above low (k ∷ ks) ≡ true
+    → ((bound : List ℕ) → ascend_above bound ks ≡ true → ascend_above bound rest ≡ true)
+    → ascend_above low (cond b (k ∷ rest) rest) ≡ true
+kept_above_case true low k ks rest h more =
+    both_true (is_lt (text_cmp low k)) (ascend_above k rest) (left_true (is_lt (text_cmp low k)) (ascend_above k ks) h)
+    (more k (right_true (is_lt (text_cmp low k)) (ascend_above k ks) h))
+kept_above_case false low k ks rest h more =
+    more low (lower low k ks (first_above low k ks h) (right_true (is_lt (text_cmp low k)) (ascend_above k ks) h))
+
+kept_above : (p : List ℕ → Bool) (low : List ℕ) (ks : List (List ℕ)) → ascend_above low ks ≡ true → ascend_above low (filter p ks) ≡ true
+kept_above p low [] h = refl
+kept_above p low (k ∷ ks) h = kept_above_case (p k) low k ks (filter p ks) h (λ bound m. kept_above p bound ks m)
+
+kept_case : (b : Bool) (p : List ℕ → Bool) (k : List ℕ) (ks : List (List ℕ)) → ascend_above k ks ≡ true → texts_ascend (cond b (k ∷ filter p ks) (filter p ks)) ≡ true
+kept_case true p k ks h = kept_above p k ks h
+kept_case false p k ks h = above_ascends k (filter p ks) (kept_above p k ks h)
+
+pub texts_ascend-filter : (p : List ℕ → Bool) (ks : List (List ℕ)) → texts_ascend ks ≡ true → texts_ascend (filter p ks) ≡ true
+texts_ascend-filter p [] h = refl
+texts_ascend-filter p (k ∷ ks) h = kept_case (p k) p k ks h
+
+pub texts_ascend-without_label : (l : List ℕ) (ks : List (List ℕ)) → texts_ascend ks ≡ true → texts_ascend (without_label l ks) ≡ true
+texts_ascend-without_label l ks h = texts_ascend-filter (λ k. not (same_text l k)) ks h
+
+pub texts_ascend-label_set : (ls : List (List ℕ)) → texts_ascend (label_set ls) ≡ true
+texts_ascend-label_set [] = refl
+texts_ascend-label_set (l ∷ ls) = texts_ascend-put_label l (label_set ls) (texts_ascend-label_set ls)
+
+-- the names of properties
+abbrev pub names : PropertyList → List (List ℕ)
+names ps = map (λ (p : List ℕ × Datum). p.0) ps
+
+names_put_case : (o : Ordering) (x : List ℕ) (d : Datum) (p : List ℕ × Datum) (ps : PropertyList) → text_cmp x p.0 ≡ o → names (put_property x d ps) ≡ put_label x (names ps)
+    → names (by_order o ((x, d) ∷ p ∷ ps) ((x, d) ∷ ps) (p ∷ put_property x d ps)) ≡ by_order o (x ∷ p.0 ∷ names ps) (p.0 ∷ names ps) (p.0 ∷ put_label x (names ps))
+names_put_case Less x d p ps e h = refl
+names_put_case Equal x d p ps e h = ap (λ k. k ∷ names ps) (exact_bytes x p.0 e)
+names_put_case Greater x d p ps e h = ap (λ ks. p.0 ∷ ks) h
+
+names-put : (x : List ℕ) (d : Datum) (ps : PropertyList) → names (put_property x d ps) ≡ put_label x (names ps)
+names-put x d [] = refl
+names-put x d (p ∷ ps) = names_put_case (text_cmp x p.0) x d p ps refl (names-put x d ps)
+
+names_kept : (b : Bool) (p : List ℕ × Datum) (ps : PropertyList) (ks : List (List ℕ)) → names ps ≡ ks → names (cond b (p ∷ ps) ps) ≡ cond b (p.0 ∷ ks) ks
+names_kept true p ps ks h = ap (λ js. p.0 ∷ js) h
+names_kept false p ps ks h = h
+
+names-without : (x : List ℕ) (ps : PropertyList) → names (without_property x ps) ≡ without_label x (names ps)
+names-without x [] = refl
+names-without x (p ∷ ps) = names_kept (not (same_text x p.0)) p (without_property x ps) (without_label x (names ps)) (names-without x ps)
+
+-- the values of properties
+abbrev values_fit : PropertyList → Bool
+values_fit ps = list_all (λ (p : List ℕ × Datum). is_property p.1) ps
+
+values_put_case : (o : Ordering) (x : List ℕ) (d : Datum) (p : List ℕ × Datum) (ps rest : PropertyList) → is_property d ≡ true → values_fit (p ∷ ps) ≡ true → values_fit rest ≡ true
+    → values_fit (by_order o ((x, d) ∷ p ∷ ps) ((x, d) ∷ ps) (p ∷ rest)) ≡ true
+values_put_case Less x d p ps rest k h more = both_true (is_property d) (values_fit (p ∷ ps)) k h
+values_put_case Equal x d p ps rest k h more = both_true (is_property d) (values_fit ps) k (right_true (is_property p.1) (values_fit ps) h)
+values_put_case Greater x d p ps rest k h more = both_true (is_property p.1) (values_fit rest) (left_true (is_property p.1) (values_fit ps) h) more
+
+values_put : (x : List ℕ) (d : Datum) (ps : PropertyList) → is_property d ≡ true → values_fit ps ≡ true → values_fit (put_property x d ps) ≡ true
+values_put x d [] k h = both_true (is_property d) true k refl
+values_put x d (p ∷ ps) k h =
+    values_put_case (text_cmp x p.0) x d p ps (put_property x d ps) k h (values_put x d ps k (right_true (is_property p.1) (values_fit ps) h))
+
+pub list_all_kept : {A : Type 0} (q : A → Bool) (b : Bool) (x : A) (xs : List A) → q x ≡ true → list_all q xs ≡ true → list_all q (cond b (x ∷ xs) xs) ≡ true
+list_all_kept q true x xs h k = both_true (q x) (list_all q xs) h k
+list_all_kept q false x xs h k = k
+
+-- what all have, all have that are kept
+pub list_all-filter : {A : Type 0} (q p : A → Bool) (xs : List A) → list_all q xs ≡ true → list_all q (filter p xs) ≡ true
+list_all-filter q p [] h = refl
+list_all-filter q p (x ∷ xs) h =
+    list_all_kept q (p x) x (filter p xs) (left_true (q x) (list_all q xs) h) (list_all-filter q p xs (right_true (q x) (list_all q xs) h))
+
+pub are_properties-put : (x : List ℕ) (d : Datum) (ps : PropertyList) → is_property d ≡ true → are_properties ps ≡ true → are_properties (put_property x d ps) ≡ true
+are_properties-put x d ps k h =
+    both_true (texts_ascend (names (put_property x d ps))) (values_fit (put_property x d ps))
+    (ap texts_ascend (names-put x d ps) ∙ texts_ascend-put_label x (names ps) (left_true (texts_ascend (names ps)) (values_fit ps) h))
+    (values_put x d ps k (right_true (texts_ascend (names ps)) (values_fit ps) h))
+
+pub are_properties-without : (x : List ℕ) (ps : PropertyList) → are_properties ps ≡ true → are_properties (without_property x ps) ≡ true
+are_properties-without x ps h =
+    both_true (texts_ascend (names (without_property x ps))) (values_fit (without_property x ps))
+    (ap texts_ascend (names-without x ps) ∙ texts_ascend-without_label x (names ps) (left_true (texts_ascend (names ps)) (values_fit ps) h))
+    (list_all-filter (λ (p : List ℕ × Datum). is_property p.1) (λ (p : List ℕ × Datum). not (same_text x p.0)) ps (right_true (texts_ascend (names ps)) (values_fit ps) h))
+
+pub are_properties-with : (x : List ℕ) (d : Datum) (ps : PropertyList) → is_storable d 64 ≡ true → are_properties ps ≡ true → are_properties (with_property x d ps) ≡ true
+are_properties-with x null ps k h = are_properties-without x ps h
+are_properties-with x (boolean b) ps k h = are_properties-put x (boolean b) ps k h
+are_properties-with x (integer z) ps k h = are_properties-put x (integer z) ps k h
+are_properties-with x (text t) ps k h = are_properties-put x (text t) ps k h
+are_properties-with x (list ds) ps k h = are_properties-put x (list ds) ps k h
+are_properties-with x (node n) ps k h = absurd (cc)
+are_properties-with x (edge e) ps k h = absurd (cc)
+are_properties-with x (path p) ps k h = absurd (cc)
+
+-- properties of values that may be stored
+pub are_properties-property_set : (ps : PropertyList) → list_all (λ (p : List ℕ × Datum). is_storable p.1 64) ps ≡ true → are_properties (property_set ps) ≡ true
+are_properties-property_set [] h = refl
+are_properties-property_set (p ∷ ps) h =
+    let rest = list_all (λ (q : List ℕ × Datum). is_storable q.1 64) ps in
+    are_properties-with p.0 p.1 (property_set ps) (left_true (is_storable p.1 64) rest h) (are_properties-property_set ps (right_true (is_storable p.1 64) rest h))

@@ -1,0 +1,12 @@
+use Rattle.std.proofs.Common.{◌≡◌, ◌++◌, map, drop}
+use Rattle.std.specs.List.{flat_map}
+use Rattle.gql_ast.specs.InsertColumns.{spot_columns, step_spots, path_spots}
+use Rattle.gql_change.specs.Roles.{questions, question_of}
+use Rattle.gql_change.proofs.questions.ask_path.Given as goal
+
+abbrev pub invariant-loop-i : goal.invariant-loop-i
+invariant-loop-i l = record {
+  columns : spot_columns l.more (flat_map step_spots (drop l.i l.steps)) ≡ spot_columns l.fn.names (path_spots l.path);
+  asked : map question_of l.asked.items ++ questions l.more (flat_map step_spots (drop l.i l.steps))
+      ≡ map question_of l.fn.asked.items ++ questions l.fn.names (path_spots l.path);
+}

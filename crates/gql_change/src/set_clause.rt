@@ -1,0 +1,66 @@
+//! SET and REMOVE.
+
+ghost use Rattle.std.specs.Prelude.{IsTrue};
+ghost use Rattle.gql_change.specs.AssignedGraph.{assigned};
+ghost use Rattle.gql_change.specs.Assignments.{set_assignments, remove_assignments};
+ghost use Rattle.gql_change.specs.Changing.{changed_by_assignments, unless_refused};
+ghost use Rattle.gql_change.specs.Conflicts.{conflict_among};
+ghost use Rattle.gql_change.specs.Plans.{Plans};
+ghost use Rattle.gql_change.specs.RowSteps.{RowList};
+ghost use Rattle.gql_change.specs.Swaps.{all_fit};
+
+use crate::assigned::assigned_changes;
+use crate::assigning::{remove_assignments, set_assignments};
+use crate::assignment::Assignment;
+use crate::conflict::conflict_among;
+use crate::fault::ChangeFault;
+use gql_ast::{RemoveItem, SetItem};
+use gql_graph::Changes;
+use gql_values3::{Columns, Params, Rows, View};
+use std::alloc::Global;
+
+/// The changes of SET. All expressions are evaluated on the graph as it is, rows in order and items in the order of the
+/// text, and their first fault comes before a conflict. The rows stay.
+pub fn plan_set<V: View>(
+    alloc: Global,
+    view: &V,
+    columns: &Columns,
+    rows: &Rows,
+    params: &Params,
+    items: &[SetItem],
+) -> Result<Changes, ChangeFault>
+    ensures { Plans (λ c. (c, rows.now)) (V.graph view.now) result (changed_by_assignments (V.graph view.now) params.now columns.now rows.now (set_assignments (V.graph view.now) params.now columns.now items.now rows.now)) }
+{
+    let assignments = set_assignments(alloc, view, columns, rows, params, items)?;
+    plan_assignments(alloc, view, assignments.into_vec())
+}
+
+/// The changes of REMOVE, by the same rules.
+pub fn plan_remove<V: View>(
+    alloc: Global,
+    view: &V,
+    columns: &Columns,
+    rows: &Rows,
+    params: &Params,
+    items: &[RemoveItem],
+) -> Result<Changes, ChangeFault>
+    ensures { Plans (λ c. (c, rows.now)) (V.graph view.now) result (changed_by_assignments (V.graph view.now) params.now columns.now rows.now (remove_assignments (V.graph view.now) params.now columns.now items.now rows.now)) }
+{
+    let assignments = remove_assignments(alloc, view, columns, rows, params, items)?;
+    plan_assignments(alloc, view, assignments.into_vec())
+}
+
+/// The changes that make the assignments, unless two of them are in conflict. Whatever the rows are, they stay.
+fn plan_assignments<V: View>(
+    alloc: Global,
+    view: &V,
+    assignments: Vec<Assignment>,
+) -> Result<Changes, ChangeFault>
+    requires { IsTrue (all_fit (V.graph view.now) assignments.items) }
+    ensures { (rows : RowList) → Plans (λ c. (c, rows)) (V.graph view.now) result (unless_refused (conflict_among assignments.items) (assigned assignments.items (V.graph view.now), rows)) }
+{
+    match conflict_among(alloc, assignments.as_slice())? {
+        Some(refusal) => Err(ChangeFault::Refused(refusal)),
+        None => Ok(assigned_changes(alloc, view, assignments)?),
+    }
+}

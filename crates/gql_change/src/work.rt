@@ -1,0 +1,14 @@
+use crate::supply::Spots;
+use gql_graph::Changes;
+use gql_values3::Row;
+
+/// An INSERT in the making: the changes so far, the numbers that the next new elements take, and the row in hand with
+/// its spots that are left.
+#[derive(Drop)]
+pub struct Work {
+    pub changes: Changes,
+    pub next_node: u32,
+    pub next_edge: u32,
+    pub row: Row,
+    pub spots: Spots,
+}

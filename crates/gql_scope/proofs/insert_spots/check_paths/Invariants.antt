@@ -1,0 +1,10 @@
+use Rattle.std.proofs.Common.{◌≡◌, ◌++◌, drop}
+use Rattle.std.specs.List.{flat_map}
+use Rattle.gql_ast.specs.InsertColumns.{path_spots}
+use Rattle.gql_scope.specs.Questions.{first_in_spots}
+use Rattle.gql_scope.proofs.insert_spots.check_paths.Given as goal
+
+abbrev pub invariant-loop-path : goal.invariant-loop-path
+invariant-loop-path l =
+    first_in_spots l.question l.incoming (l.incoming ++ l.fresh) (flat_map path_spots (drop l.path-index l.paths))
+    ≡ first_in_spots l.question l.incoming (l.incoming ++ l.initial.fresh) (flat_map path_spots l.paths)

@@ -1,0 +1,54 @@
+//! E15 in a clause that changes data: something is misused in a map of INSERT or in a value of SET.
+
+ghost use Rattle.std.specs.Prelude.{◌≡◌, ◌||◌};
+ghost use Rattle.std.specs.List.{list_any};
+ghost use Rattle.gql_ast.specs.InsertColumns.{insert_spots};
+ghost use Rattle.gql_ast.specs.Misuses.{misused_map, misused_set, misused_change};
+ghost use Rattle.gql_ast.specs.StaticRefusals.{misuse_if};
+ghost use Rattle.gql_scope.specs.Answers.{Answers};
+
+use crate::columns::Scope;
+use crate::fault::ScopeFault;
+use crate::insert_maps::{MapQuestion, check_maps};
+use crate::misused_clauses::check_expr;
+use gql_ast::{ChangeClause, InsertPath, SetItem};
+use std::alloc::Global;
+
+/// Checks the maps of INSERT.
+fn check_insert(alloc: Global, scope: &Scope, paths: &[InsertPath]) -> Result<(), ScopeFault>
+    ensures { Answers result (misuse_if (list_any (λ s. misused_map scope.now s.1.map) (insert_spots paths.now))) }
+{
+    check_maps(alloc, &MapQuestion::Misuse(scope), paths)
+}
+
+/// Checks the value of an item of SET.
+fn check_set_item(scope: &Scope, item: &SetItem) -> Result<(), ScopeFault>
+    ensures { Answers result (misuse_if (misused_set scope.now item.now)) }
+{
+    match item {
+        SetItem::Property(_, _, value) => check_expr(scope, value),
+        SetItem::Label(_, _) => Ok(()),
+    }
+}
+
+/// Checks the values of SET.
+#[tactic(auto, using(crate::proofs::RefusalLemmas::misuse_in_two))]
+fn check_set(scope: &Scope, items: &[SetItem]) -> Result<(), ScopeFault>
+    ensures { Answers result (misuse_if (list_any (misused_set scope.now) items.now)) }
+{
+    for item in items {
+        check_set_item(scope, item)?;
+    }
+    Ok(())
+}
+
+/// Checks the expressions of a clause that changes data.
+pub fn check_change(alloc: Global, scope: &Scope, change: &ChangeClause) -> Result<(), ScopeFault>
+    ensures { Answers result (misuse_if (misused_change scope.now change.now)) }
+{
+    match change {
+        ChangeClause::Insert(paths) => check_insert(alloc, scope, paths.as_slice()),
+        ChangeClause::Set(items) => check_set(scope, items.as_slice()),
+        ChangeClause::Remove(_) | ChangeClause::Delete(_, _) => Ok(()),
+    }
+}

@@ -1,0 +1,168 @@
+//! E08 in a clause that changes data: a name that is no column, or an INSERT variable that may not stand already.
+
+ghost use Rattle.std.specs.Prelude.{◌≡◌, ◌++◌};
+ghost use Rattle.std.specs.List.{flat_map};
+ghost use Rattle.gql_ast.specs.InsertColumns.{insert_spots};
+ghost use Rattle.gql_ast.specs.StaticRefusals.{first_of};
+ghost use Rattle.gql_ast.specs.UnknownNames.{may_refer, misplaced, unknown_in_map, unknown_in_spots, missing, unknown_in_expr, unknown_in_set, unknown_in_remove, unknown_in_change};
+ghost use Rattle.gql_scope.specs.Answers.{Answers};
+
+use crate::columns::Scope;
+use crate::fault::ScopeFault;
+use crate::insert_spots::{SpotQuestion, check_spots};
+use crate::standing::stands;
+use crate::unknown_names::{check_map, check_names};
+use gql_ast::{ChangeClause, Expr, Fill, InsertPath, Map, Refusal, RemoveItem, SetItem};
+use gql_values3::{ColumnKind, Text};
+use std::alloc::Global;
+
+/// Whether it may be a node that stands already: a node without labels and a map.
+fn may_refer(kind: ColumnKind, fill: &Fill) -> bool
+    ensures { result ≡ may_refer kind fill.now.labels fill.now.map }
+{
+    match kind {
+        ColumnKind::Node => fill.labels.is_none() && fill.map.is_none(),
+        _ => false,
+    }
+}
+
+/// Checks that a variable that stands already may stand here.
+fn check_variable(
+    alloc: Global,
+    incoming: &Scope,
+    fresh: &Scope,
+    kind: ColumnKind,
+    fill: &Fill,
+) -> Result<(), ScopeFault>
+    ensures { Answers result (first_of Refusal.Variable (misplaced (incoming.now ++ fresh.now) kind fill.now fill.now.variable)) }
+{
+    match &fill.variable {
+        Some(name) if stands(incoming, fresh, name) && !may_refer(kind, fill) => {
+            Err(ScopeFault::Defect(Refusal::Variable(name.try_copy(alloc)?)))
+        }
+        _ => Ok(()),
+    }
+}
+
+/// Checks the names of a map that may be there.
+fn check_values(alloc: Global, scope: &Scope, map: &Option<Map>) -> Result<(), ScopeFault>
+    ensures { Answers result (first_of Refusal.Variable (unknown_in_map scope.now map.now)) }
+{
+    match map {
+        None => Ok(()),
+        Some(items) => check_map(alloc, scope, items.as_slice()),
+    }
+}
+
+/// Checks the variable of a node or an edge of an INSERT, and the names of its map, which sees the incoming columns alone.
+#[tactic(auto, using(crate::proofs::RefusalLemmas::first_of_in_two))]
+pub fn check_fill(
+    alloc: Global,
+    incoming: &Scope,
+    fresh: &Scope,
+    kind: ColumnKind,
+    fill: &Fill,
+) -> Result<(), ScopeFault>
+    ensures { Answers result (first_of Refusal.Variable (misplaced (incoming.now ++ fresh.now) kind fill.now fill.now.variable ++ unknown_in_map incoming.now fill.now.map)) }
+{
+    check_variable(alloc, incoming, fresh, kind, fill)?;
+    check_values(alloc, incoming, &fill.map)
+}
+
+/// Checks the names of INSERT.
+#[tactic(auto, using(crate::proofs::SpotLemmas::unknown_is_first))]
+fn check_insert(alloc: Global, scope: &Scope, paths: &[InsertPath]) -> Result<(), ScopeFault>
+    ensures { Answers result (first_of Refusal.Variable (unknown_in_spots scope.now scope.now (insert_spots paths.now))) }
+{
+    check_spots(alloc, SpotQuestion::Names, scope, paths)
+}
+
+/// Checks that a target is a column.
+fn check_target(alloc: Global, scope: &Scope, name: &Text) -> Result<(), ScopeFault>
+    ensures { Answers result (first_of Refusal.Variable (missing scope.now name.now)) }
+{
+    if scope.contains(name) {
+        return Ok(());
+    }
+    Err(ScopeFault::Defect(Refusal::Variable(name.try_copy(alloc)?)))
+}
+
+/// Checks that a target is a column, and then the names of the value that it gets.
+#[tactic(auto, using(crate::proofs::RefusalLemmas::first_of_in_two))]
+fn check_assignment(
+    alloc: Global,
+    scope: &Scope,
+    name: &Text,
+    value: &Expr,
+) -> Result<(), ScopeFault>
+    ensures { Answers result (first_of Refusal.Variable (missing scope.now name.now ++ unknown_in_expr scope.now value.now)) }
+{
+    check_target(alloc, scope, name)?;
+    check_names(alloc, scope, value)
+}
+
+/// Checks the names of an item of SET.
+fn check_set_item(alloc: Global, scope: &Scope, item: &SetItem) -> Result<(), ScopeFault>
+    ensures { Answers result (first_of Refusal.Variable (unknown_in_set scope.now item.now)) }
+{
+    match item {
+        SetItem::Property(name, _, value) => check_assignment(alloc, scope, name, value),
+        SetItem::Label(name, _) => check_target(alloc, scope, name),
+    }
+}
+
+/// Checks the names of SET.
+#[tactic(auto, using(crate::proofs::RefusalLemmas::first_of_in_two))]
+fn check_set(alloc: Global, scope: &Scope, items: &[SetItem]) -> Result<(), ScopeFault>
+    ensures { Answers result (first_of Refusal.Variable (flat_map (unknown_in_set scope.now) items.now)) }
+{
+    for item in items {
+        check_set_item(alloc, scope, item)?;
+    }
+    Ok(())
+}
+
+/// Checks the name of an item of REMOVE.
+fn check_remove_item(alloc: Global, scope: &Scope, item: &RemoveItem) -> Result<(), ScopeFault>
+    ensures { Answers result (first_of Refusal.Variable (unknown_in_remove scope.now item.now)) }
+{
+    match item {
+        RemoveItem::Property(name, _) | RemoveItem::Label(name, _) => {
+            check_target(alloc, scope, name)
+        }
+    }
+}
+
+/// Checks the names of REMOVE.
+#[tactic(auto, using(crate::proofs::RefusalLemmas::first_of_in_two))]
+fn check_remove(alloc: Global, scope: &Scope, items: &[RemoveItem]) -> Result<(), ScopeFault>
+    ensures { Answers result (first_of Refusal.Variable (flat_map (unknown_in_remove scope.now) items.now)) }
+{
+    for item in items {
+        check_remove_item(alloc, scope, item)?;
+    }
+    Ok(())
+}
+
+/// Checks the names of DELETE.
+#[tactic(auto, using(crate::proofs::RefusalLemmas::first_of_in_two))]
+fn check_delete(alloc: Global, scope: &Scope, names: &[Text]) -> Result<(), ScopeFault>
+    ensures { Answers result (first_of Refusal.Variable (flat_map (missing scope.now) names.now)) }
+{
+    for name in names {
+        check_target(alloc, scope, name)?;
+    }
+    Ok(())
+}
+
+/// Checks the names of a clause that changes data.
+pub fn check_change(alloc: Global, scope: &Scope, change: &ChangeClause) -> Result<(), ScopeFault>
+    ensures { Answers result (first_of Refusal.Variable (unknown_in_change scope.now change.now)) }
+{
+    match change {
+        ChangeClause::Insert(paths) => check_insert(alloc, scope, paths.as_slice()),
+        ChangeClause::Set(items) => check_set(alloc, scope, items.as_slice()),
+        ChangeClause::Remove(items) => check_remove(alloc, scope, items.as_slice()),
+        ChangeClause::Delete(_, names) => check_delete(alloc, scope, names.as_slice()),
+    }
+}

@@ -1,0 +1,5 @@
+use Rattle.gql_graph.proofs.SharedGraph.{graph_sync}
+use Rattle.gql_session.proofs.query.read_on.Goals as goal
+
+pub read_query-requires-sync-V : goal.read_query-requires-sync-V
+read_query-requires-sync-V c κs = record { shared = graph_sync.shared }

@@ -1,0 +1,141 @@
+//! INSERT.
+
+ghost use Rattle.std.specs.Prelude.{◌≡◌, ◌<◌, ◌≤◌, length, IfOk};
+ghost use Rattle.gql_front.specs.Gives.{Gives, Takes};
+ghost use Rattle.gql_front.specs.Reading.{op_at};
+ghost use Rattle.gql_statements.specs.ChangeGrammar.{closing_of};
+ghost use Rattle.gql_statements.specs.ChangeWords.{arrow_in};
+ghost use Rattle.gql_statements.specs.ChangeReaders.{between_of, insert_edge_of, insert_step_of, insert_steps_of, insert_paths_of};
+
+use crate::fill::fill;
+use crate::item::{Item, list};
+use gql_ast::{Arrow, Fill, InsertPath, InsertStep, ParseFault};
+use gql_front::symbols::{
+    CLOSING, CLOSING_BRACKET, LEFT_ARROW, MINUS, OPENING, OPENING_BRACKET, RIGHT_ARROW, TILDE,
+};
+use gql_front::{NoFront, after_sign};
+use gql_lexer::Lexeme;
+use gql_values3::{OutOfMemory, Sequence};
+use std::alloc::Global;
+
+/// A node, and as many steps as there are.
+impl Item for InsertPath {
+    ghost use Rattle.gql_statements.specs.ChangeReaders.{insert_path_of};
+
+    ghost reader = { insert_path_of };
+
+    #[tactic(auto, unfolding(crate::specs::ChangeReaders::insert_path_of))]
+    fn read<'a>(
+        alloc: Global,
+        rest: &'a [Lexeme],
+    ) -> Result<(InsertPath, &'a [Lexeme]), ParseFault> {
+        let (start, rest) = between(alloc, OPENING, CLOSING, rest)?;
+        let (steps, rest) = insert_steps(alloc, rest)?;
+        Ok((InsertPath { start, steps }, rest))
+    }
+}
+
+/// The paths of an INSERT, behind that word.
+#[tactic(auto, unfolding(crate::specs::ChangeReaders::insert_paths_of))]
+pub fn insert_paths<'a>(
+    alloc: Global,
+    rest: &'a [Lexeme],
+) -> Result<(Sequence<InsertPath>, &'a [Lexeme]), ParseFault>
+    ensures given { Gives (λ x. (x.0, x.1.now)) result (insert_paths_of rest.now) }
+    ensures shorter { IfOk result (λ x. length x.1.now < length rest.now) }
+{
+    list(alloc, rest)
+}
+
+/// As many steps as there are.
+fn insert_steps<'a>(
+    alloc: Global,
+    start: &'a [Lexeme],
+) -> Result<(Sequence<InsertStep>, &'a [Lexeme]), OutOfMemory>
+    ensures given { IfOk result (λ x. (x.0, x.1.now) ≡ insert_steps_of start.now) }
+    ensures shorter { IfOk result (λ x. length x.1.now ≤ length start.now) }
+{
+    let mut steps = Sequence::new(alloc);
+    let mut rest = start;
+    'more: loop {
+        match insert_step(alloc, rest) {
+            Ok((step, behind)) => {
+                steps.push(step)?;
+                rest = behind;
+            }
+            Err(ParseFault::Syntax) => return Ok((steps, rest)),
+            Err(ParseFault::Deep) => unreachable!(),
+            Err(ParseFault::OutOfMemory) => return Err(OutOfMemory),
+        }
+    }
+}
+
+/// An edge, and the node to which it leads.
+#[tactic(auto, unfolding(crate::specs::ChangeReaders::insert_step_of))]
+fn insert_step<'a>(
+    alloc: Global,
+    rest: &'a [Lexeme],
+) -> Result<(InsertStep, &'a [Lexeme]), ParseFault>
+    ensures given { Gives (λ x. (x.0, x.1.now)) result (insert_step_of rest.now) }
+    ensures shorter { IfOk result (λ x. length x.1.now < length rest.now) }
+{
+    let ((arrow, edge), rest) = insert_edge(alloc, rest)?;
+    let (node, rest) = between(alloc, OPENING, CLOSING, rest)?;
+    Ok((InsertStep { arrow, edge, node }, rest))
+}
+
+/// An edge in its symbols.
+#[tactic(auto, unfolding(crate::specs::ChangeReaders::insert_edge_of))]
+fn insert_edge<'a>(
+    alloc: Global,
+    rest: &'a [Lexeme],
+) -> Result<((Arrow, Fill), &'a [Lexeme]), ParseFault>
+    ensures given { Gives (λ x. (x.0, x.1.now)) result (insert_edge_of rest.now) }
+    ensures shorter { IfOk result (λ x. length x.1.now < length rest.now) }
+{
+    let (arrow, rest) = arrow_at(rest)?;
+    let (edge, rest) = between(alloc, OPENING_BRACKET, CLOSING_BRACKET, rest)?;
+    let rest = after_sign(closing_of(arrow), rest)?;
+    Ok(((arrow, edge), rest))
+}
+
+/// The direction, by the symbol before the brackets.
+fn arrow_at(rest: &[Lexeme]) -> Result<(Arrow, &[Lexeme]), NoFront>
+    ensures given { Takes (λ x. (x.0, x.1.now)) result (op_at arrow_in rest.now) }
+    ensures shorter { IfOk result (λ x. length x.1.now < length rest.now) }
+{
+    match rest {
+        [Lexeme::Sign(MINUS), rest @ ..] => Ok((Arrow::Right, rest)),
+        [Lexeme::Sign(LEFT_ARROW), rest @ ..] => Ok((Arrow::Left, rest)),
+        [Lexeme::Sign(TILDE), rest @ ..] => Ok((Arrow::Undirected, rest)),
+        _ => Err(NoFront),
+    }
+}
+
+/// The symbol behind the brackets.
+fn closing_of(arrow: Arrow) -> u32
+    ensures { result ≡ closing_of arrow }
+{
+    match arrow {
+        Arrow::Right => RIGHT_ARROW,
+        Arrow::Left => MINUS,
+        Arrow::Undirected => TILDE,
+    }
+}
+
+/// What stands between two symbols.
+#[tactic(auto, unfolding(crate::specs::ChangeReaders::between_of))]
+fn between<'a>(
+    alloc: Global,
+    first: u32,
+    last: u32,
+    rest: &'a [Lexeme],
+) -> Result<(Fill, &'a [Lexeme]), ParseFault>
+    ensures given { Gives (λ x. (x.0, x.1.now)) result (between_of first last rest.now) }
+    ensures shorter { IfOk result (λ x. length x.1.now < length rest.now) }
+{
+    let rest = after_sign(first, rest)?;
+    let (element, rest) = fill(alloc, rest)?;
+    let rest = after_sign(last, rest)?;
+    Ok((element, rest))
+}
