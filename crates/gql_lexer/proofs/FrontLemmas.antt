@@ -169,6 +169,27 @@ dash-symbol (b ∷ bs) h p q =
     let P : ℕ → Type 0 = λ b. symbol_at (b ∷ bs) ≡ front (b ∷ bs) in
     subst P (sym p) (sym (front-dash bs (λ h. q (omega arith))))
 
+-- bytes that begin several symbols and nothing else
+pub at-60 : (bs : List ℕ) → symbol_at (60 ∷ bs) ≡ front (60 ∷ bs)
+unfolding front
+at-60 bs = rw (no-name 60 bs refl) refl
+
+pub at-62 : (bs : List ℕ) → symbol_at (62 ∷ bs) ≡ front (62 ∷ bs)
+unfolding front
+at-62 bs = rw (no-name 62 bs refl) refl
+
+pub at-126 : (bs : List ℕ) → symbol_at (126 ∷ bs) ≡ front (126 ∷ bs)
+unfolding front
+at-126 bs = rw (no-name 126 bs refl) refl
+
+pub at-58 : (bs : List ℕ) → symbol_at (58 ∷ bs) ≡ front (58 ∷ bs)
+unfolding front
+at-58 bs = rw (no-name 58 bs refl) refl
+
+pub at-124 : (bs : List ℕ) → symbol_at (124 ∷ bs) ≡ front (124 ∷ bs)
+unfolding front
+at-124 bs = rw (no-name 124 bs refl) refl
+
 -- any other mark
 pub mark-symbol : (bs : List ℕ) → 0 < length bs → IsMark (get_or bs 0 0) → get_or bs 0 0 ≢ 39 → get_or bs 0 0 ≢ 34 → get_or bs 0 0 ≢ 96
     → get_or bs 0 0 ≢ 36 → get_or bs 0 0 ≢ 47 → get_or bs 0 0 ≢ 45 → symbol_at bs ≡ front bs

@@ -6,7 +6,7 @@ ghost use Rattle.gql_lexer.specs.Shapes.{Tells};
 ghost use Rattle.gql_lexer.specs.Firsts.{is_letter, IsMark};
 
 use crate::lengths::{block_length, digits_length, line_length, name_length, quoted_length};
-use crate::symbol::{lone_place, symbol};
+use crate::symbol::{lone_place, shared, symbol};
 
 /// Which form of the language some bytes are.
 #[derive(Clone, Copy, Debug, PartialEq, Eq)]
@@ -74,27 +74,30 @@ fn no_lone(rest: &[u8]) -> Front
     ensures { result ≡ front rest.now }
 {
     if is_blank(rest[0]) {
-        Front::new(Shape::Gap, 1)
-    } else {
-        by_sort(rest)
+        return Front::new(Shape::Gap, 1);
+    }
+    if is_letter(rest[0]) {
+        return letters(rest);
+    }
+    match shared(rest) {
+        Some(found) => found,
+        None => by_sort(rest),
     }
 }
 
-/// The longest form at a byte that is no white space, by the sort of that byte.
+/// The longest form at a byte that is no white space and no letter, by the sort of that byte.
 #[inline(never)]
 fn by_sort(rest: &[u8]) -> Front
     requires some_bytes { 0 < length rest.now }
     requires no_blank { is_blank (slice_index rest.now 0) ≡ false }
+    requires no_letter { is_letter (slice_index rest.now 0) ≡ false }
     ensures { result ≡ front rest.now }
 {
-    let first = rest[0];
-    if is_letter(first) {
-        return letters(rest);
+    if rest[0].is_ascii_digit() {
+        Front::new(Shape::Digits, digits_length(rest))
+    } else {
+        marked(rest)
     }
-    if first.is_ascii_digit() {
-        return Front::new(Shape::Digits, digits_length(rest));
-    }
-    marked(rest)
 }
 
 /// Whether the byte is white space.

@@ -11,22 +11,45 @@ static SYMBOLS: [&str; 34] = [
     "+", "*", "/", "%", "(", ")", "[", "]", "{", "}", ",", ":", ".", "&", "|", "!", "?", ";",
 ];
 
-/// The longest symbol at the front, or one bad byte. Where three bytes do not tell it, all symbols are tried.
+/// The longest symbol at the front, or one bad byte. Where the first two bytes do not tell it, all symbols are tried.
 #[inline(always)]
 pub fn symbol(rest: &[u8]) -> Front
     requires { 0 < length rest.now }
     ensures { result ≡ longest (symbols_from 0 symbols rest.now) (form Bad 1) }
 {
-    match by_three(rest) {
+    match by_two(rest) {
         Some(found) => found,
         None => first_among(SYMBOLS.as_slice(), rest),
     }
 }
 
-/// The longest symbol by three bytes, if there are so many and the first begins several symbols or is `/`.
+/// The longest symbol by two bytes, if there are so many and the first begins comments too.
 #[inline(always)]
-fn by_three(rest: &[u8]) -> Option<Front>
+fn by_two(rest: &[u8]) -> Option<Front>
     ensures { IfSome result (λ found. found ≡ longest (symbols_from 0 symbols rest.now) (form Bad 1)) }
+{
+    match rest {
+        [first, second, ..] => beside_comments(*first, *second),
+        _ => None,
+    }
+}
+
+/// The longest symbol of two bytes and others, if the first begins comments too.
+#[inline(always)]
+fn beside_comments(first: u8, second: u8) -> Option<Front>
+    ensures { IfSome result (λ found. (bs : List ℕ) → found ≡ longest (symbols_from 0 symbols (first ∷ second ∷ bs)) (form Bad 1)) }
+{
+    match first {
+        b'-' => Some(at_minus(second)),
+        b'/' => Some(sign(18, 1)),
+        _ => None,
+    }
+}
+
+/// The longest form at the front, if three bytes are there and the first begins several symbols and nothing else.
+#[inline(always)]
+pub fn shared(rest: &[u8]) -> Option<Front>
+    ensures { IfSome result (λ found. found ≡ front rest.now) }
 {
     match rest {
         [first, second, third, ..] => several(*first, *second, *third),
@@ -34,19 +57,17 @@ fn by_three(rest: &[u8]) -> Option<Front>
     }
 }
 
-/// The longest symbol of three bytes and others, if the first begins several symbols or is `/`.
+/// The longest form of three bytes and others, if the first begins several symbols and nothing else.
 #[inline(always)]
 fn several(first: u8, second: u8, third: u8) -> Option<Front>
-    ensures { IfSome result (λ found. (bs : List ℕ) → found ≡ longest (symbols_from 0 symbols (first ∷ second ∷ third ∷ bs)) (form Bad 1)) }
+    ensures { IfSome result (λ found. (bs : List ℕ) → found ≡ front (first ∷ second ∷ third ∷ bs)) }
 {
     match first {
         b'<' => Some(at_less(second, third)),
-        b'-' => Some(at_minus(second)),
         b'>' => Some(at_greater(second)),
         b'~' => Some(at_tilde(second)),
         b':' => Some(at_colon(second)),
         b'|' => Some(at_bar(second, third)),
-        b'/' => Some(sign(18, 1)),
         _ => None,
     }
 }
