@@ -37,6 +37,10 @@ pub mod storing;
 pub mod supply;
 pub mod swapping;
 pub mod target;
+#[cfg(test)]
+mod test_clauses;
+#[cfg(test)]
+mod tests;
 pub mod work;
 
 pub use acting::{apply, reserve, undo};
