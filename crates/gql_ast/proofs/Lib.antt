@@ -1,6 +1,7 @@
 pub mod EscapeLemmas
 pub mod HeightLemmas
 pub mod LabelLemmas
+pub mod LastClause
 pub mod MeaningLemmas
 pub mod NumberLemmas
 pub mod PatternLemmas

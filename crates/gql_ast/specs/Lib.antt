@@ -29,6 +29,7 @@ pub mod Outputs
 pub mod RowAggregates
 pub mod ClauseColumns
 pub mod InsertColumns
+pub mod LastClause
 pub mod Projections
 pub mod UnknownNames
 pub mod WrongKinds

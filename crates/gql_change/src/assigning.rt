@@ -2,7 +2,6 @@
 
 ghost use Rattle.std.specs.Prelude.{◌≡◌, ◌++◌, option_to_list, OnOk};
 ghost use Rattle.gql_values3.specs.Meaning.{datum_of};
-ghost use Rattle.gql_values3.specs.PropertyGraph.{is_storable};
 ghost use Rattle.gql_ast.specs.Scope.{row_scope};
 ghost use Rattle.gql_eval.specs.Gives.{Gives};
 ghost use Rattle.gql_change.specs.RowSteps.{each_some};
@@ -10,10 +9,10 @@ ghost use Rattle.gql_change.specs.Assignments.{set_by, removed_by, set_assignmen
 ghost use Rattle.gql_ast.specs.declared.change.SetItem.TheVariants as set_item;
 
 use crate::assignment::{Act, Assignment};
+use crate::storing::is_storable;
 use crate::target::target_in;
 use gql_ast::{DataFault, Expr, RemoveItem, SetItem};
 use gql_eval::{EvalError, value};
-use gql_graph::storable::is_property;
 use gql_values3::{Columns, OutOfMemory, Params, Row, Rows, Sequence, Text, Value, View};
 use std::alloc::Global;
 
@@ -114,13 +113,6 @@ fn set_property<V: View>(
             }))
         }
     }
-}
-
-/// Whether the value may be stored: no element and no path, alone or inside a list.
-pub fn is_storable(value: &Value) -> bool
-    ensures { result ≡ is_storable (datum_of value.now) 64 }
-{
-    value.is_null() || is_property(value)
 }
 
 /// Adds at the end.

@@ -6,11 +6,10 @@ ghost use Rattle.gql_eval.specs.Gives.{Gives};
 ghost use Rattle.gql_change.specs.Insertion.{map_values};
 ghost use Rattle.gql_change.specs.Roles.{item_value, pair_of};
 ghost use Rattle.gql_change.specs.Storing.{stored};
-ghost use Rattle.gql_values3.specs.PropertyGraph.{is_storable};
 
+use crate::storing::is_storable;
 use gql_ast::{DataFault, MapItem};
 use gql_eval::{EvalError, Heading, value_under};
-use gql_graph::storable::is_property;
 use gql_values3::{Params, Properties, Row, Sequence, Text, Value, View};
 use std::alloc::Global;
 
@@ -52,15 +51,9 @@ fn item_value<V: View>(
 fn stored(value: Value) -> Result<Value, EvalError>
     ensures { Gives datum_of result (stored (datum_of value)) }
 {
-    if is_kept(&value) {
+    if is_storable(&value) {
         Ok(value)
     } else {
         Err(EvalError::Fault(DataFault::WrongKind))
     }
-}
-
-fn is_kept(value: &Value) -> bool
-    ensures { result ≡ is_storable (datum_of value.now) 64 }
-{
-    value.is_null() || is_property(value)
 }

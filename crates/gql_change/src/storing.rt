@@ -2,11 +2,20 @@
 
 ghost use Rattle.std.specs.Prelude.{◌≡◌, map, length, OnOk};
 ghost use Rattle.gql_values3.specs.Meaning.{datum_of};
+ghost use Rattle.gql_values3.specs.PropertyGraph.{is_storable};
 ghost use Rattle.gql_change.specs.Places.{place_among, IsWithin};
 ghost use Rattle.gql_change.specs.Storing.{put_property, without_property, with_property, put_label, without_label};
 
+use gql_graph::storable::is_property;
 use gql_values3::{OutOfMemory, Text, Value};
 use std::cmp::Ordering;
+
+/// Whether the value may be stored: no element and no path, alone or inside a list.
+pub fn is_storable(value: &Value) -> bool
+    ensures { result ≡ is_storable (datum_of value.now) 64 }
+{
+    value.is_null() || is_property(value)
+}
 
 /// Puts the property among the others in order, in the place of one of its name.
 pub fn put_property(

@@ -1,4 +1,3 @@
 pub mod BoundLemmas
 pub mod CandidateLemmas
 pub mod Examples
-pub mod LastClause

@@ -1,6 +1,6 @@
 -- A query: its clauses act one after the other, each on the graph and the table that the one before left. The first
 -- refusal ends it.
-use Rattle.std.specs.Prelude.{ℕ, Bool, true, false, List, [], ◌∷◌, map, Option, Some, None, Result, Ok, Err, if◌then◌else◌}
+use Rattle.std.specs.Prelude.{ℕ, Bool, List, [], ◌∷◌, map, Option, Some, None, Result, Ok, Err, if◌then◌else◌}
 use Rattle.std.specs.List.{list_any}
 use Rattle.gql_values3.specs.Datum.{Datum}
 use Rattle.gql_values3.specs.PropertyGraph.{PropertyGraph}
@@ -9,6 +9,7 @@ use Rattle.gql_values3.specs.declared.table.Table.{Table}
 use Rattle.gql_ast.specs.Faults.{◌>>=◌}
 use Rattle.gql_ast.specs.ClauseColumns.{ColumnList, match_columns}
 use Rattle.gql_ast.specs.InsertColumns.{change_columns}
+use Rattle.gql_ast.specs.LastClause.{is_change, ends_in_change}
 use Rattle.gql_ast.specs.declared.clause.Clause.{Clause}
 use Rattle.gql_ast.specs.declared.clause.Clause.TheVariants as clause
 use Rattle.gql_ast.specs.declared.clause.Query.{Query}
@@ -74,19 +75,9 @@ module _ (params : List (List ℕ × Datum)) where
 abbrev pub query_run : PropertyGraph → List (List ℕ × Datum) → Query → Result Working Refusal
 query_run g params q = behind_clauses params (beginning g) q.clauses
 
-abbrev pub is_change : Clause → Bool
-is_change (clause.Change c) = true
-is_change _ = false
-
 -- some clause of the query changes data
 abbrev pub changes_data : Query → Bool
 changes_data q = list_any is_change q.clauses
-
--- the last clause changes data
-abbrev pub ends_in_change : List Clause → Bool
-ends_in_change [] = false
-ends_in_change (c ∷ []) = is_change c
-ends_in_change (c ∷ d ∷ cs) = ends_in_change (d ∷ cs)
 
 -- a query that ends in a change shows no table
 abbrev pub answer_table : Query → Working → Option Table

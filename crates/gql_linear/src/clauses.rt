@@ -3,7 +3,8 @@
 ghost use Rattle.std.specs.Prelude.{◌≡◌, [], ◌∷◌, false, IfOk};
 ghost use Rattle.std.specs.List.{list_any};
 ghost use Rattle.gql_eval.specs.Gives.{Gives};
-ghost use Rattle.gql_linear.specs.QueryRun.{beginning, read_clause, behind_clause, behind_clauses, is_change, with_change};
+ghost use Rattle.gql_ast.specs.LastClause.{is_change};
+ghost use Rattle.gql_linear.specs.QueryRun.{beginning, read_clause, behind_clause, behind_clauses, with_change};
 ghost use Rattle.gql_linear.specs.Runs.{Acts};
 ghost use Rattle.gql_change.specs.Changing.{change_of};
 ghost use Rattle.gql_ast.specs.InsertColumns.{change_columns};

@@ -1,11 +1,11 @@
 ghost use Rattle.std.specs.Prelude.{◌≡◌, false, map, IfOk};
 ghost use Rattle.gql_values3.specs.PropertyGraph.{PropertyGraph};
-ghost use Rattle.gql_linear.specs.QueryRun.{query_run, shown_table, answer_table, changes_data, ends_in_change, is_change};
+ghost use Rattle.gql_linear.specs.QueryRun.{query_run, shown_table, answer_table, changes_data};
 ghost use Rattle.gql_linear.specs.Runs.{Runs};
 
 use crate::answer::{Answer, RunFault};
 use crate::clauses::{acted_on, table_behind};
-use gql_ast::{Clause, Query};
+use gql_ast::{Query, ends_in_change, is_change};
 use gql_graph::Edit;
 use gql_values3::{Columns, Names, OutOfMemory, Params, Rows, Table, View};
 use std::alloc::Global;
@@ -48,12 +48,6 @@ pub fn changes_data(query: &Query) -> bool
     query.clauses.as_slice().iter().any(is_change)
 }
 
-fn is_change(clause: &Clause) -> bool
-    ensures { result ≡ is_change clause.now }
-{
-    matches!(clause, Clause::Change(_))
-}
-
 /// The answer with its table, if it has one.
 fn answered(
     alloc: Global,
@@ -70,16 +64,6 @@ fn answered(
     Ok(Answer {
         table: Some(Table { columns, rows }),
     })
-}
-
-/// Whether the last clause changes data.
-fn ends_in_change(clauses: &[Clause]) -> bool
-    ensures { result ≡ ends_in_change clauses.now }
-{
-    match clauses.last() {
-        Some(clause) => is_change(clause),
-        None => false,
-    }
 }
 
 fn names_of(alloc: Global, columns: Columns) -> Result<Names, OutOfMemory>

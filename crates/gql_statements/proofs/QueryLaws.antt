@@ -21,7 +21,8 @@ use Rattle.gql_statements.specs.ClauseGrammar.{IsClause, IsLast}
 use Rattle.gql_statements.specs.QueryGrammar.{is_page, no_pages_meet, AreClauses, IsQuery}
 use Rattle.gql_statements.specs.ClauseReaders.{begun, clause_of}
 use Rattle.gql_statements.specs.ReturnReaders.{return_of}
-use Rattle.gql_statements.specs.QueryReaders.{clauses_of, is_change, ends_in_change, return_or_change, ended_of, query_of}
+use Rattle.gql_ast.specs.LastClause.{is_change, ends_in_change}
+use Rattle.gql_statements.specs.QueryReaders.{clauses_of, return_or_change, ended_of, query_of}
 use Rattle.gql_statements.proofs.PartLaws.{Stops, bind_then, finish, passes_after, after_passes, word_apart, passes_stops}
 use Rattle.gql_statements.proofs.ManyLaws.{many_none, many_next, many_sound}
 use Rattle.gql_statements.proofs.PageLaws.{goes_page}

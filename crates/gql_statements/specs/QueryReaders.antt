@@ -1,9 +1,10 @@
 -- QueryReaders: reading queries.
-use Rattle.std.specs.Prelude.{Bool, true, false, cond, List, [], ◌∷◌, ◌++◌, length, Option, Some, None}
+use Rattle.std.specs.Prelude.{cond, List, [], ◌∷◌, ◌++◌, length, Option, Some, None}
 use Rattle.gql_lexer.specs.declared.lexeme.Lexeme.{Lexeme}
 use Rattle.gql_ast.specs.declared.clause.Clause.{Clause}
 use Rattle.gql_ast.specs.declared.clause.Clause.TheVariants as clause
 use Rattle.gql_ast.specs.declared.clause.Query.{Query}
+use Rattle.gql_ast.specs.LastClause.{ends_in_change}
 use Rattle.gql_front.specs.WordPlaces.{RETURN}
 use Rattle.gql_front.specs.Reading.{◌>>=◌, Reader, is_word, after, many}
 use Rattle.gql_statements.specs.QueryGrammar.{no_pages_meet}
@@ -13,16 +14,6 @@ use Rattle.gql_statements.specs.ReturnReaders.{return_of}
 -- as many clauses as there are
 unfoldable pub clauses_of : List Lexeme → List Clause × List Lexeme
 clauses_of ts = many clause_of (length ts) ts
-
-abbrev pub is_change : Clause → Bool
-is_change (clause.Change c) = true
-is_change _ = false
-
--- the last clause is a change
-abbrev pub ends_in_change : List Clause → Bool
-ends_in_change [] = false
-ends_in_change (c ∷ []) = is_change c
-ends_in_change (c ∷ d ∷ cs) = ends_in_change (d ∷ cs)
 
 -- Return as the last clause; without it, the last clause is a change
 abbrev pub return_or_change : List Clause → List Lexeme → Option (List Lexeme) → Option (List Clause × List Lexeme)

@@ -3,11 +3,11 @@
 ghost use Rattle.std.specs.Prelude.{◌≡◌, ◌<◌, ◌≤◌, ◌+◌, length, IfOk};
 ghost use Rattle.gql_front.specs.Gives.{Gives};
 ghost use Rattle.gql_statements.specs.QueryGrammar.{is_page, no_pages_meet};
-ghost use Rattle.gql_statements.specs.QueryReaders.{is_change, ends_in_change, clauses_of, ended_of, query_of};
+ghost use Rattle.gql_statements.specs.QueryReaders.{clauses_of, ended_of, query_of};
 
 use crate::clause::clause;
 use crate::return_clause::returned;
-use gql_ast::{Clause, ParseFault, Query};
+use gql_ast::{Clause, ParseFault, Query, ends_in_change};
 use gql_front::words::RETURN;
 use gql_front::{NoFront, after_word};
 use gql_lexer::Lexeme;
@@ -76,23 +76,6 @@ fn ended<'a>(
             }
         }
     }
-}
-
-/// Whether the last clause is a change.
-fn ends_in_change(clauses: &[Clause]) -> bool
-    ensures { result ≡ ends_in_change clauses.now }
-{
-    match clauses.last() {
-        Some(last) => is_change(last),
-        None => false,
-    }
-}
-
-/// Whether the clause is a change.
-fn is_change(clause: &Clause) -> bool
-    ensures { result ≡ is_change clause.now }
-{
-    matches!(clause, Clause::Change(_))
 }
 
 /// Whether no two Page clauses stand side by side.

@@ -2,7 +2,7 @@
 use Rattle.std.proofs.Common.{◌≡◌, ℕ, suc, ◌-◌, List, [], ◌∷◌, length, Option, Some, None, slice_get, refl, sym, ap, ◌∙◌, arith}
 use Rattle.std.specs.Prelude.{unwrap_or}
 use Rattle.gql_ast.specs.declared.clause.Clause.{Clause}
-use Rattle.gql_linear.specs.QueryRun.{is_change, ends_in_change}
+use Rattle.gql_ast.specs.LastClause.{is_change, ends_in_change}
 
 last_at : (c : Clause) (cs : List Clause) → (x : Clause) × (slice_get (c ∷ cs) (length cs) ≡ Some x) × (is_change x ≡ ends_in_change (c ∷ cs))
 last_at c [] = (c, refl, refl)
