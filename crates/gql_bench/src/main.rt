@@ -10,10 +10,14 @@ mod evaluation;
 #[cfg(test)]
 mod examples;
 mod lexer;
+#[cfg(test)]
+mod limits;
 mod parsing;
 #[cfg(test)]
 mod postfix;
 mod scope;
+#[cfg(test)]
+mod small_graph;
 mod tables;
 
 use anyhow::{Result, bail};
