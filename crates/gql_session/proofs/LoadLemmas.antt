@@ -1,8 +1,6 @@
 -- A record at fault, as reading tells it and as loading does.
-use Rattle.std.proofs.Common.{◌≡◌, ◌⊎◌, ℕ, zero, suc, ◌+◌, false, List, [], ◌∷◌, ◌++◌, take, slice_get, Some, None, inl, inr, ap, IsTrue, add-one}
-use Rattle.gql_rowcode.specs.declared.fault.ReadFault.{ReadFault}
+use Rattle.std.proofs.Common.{◌≡◌, ◌⊎◌, ℕ, zero, suc, ◌+◌, false, List, [], ◌∷◌, ◌++◌, take, slice_get, Some, inl, inr, ap, IsTrue, add-one}
 use Rattle.gql_rowcode.specs.declared.fault.ReadFault.TheVariants as read
-use Rattle.gql_session.specs.declared.load.LoadFault.{LoadFault}
 use Rattle.gql_session.specs.declared.load.LoadFault.TheVariants as load
 
 pub told_again : (j i : ℕ) → (read.BadRecord j ≡ read.BadRecord i) ⊎ (read.BadRecord j ≡ read.OutOfMemory) → (load.BadRecord j ≡ load.BadRecord i) ⊎ IsTrue false

@@ -1,7 +1,7 @@
 -- A run of a text, piece by piece. Key idea: so many of its pieces were run, and the run of these is one.
-use Rattle.std.proofs.Common.{◌≡◌, ◌⊎◌, ℕ, zero, suc, ◌+◌, ◌<◌, Bool, true, false, ◌||◌, List, [], ◌∷◌, ◌++◌, length, take, map, get_or, Option, Some, None, Result, Ok, Err, refl, ap, sym, ◌∙◌, inl, inr, append_assoc, append-nil, add-one, arith, subst}
+use Rattle.std.proofs.Common.{◌≡◌, ℕ, zero, suc, ◌+◌, ◌<◌, Bool, true, false, ◌||◌, List, [], ◌∷◌, ◌++◌, length, take, map, get_or, Option, Some, None, Result, Ok, Err, refl, ap, sym, ◌∙◌, inl, inr, append_assoc, append-nil, add-one, arith, subst}
 use Rattle.std.specs.Prelude.{unwrap_or, IsErr, IsErrAnd}
-use Rattle.std.specs.List.{list_any, flat_map}
+use Rattle.std.specs.List.{list_any}
 use Rattle.std.proofs.lemmas.List.{length-map}
 use Rattle.gql_lexer.specs.declared.piece.Piece.{Piece}
 use Rattle.gql_lexer.specs.Pieces.{pieces_of}
@@ -12,7 +12,7 @@ use Rattle.gql_session.specs.Pieces.{session_pieces}
 use Rattle.gql_session.specs.Outcomes.{outcome_texts, is_refusal}
 use Rattle.gql_session.specs.SessionState.{SessionState}
 use Rattle.gql_session.specs.SessionRun.{Step, RunsSession, begun, one_more}
-use Rattle.gql_session.specs.Endings.{RanWhole, RanFirst, RanAndFailed, RanPiece, FailedPiece, PieceFault, TextFault, TextEnding}
+use Rattle.gql_session.specs.Endings.{RanWhole, RanFirst, RanPiece, FailedPiece, PieceFault, TextFault, TextEnding}
 use Rattle.gql_session.specs.declared.run_pieces.RunFault.{RunFault}
 use Rattle.gql_session.specs.declared.run_pieces.RunFault.TheVariants as fault
 

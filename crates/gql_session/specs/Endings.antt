@@ -1,15 +1,12 @@
 -- What stands at each ending of a run: which pieces were run, and what was written.
-use Rattle.std.specs.Prelude.{◌≡◌, ℕ, ◌⊎◌, Bool, true, false, Result, Ok, Err, MatchResult, List, [], ◌∷◌, ◌++◌, length, take, Option, Some, None}
+use Rattle.std.specs.Prelude.{◌≡◌, ℕ, ◌⊎◌, Bool, true, false, Result, Ok, Err, MatchResult, List, [], ◌∷◌, ◌++◌, length, take, Option, Some}
 use Rattle.std.specs.List.{list_any}
-use Rattle.gql_graph.specs.Catalog.{CatalogData}
 use Rattle.gql_ast.specs.declared.refusal.Outcome.{Outcome}
 use Rattle.gql_text.specs.OutcomeText.{outcome_text}
 use Rattle.gql_session.specs.Pieces.{session_pieces}
 use Rattle.gql_session.specs.Outcomes.{outcome_texts, is_refusal}
 use Rattle.gql_session.specs.SessionState.{SessionState}
 use Rattle.gql_session.specs.SessionRun.{RunsSession, Step}
-use Rattle.gql_session.specs.Meaning.{state_of}
-use Rattle.gql_session.specs.declared.state.Session.{Session}
 use Rattle.gql_session.specs.declared.status.Status.{Status}
 use Rattle.gql_session.specs.declared.status.Status.TheVariants as status
 use Rattle.gql_session.specs.declared.run_pieces.RunFault.{RunFault}

@@ -1,4 +1,4 @@
-use Rattle.std.proofs.Common.{◌≡◌, ◌≤◌, Some, length, take}
+use Rattle.std.proofs.Common.{◌≡◌, ◌≤◌, Some, take}
 use Rattle.gql_ports.specs.Held.{Holding}
 use Rattle.gql_session.proofs.load.fetch_all.Given as goal
 

@@ -1,8 +1,7 @@
-use Rattle.std.proofs.Common.{◌≡◌, ◌∷◌, [], ◌++◌, ◌∙◌, List, ap, map, not}
+use Rattle.std.proofs.Common.{◌≡◌, ◌∷◌, [], ◌++◌, ◌∙◌, ap, map, not}
 use Rattle.std.specs.List.{filter}
 use Rattle.gql_values3.specs.Meaning.{datum_of}
 use Rattle.gql_values3.specs.Texts.{same_text}
-use Rattle.gql_session.specs.SessionState.{set_parameter}
 use Rattle.gql_session.proofs.ParameterLemmas.{set_seen}
 use Rattle.gql_session.proofs.parameters.with_parameter.Goals as goal
 

@@ -1,4 +1,4 @@
-use Rattle.std.proofs.Common.{◌≡◌, ◌<◌, ◌∙◌, ◌++◌, length, get_or, ap, arith, sym}
+use Rattle.std.proofs.Common.{◌≡◌, ◌<◌, ◌∙◌, ◌++◌, length, get_or, ap, arith}
 use Rattle.gql_lexer.specs.Pieces.{pieces_of}
 use Rattle.gql_session.specs.Outcomes.{outcome_texts}
 use Rattle.gql_session.specs.SessionState.{starting}

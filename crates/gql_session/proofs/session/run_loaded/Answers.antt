@@ -1,6 +1,4 @@
-use Rattle.std.proofs.Common.{List, ℕ, subst}
 use Rattle.gql_session.specs.SessionState.{starting}
-use Rattle.gql_session.specs.RunEnds.{LoadedEndsAs}
 use Rattle.gql_session.proofs.EndingLemmas.{loaded_ends}
 use Rattle.gql_session.proofs.session.run_loaded.Goals as goal
 
