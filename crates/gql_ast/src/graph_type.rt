@@ -1,14 +1,5 @@
 use crate::change::Arrow;
-use gql_values3::{Names, Scalar, Sequence, Text};
-
-/// What a property may hold by its type.
-#[derive(Clone, Copy, Debug, PartialEq, Eq)]
-pub enum PropertyKind {
-    /// A value.
-    One(Scalar),
-    /// A list of such values, and NULL among them unless `required`, which NOT NULL behind the item says.
-    Many { item: Scalar, required: bool },
-}
+use gql_values3::{Names, PropertyKind, Sequence, Text};
 
 /// A property of an element of a graph type. `required` is NOT NULL behind its type.
 #[derive(Drop)]

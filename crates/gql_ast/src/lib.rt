@@ -36,7 +36,7 @@ pub use clause::{Clause, Counting, For, LetItem, LetItems, Match, Query};
 pub use expr::{Expr, Exprs, Step, Steps, Sub};
 pub use fault::DataFault;
 pub use filler::{Condition, Filler, Map, MapItem};
-pub use graph_type::{ElementBody, PropertyKind, TypeBody, TypeElement, TypeProperty};
+pub use graph_type::{ElementBody, TypeBody, TypeElement, TypeProperty};
 pub use label::{LabelExpr, LabelList, LabelSub};
 pub use last_clause::{ends_in_change, is_change};
 pub use mode::Mode;

@@ -1,5 +1,5 @@
 -- A catalog's graphs with their room, and without it.
-use Rattle.std.proofs.Common.{◌≡◌, ◌∙◌, ℕ, ◌<◌, ◌≤◌, nat_lt, cond, Bool, true, false, ◌&&◌, List, [], ◌∷◌, map, length, get_or, None, Some, refl, sym, ap, arith}
+use Rattle.std.proofs.Common.{◌≡◌, ◌∙◌, ℕ, suc, ◌<◌, ◌≤◌, nat_lt, cond, Bool, true, false, ◌&&◌, List, [], ◌∷◌, map, length, get_or, None, Some, refl, sym, ap, arith}
 use Rattle.std.specs.Prelude.{find, option_map, position, slice_set}
 use Rattle.std.specs.List.{list_all, position_or_len}
 use Rattle.std.specs.declared.cmp.Ordering.{Ordering}
@@ -12,12 +12,15 @@ use Rattle.gql_values3.specs.Texts.{same_text, ascend_above, texts_ascend}
 use Rattle.std.proofs.lemmas.Grind.{common_steps}
 use Rattle.std.proofs.lemmas.Bool.Decides.{nat_tests}
 use Rattle.gql_values3.specs.PropertyGraph.{PropertyGraph, is_graph}
-use Rattle.gql_graph.specs.Catalog.{is_sound, replaced}
-use Rattle.gql_graph.specs.Room.{HeldGraph, bare}
+use Rattle.gql_graph.specs.Catalog.{CatalogGraph, is_untyped, are_none, is_sound, replaced}
+use Rattle.gql_graph.specs.Room.{GraphInMemory}
+use Rattle.gql_graph.specs.Bare.{bare}
+use Rattle.gql_graph.specs.declared.graph_type.GraphType.{GraphType}
+use Rattle.gql_graph.specs.declared.held.Held.{Held}
 use Rattle.gql_graph.proofs.GraphLemmas.{first_true, second_true}
 
 -- what is found by the name is the same
-pub find-bare : (p : List ℕ → Bool) (gs : List (List ℕ × HeldGraph)) → option_map (λ (g : HeldGraph). g.graph) (option_map (λ (g : List ℕ × HeldGraph). g.1) (find (λ (g : List ℕ × HeldGraph). p g.0) gs)) ≡ option_map (λ (g : List ℕ × PropertyGraph). g.1) (find (λ (g : List ℕ × PropertyGraph). p g.0) (map bare gs))
+pub find-bare : (p : List ℕ → Bool) (gs : List (List ℕ × Held)) → option_map (λ (g : GraphInMemory). g.graph) (option_map (λ (g : List ℕ × Held). g.1.graph) (find (λ (g : List ℕ × Held). p g.0) gs)) ≡ option_map (λ (g : List ℕ × CatalogGraph). g.1.graph) (find (λ (g : List ℕ × CatalogGraph). p g.0) (map bare gs))
 find-bare p [] = refl
 find-bare p (g ∷ gs) = grind (arith, common_steps, find-bare p gs)
 
@@ -39,15 +42,23 @@ not_same a b true is lt =
     absurd (cc)
 
 -- one graph in the place of that of the name
-abbrev put : List ℕ → PropertyGraph → List (List ℕ × PropertyGraph) → List (List ℕ × PropertyGraph)
-put name graph gs = (replaced name graph (record { graphs = gs })).graphs
+abbrev put : List ℕ → PropertyGraph → List (List ℕ × CatalogGraph) → List (List ℕ × CatalogGraph)
+put name graph gs = (replaced name graph (record { graphs = gs; types = [] })).graphs
 
 abbrev pub names : {A : Type 0} → List (List ℕ × A) → List (List ℕ)
 names {A} gs = map (λ (g : List ℕ × A). g.0) gs
 
+-- what is said of each graph of a sound catalog
+abbrev pub is_held : List ℕ × CatalogGraph → Bool
+is_held g = is_graph g.1.graph && is_untyped g.1
+
+-- what is found behind the first item is found one place later
+behind_first : {A : Type 0} (p : A → Bool) (a : A) (xs : List A) → p a ≡ false → position_or_len p (a ∷ xs) ≡ suc (position_or_len p xs)
+behind_first p a xs fails = rw fails (omega arith)
+
 module _ (name : List ℕ) (graph : PropertyGraph) where
   -- behind the name no graph has it
-  rest_stays : (low : List ℕ) (gs : List (List ℕ × HeldGraph)) → ((c : List ℕ) → is_lt (order low c) ≡ true → is_lt (order name c) ≡ true) → ascend_above low (names gs) ≡ true → put name graph (map bare gs) ≡ map bare gs
+  rest_stays : (low : List ℕ) (gs : List (List ℕ × Held)) → ((c : List ℕ) → is_lt (order low c) ≡ true → is_lt (order name c) ≡ true) → ascend_above low (names gs) ≡ true → put name graph (map bare gs) ≡ map bare gs
   rest_stays low [] below up = refl
   rest_stays low (g ∷ gs) below up =
       let less : is_lt (order name g.0) ≡ true = below g.0 (first_true _ (ascend_above g.0 (names gs)) up) in
@@ -59,20 +70,34 @@ module _ (name : List ℕ) (graph : PropertyGraph) where
   rest_ascends low [] up = refl
   rest_ascends low (t ∷ ts) up = second_true (is_lt (order low t)) _ up
 
-  abbrev named : List ℕ × HeldGraph → Bool
+  abbrev named : List ℕ × Held → Bool
   named g = same_text name g.0
 
-  stays : (gs : List (List ℕ × HeldGraph)) → length gs ≤ position_or_len named gs → map bare gs ≡ put name graph (map bare gs)
+  stays : (gs : List (List ℕ × Held)) → length gs ≤ position_or_len named gs → map bare gs ≡ put name graph (map bare gs)
   stays [] past = refl
   stays (g ∷ gs) past = grind (arith, common_steps, stays gs)
 
-  changes : (gs : List (List ℕ × HeldGraph)) (room : HeldGraph) (x : List ℕ × HeldGraph) → room.graph ≡ graph → texts_ascend (names gs) ≡ true → position_or_len named gs < length gs → x ≡ get_or gs (position_or_len named gs) x → map bare (slice_set gs (position_or_len named gs) (x.0, room)) ≡ put name graph (map bare gs)
+  -- one more graph with its type in that of the name
+  abbrev with_room : GraphInMemory → List ℕ × Held → List ℕ × Held
+  with_room room x = (x.0, record { graph = room; kind = x.1.kind })
+
+  first_put : (room : GraphInMemory) (g x : List ℕ × Held) → room.graph ≡ graph → x ≡ g → bare (with_room room x) ≡ (g.0, record { graph = graph; kind = g.1.kind })
+  first_put room g x is same = ap (λ (y : List ℕ × Held). bare (with_room room y)) same ∙ ap (λ (h : PropertyGraph). (g.0, record { graph = h; kind = g.1.kind })) is
+
+  changes : (gs : List (List ℕ × Held)) (room : GraphInMemory) (x : List ℕ × Held) → room.graph ≡ graph → texts_ascend (names gs) ≡ true → position_or_len named gs < length gs → x ≡ get_or gs (position_or_len named gs) x → map bare (slice_set gs (position_or_len named gs) (with_room room x)) ≡ put name graph (map bare gs)
   changes [] room x is up within here = absurd (omega arith)
-  changes (g ∷ gs) room x is up within here =
-      let last : same_text name g.0 ≡ true → put name graph (map bare gs) ≡ map bare gs =
-      λ same. rest_stays g.0 gs (λ c lt. ap (λ (n : List ℕ). is_lt (order n c)) (texts.same_text name g.0 (sym same)) ∙ lt) up in
-      let rest = changes gs room x is (rest_ascends g.0 (names gs) up) in
-      grind (arith, common_steps, last, rest)
+  changes (g ∷ gs) room x is up within here = told (same_text name g.0) refl (λ within here. changes gs room x is (rest_ascends g.0 (names gs) up) within here)
+    where
+      told : (b : Bool) → same_text name g.0 ≡ b → (position_or_len named gs < length gs → x ≡ get_or gs (position_or_len named gs) x → map bare (slice_set gs (position_or_len named gs) (with_room room x)) ≡ put name graph (map bare gs)) → map bare (slice_set (g ∷ gs) (position_or_len named (g ∷ gs)) (with_room room x)) ≡ put name graph (map bare (g ∷ gs))
+      told true same further =
+          let last : put name graph (map bare gs) ≡ map bare gs = rest_stays g.0 gs (λ c lt. ap (λ (n : List ℕ). is_lt (order n c)) (texts.same_text name g.0 (sym same)) ∙ lt) up in
+          let put_here = first_put room g x is (rw same at here) in
+          rw same (rw (last, put_here) refl)
+      told false apart further =
+          let past = behind_first named g gs apart in
+          let far : position_or_len named gs < length gs = let lt = rw past at within in omega (arith, lt) in
+          let rest = further far (rw past at here) in
+          rw (past, apart) (ap (λ xs. bare g ∷ xs) rest)
 
   below : (l n : ℕ) → nat_lt l n ≡ true → l < n
   below l n lt = grind (arith, nat_tests)
@@ -88,37 +113,39 @@ module _ (name : List ℕ) (graph : PropertyGraph) where
       told false is found = absurd (cc)
 
   -- where no graph has the name, all stay
-  pub put_nowhere : (gs : List (List ℕ × HeldGraph)) → None ≡ position named gs → map bare gs ≡ put name graph (map bare gs)
+  pub put_nowhere : (gs : List (List ℕ × Held)) → None ≡ position named gs → map bare gs ≡ put name graph (map bare gs)
   put_nowhere gs none = stays gs (past_end _ _ none)
 
   -- where one has it, that one is another
-  pub put_there : (gs : List (List ℕ × HeldGraph)) (i : ℕ) (room : HeldGraph) (x : List ℕ × HeldGraph) → room.graph ≡ graph → texts_ascend (names gs) ≡ true → Some i ≡ position named gs → x ≡ get_or gs i x → map bare (slice_set gs i (x.0, room)) ≡ put name graph (map bare gs)
+  pub put_there : (gs : List (List ℕ × Held)) (i : ℕ) (room : GraphInMemory) (x : List ℕ × Held) → room.graph ≡ graph → texts_ascend (names gs) ≡ true → Some i ≡ position named gs → x ≡ get_or gs i x → map bare (slice_set gs i (x.0, record { graph = room; kind = x.1.kind })) ≡ put name graph (map bare gs)
   put_there gs i room x is up found here =
       let at = in_front (position_or_len named gs) (length gs) i found in
       rw at.1 (changes gs room x is up at.0 (rw at.1 at here))
 
   -- the names stay, and each graph is one
-  names-put : (gs : List (List ℕ × PropertyGraph)) → names (put name graph gs) ≡ names gs
+  names-put : (gs : List (List ℕ × CatalogGraph)) → names (put name graph gs) ≡ names gs
   names-put [] = refl
   names-put (g ∷ gs) = grind (arith, common_steps, names-put gs)
 
-  graphs-put : is_graph graph ≡ true → (gs : List (List ℕ × PropertyGraph)) → list_all (λ (g : List ℕ × PropertyGraph). is_graph g.1) gs ≡ true → list_all (λ (g : List ℕ × PropertyGraph). is_graph g.1) (put name graph gs) ≡ true
+  graphs-put : is_graph graph ≡ true → (gs : List (List ℕ × CatalogGraph)) → list_all is_held gs ≡ true → list_all is_held (put name graph gs) ≡ true
   graphs-put one [] all = refl
   graphs-put one (g ∷ gs) all =
-      let rest = graphs-put one gs (second_true (is_graph g.1) _ all) in
-      put_one (same_text name g.0) g one (first_true (is_graph g.1) _ all) rest
+      let rest = graphs-put one gs (second_true (is_held g) _ all) in
+      put_one (same_text name g.0) g one (first_true (is_held g) _ all) rest
     where
-      put_one : (b : Bool) (g : List ℕ × PropertyGraph) → is_graph graph ≡ true → is_graph g.1 ≡ true → {r : Bool} → r ≡ true → (is_graph (cond b (g.0, graph) g).1 && r) ≡ true
-      put_one true g one old rest = cc
+      put_one : (b : Bool) (g : List ℕ × CatalogGraph) → is_graph graph ≡ true → is_held g ≡ true → {r : Bool} → r ≡ true → (is_held (cond b (g.0, record { graph = graph; kind = g.1.kind }) g) && r) ≡ true
+      put_one true g one old rest = let free : is_untyped g.1 ≡ true = second_true (is_graph g.1.graph) _ old in cc
       put_one false g one old rest = cc
 
-  pub sound-put : (gs : List (List ℕ × PropertyGraph)) → is_graph graph ≡ true → is_sound (record { graphs = gs }) ≡ true → is_sound (record { graphs = put name graph gs }) ≡ true
-  sound-put gs one sound =
-      let ascend : texts_ascend (names (put name graph gs)) ≡ true = rw (names-put gs) (first_true _ (list_all (λ (g : List ℕ × PropertyGraph). is_graph g.1) gs) sound) in
-      let all = graphs-put one gs (second_true (texts_ascend (names gs)) _ sound) in
+  pub sound-put : (gs : List (List ℕ × CatalogGraph)) (ts : List (List ℕ × GraphType)) → is_graph graph ≡ true → is_sound (record { graphs = gs; types = ts }) ≡ true → is_sound (record { graphs = put name graph gs; types = ts }) ≡ true
+  sound-put gs ts one sound =
+      let of_graphs : (texts_ascend (names gs) && list_all is_held gs) ≡ true = first_true _ (are_none ts) sound in
+      let no_types : are_none ts ≡ true = second_true (texts_ascend (names gs) && list_all is_held gs) _ sound in
+      let ascend : texts_ascend (names (put name graph gs)) ≡ true = rw (names-put gs) (first_true _ (list_all is_held gs) of_graphs) in
+      let all = graphs-put one gs (second_true (texts_ascend (names gs)) _ of_graphs) in
       cc
 
 -- a catalog's names
-pub names-bare : (gs : List (List ℕ × HeldGraph)) → names (map bare gs) ≡ names gs
+pub names-bare : (gs : List (List ℕ × Held)) → names (map bare gs) ≡ names gs
 names-bare [] = refl
 names-bare (g ∷ gs) = ap (λ ts. g.0 ∷ ts) (names-bare gs)

@@ -9,7 +9,7 @@ use Rattle.gql_values3.specs.declared.records.EdgeRecord.{EdgeRecord}
 use Rattle.gql_graph.specs.declared.change.Change.{Change}
 use Rattle.gql_graph.specs.declared.change.Change.TheVariants as change
 use Rattle.gql_graph.specs.Edits.{node_key, edge_key, changed, holds_along}
-use Rattle.gql_graph.specs.Room.{HeldGraph, has_room}
+use Rattle.gql_graph.specs.Room.{GraphInMemory, has_room}
 use Rattle.gql_graph.specs.Made.{Made, adds_node, adds_edge}
 use Rattle.gql_graph.proofs.GraphLemmas.{first_true, second_true}
 use Rattle.gql_graph.proofs.EditLemmas.{shorter, longer, as_long}
@@ -25,18 +25,18 @@ is_at_most : (a b : ℕ) → nat_le a b ≡ true → a ≤ b
 is_at_most a b le = grind (arith, nat_tests)
 
 -- there is room where the lists are no longer than it
-pub has : (held : HeldGraph) (g : PropertyGraph) → length g.nodes ≤ held.node_room → length g.edges ≤ held.edge_room → has_room held g ≡ true
+pub has : (held : GraphInMemory) (g : PropertyGraph) → length g.nodes ≤ held.node_room → length g.edges ≤ held.edge_room → has_room held g ≡ true
 has held g nodes edges = both (at_most _ _ nodes) (at_most _ _ edges)
 
 -- room for one more
-pub room_for_node : (held : HeldGraph) (r : NodeRecord) → has_room held (changed (change.BackNode r) held.graph) ≡ true → suc (length held.graph.nodes) ≤ held.node_room
+pub room_for_node : (held : GraphInMemory) (r : NodeRecord) → has_room held (changed (change.BackNode r) held.graph) ≡ true → suc (length held.graph.nodes) ≤ held.node_room
 room_for_node held r room = omega (arith, longer node_key r held.graph.nodes, is_at_most _ _ (first_true (nat_le (length (changed (change.BackNode r) held.graph).nodes) held.node_room) _ room))
 
-pub room_for_edge : (held : HeldGraph) (r : EdgeRecord) → has_room held (changed (change.BackEdge r) held.graph) ≡ true → suc (length held.graph.edges) ≤ held.edge_room
+pub room_for_edge : (held : GraphInMemory) (r : EdgeRecord) → has_room held (changed (change.BackEdge r) held.graph) ≡ true → suc (length held.graph.edges) ≤ held.edge_room
 room_for_edge held r room = omega (arith, longer edge_key r held.graph.edges, is_at_most _ _ (second_true (nat_le (length held.graph.nodes) held.node_room) _ room))
 
 -- a change that leads to its graph, and is undone, is made
-pub made : (before after : HeldGraph) (c d : Change) → is_graph before.graph ≡ true → Undone before.graph c d → after.graph ≡ changed c before.graph → before.node_room ≡ after.node_room → before.edge_room ≡ after.edge_room → length before.graph.nodes ≤ before.node_room → length before.graph.edges ≤ before.edge_room → Made before c after d
+pub made : (before after : GraphInMemory) (c d : Change) → is_graph before.graph ≡ true → Undone before.graph c d → after.graph ≡ changed c before.graph → before.node_room ≡ after.node_room → before.edge_room ≡ after.edge_room → length before.graph.nodes ≤ before.node_room → length before.graph.edges ≤ before.edge_room → Made before c after d
 made before after c d one undone leads nodes edges few_nodes few_edges = record {
   graph = leads;
   undoes = rw leads (both undone.suits (rw undone.back one), undone.back);
@@ -53,7 +53,7 @@ same_by : (p : Change → Bool) (c : Change) (cs : List Change) → p c ≡ fals
 same_by p c cs doesnt = grind (arith, common_steps)
 
 -- along changes the lists are at most as many items longer as changes add
-pub along : (held : HeldGraph) (cs : List Change) (g : PropertyGraph) → length g.nodes + count_by adds_node cs ≤ held.node_room → length g.edges + count_by adds_edge cs ≤ held.edge_room → holds_along (has_room held) cs g ≡ true
+pub along : (held : GraphInMemory) (cs : List Change) (g : PropertyGraph) → length g.nodes + count_by adds_node cs ≤ held.node_room → length g.edges + count_by adds_edge cs ≤ held.edge_room → holds_along (has_room held) cs g ≡ true
 along held [] g nodes edges = has held g (omega arith) (omega arith)
 along held (change.NewNode r ∷ cs) g nodes edges =
     both (has held g (omega arith) (omega arith))

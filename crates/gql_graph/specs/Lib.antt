@@ -1,5 +1,6 @@
 pub mod Ascending
 pub mod Catalog
+pub mod Bare
 pub mod Edits
 pub mod Room
 pub mod Made

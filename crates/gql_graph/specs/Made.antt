@@ -3,10 +3,10 @@ use Rattle.std.specs.Prelude.{◌≡◌, ℕ, suc, ◌≤◌, Bool, true, false,
 use Rattle.gql_graph.specs.declared.change.Change.{Change}
 use Rattle.gql_graph.specs.declared.change.Change.TheVariants as change
 use Rattle.gql_graph.specs.Edits.{changed, can_act}
-use Rattle.gql_graph.specs.Room.{HeldGraph, has_room}
+use Rattle.gql_graph.specs.Room.{GraphInMemory, has_room}
 
 -- the graph is the one behind the change, another change leads back, and no room is lost
-pub record Made (before : HeldGraph) (done : Change) (after : HeldGraph) (undo : Change) : Type 0 where
+pub record Made (before : GraphInMemory) (done : Change) (after : GraphInMemory) (undo : Change) : Type 0 where
   pub graph : after.graph ≡ changed done before.graph
   pub undoes : IsTrue (can_act undo after.graph) × (changed undo after.graph ≡ before.graph)
   pub node_room : before.node_room ≤ after.node_room

@@ -1,24 +1,27 @@
-ghost use Rattle.std.specs.Prelude.{◌≡◌, [], ◌∷◌, IfOk, IsTrue, map, option_map, find, position};
+ghost use Rattle.std.specs.Prelude.{◌≡◌, [], IfOk, IsTrue, map, option_map, find, position};
 ghost use Rattle.std.specs.Option.{option_copied};
 ghost use Rattle.gql_values3.specs.Texts.{same_text, texts_ascend};
-ghost use Rattle.gql_graph.specs.Room.{bare};
-ghost use Rattle.gql_graph.specs.Catalog.{graph_of, is_sound, initial_catalog, replaced};
+ghost use Rattle.gql_graph.specs.Bare.{bare};
+ghost use Rattle.gql_graph.specs.Catalog.{graph_of, is_sound, catalog_with, initial_catalog, replaced};
 
 use crate::graph::Graph;
+use crate::graph_type::GraphType;
+use crate::held::Held;
 use gql_values3::{OutOfMemory, Text};
 use std::alloc::Global;
 use std::marker::Model;
 
-/// Graphs by name, kept by ascending name.
+/// Graphs and graph types by name, both kept by ascending name. It has no graph types so far, and no graph has one.
 #[derive(Debug, Drop)]
 pub struct Catalog {
-    graphs: Vec<(Text, Graph)>,
+    graphs: Vec<(Text, Held)>,
+    types: Vec<(Text, GraphType)>,
 }
 
 impl Model for Catalog {
     ghost use Rattle.std.specs.Prelude.{◌≡◌, true, map};
     ghost use Rattle.gql_graph.specs.Catalog.{CatalogData, is_sound};
-    ghost use Rattle.gql_graph.specs.Room.{bare};
+    ghost use Rattle.gql_graph.specs.Bare.{bare};
 
     ghost Value = { CatalogData };
 
@@ -27,18 +30,19 @@ impl Model for Catalog {
 
     ghost coded = { Prim.hlevel (codes, coded_datum) };
 
-    ghost view = { λ c. record { graphs = map bare c.graphs.items } };
+    ghost view = { λ c. record { graphs = map bare c.graphs.items; types = c.types.items } };
 
-    ghost invariant = { λ c. is_sound (record { graphs = map bare c.graphs.items }) ≡ true };
+    ghost invariant = { λ c. is_sound (record { graphs = map bare c.graphs.items; types = c.types.items }) ≡ true };
 }
 
 impl Catalog {
     /// The catalog without graphs.
     pub fn new(alloc: Global) -> Catalog
-        ensures { result ≡ record { graphs = [] } }
+        ensures { result ≡ record { graphs = []; types = [] } }
     {
         Catalog {
             graphs: Vec::new(alloc),
+            types: Vec::new(alloc),
         }
     }
 
@@ -49,24 +53,29 @@ impl Catalog {
         Catalog::with_graph(alloc, "home", Graph::new(alloc))
     }
 
-    /// The catalog of one graph.
+    /// The catalog of one graph, which has no type.
     pub fn with_graph(alloc: Global, name: &str, graph: Graph) -> Result<Catalog, OutOfMemory>
-        ensures { IfOk result (λ c. c ≡ record { graphs = (name.now, graph.graph) ∷ [] }) }
+        ensures { IfOk result (λ c. c ≡ catalog_with name.now graph.graph) }
     {
         // The count's clause says that the graph is one.
         let _count = graph.count_nodes();
         let name = Text::from_str(alloc, name)?;
         let mut graphs = Vec::new(alloc);
-        graphs.push((name, graph))?;
-        Ok(Catalog { graphs })
+        graphs.push((name, Held::untyped(graph)))?;
+        Ok(Catalog {
+            graphs,
+            types: Vec::new(alloc),
+        })
     }
 
     /// An equal catalog.
     pub fn try_copy(&self, alloc: Global) -> Result<Catalog, OutOfMemory>
         ensures { IfOk result (λ copy. copy ≡ self.now) }
     {
+        // No graph types are there to copy.
         Ok(Catalog {
             graphs: copy_graphs(alloc, self.graphs.as_slice())?,
+            types: Vec::new(alloc),
         })
     }
 
@@ -88,33 +97,36 @@ impl Catalog {
     }
 }
 
-fn find_graph<'a>(graphs: &'a [(Text, Graph)], name: &str) -> Option<&'a Graph>
-    ensures { option_copied result ≡ option_map (λ g. g.1) (find (λ g. same_text name.now g.0) graphs.now) }
+fn find_graph<'a>(graphs: &'a [(Text, Held)], name: &str) -> Option<&'a Graph>
+    ensures { option_copied result ≡ option_map (λ g. g.1.graph) (find (λ g. same_text name.now g.0) graphs.now) }
 {
-    graphs.iter().find(|g| name == g.0.as_str()).map(|g| &g.1)
+    graphs
+        .iter()
+        .find(|g| name == g.0.as_str())
+        .map(|g| &g.1.graph)
 }
 
-fn copy_graphs(alloc: Global, graphs: &[(Text, Graph)]) -> Result<Vec<(Text, Graph)>, OutOfMemory>
+fn copy_graphs(alloc: Global, graphs: &[(Text, Held)]) -> Result<Vec<(Text, Held)>, OutOfMemory>
     ensures { IfOk result (λ copies. map bare copies.items ≡ map bare graphs.now) }
 {
     let mut copies = Vec::with_capacity(alloc, graphs.len())?;
-    for (name, graph) in graphs {
-        copies.push((name.try_copy(alloc)?, graph.try_copy(alloc)?))?;
+    for (name, held) in graphs {
+        copies.push((name.try_copy(alloc)?, held.try_copy(alloc)?))?;
     }
     Ok(copies)
 }
 
 // The names ascend, so at most one of them is the one that is looked for.
-fn put_graph(graphs: &mut Vec<(Text, Graph)>, name: &str, graph: Graph)
+fn put_graph(graphs: &mut Vec<(Text, Held)>, name: &str, graph: Graph)
     requires { IsTrue (texts_ascend (map (λ g. g.0) graphs.old.items)) }
-    ensures { map bare graphs.new.items ≡ (replaced name.now graph.graph (record { graphs = map bare graphs.old.items })).graphs }
+    ensures { map bare graphs.new.items ≡ (replaced name.now graph.graph (record { graphs = map bare graphs.old.items; types = [] })).graphs }
 {
     if let Some(at) = place_of(graphs.as_slice(), name) {
-        graphs[at].1 = graph;
+        graphs[at].1.graph = graph;
     }
 }
 
-fn place_of(graphs: &[(Text, Graph)], name: &str) -> Option<usize>
+fn place_of(graphs: &[(Text, Held)], name: &str) -> Option<usize>
     ensures { result ≡ position (λ g. same_text name.now g.0) graphs.now }
 {
     graphs.iter().position(|g| name == g.0.as_str())

@@ -32,9 +32,9 @@ pub struct Graph {
 impl Model for Graph {
     ghost use Rattle.std.specs.Prelude.{◌≡◌, true, vec_capacity};
     ghost use Rattle.gql_values3.specs.PropertyGraph.{is_graph};
-    ghost use Rattle.gql_graph.specs.Room.{HeldGraph};
+    ghost use Rattle.gql_graph.specs.Room.{GraphInMemory};
 
-    ghost Value = { HeldGraph };
+    ghost Value = { GraphInMemory };
 
     ghost use Rattle.std.specs.Coded.{codes};
     ghost use Rattle.gql_values3.specs.Datum.{coded_datum};

@@ -1,4 +1,4 @@
-//! The property graph in memory, and the catalog of graphs by name.
+//! The property graph in memory, and the catalog of graphs and graph types by name.
 //!
 //! A `Graph` is two lists of records and two numbers, seen as the `PropertyGraph` of gql_values3. The promise: every
 //! `Graph` is one, since `Graph::of` gives one exactly where `is_graph` holds, and each look-up answers what `View` says
@@ -13,6 +13,8 @@ pub mod edge_steps;
 pub mod edit;
 pub mod edits;
 pub mod graph;
+pub mod graph_type;
+pub mod held;
 pub mod lookup;
 pub mod names;
 pub mod node_list;
@@ -31,3 +33,5 @@ pub use change::{Change, Changes};
 pub use edit::Edit;
 pub use gql_values3::{EdgeRecord, NodeRecord};
 pub use graph::{EdgeRecords, Graph, NodeRecords};
+pub use graph_type::{EdgeType, GraphType, NodeType, PropertyType, PropertyTypes};
+pub use held::Held;

@@ -1,4 +1,4 @@
-use crate::{Catalog, EdgeRecord, Graph, NodeRecord};
+use crate::{Catalog, EdgeRecord, Graph, Held, NodeRecord};
 use gql_values3::{
     EdgeId, Elem, Ends, List, Names, NodeId, OutOfMemory, Properties, Sequence, Text, Value, View,
 };
@@ -176,5 +176,16 @@ fn the_first_catalog_has_an_empty_home(rt: HostRuntime) -> Result<(), Fail> {
     assert_eq!(rt; (home.next_node(), home.next_edge()), (1, 1));
     assert!(rt; catalog.graph("hom").is_none());
     assert!(rt; Catalog::new(rt.alloc()).graph("home").is_none());
+    Ok(())
+}
+
+#[test]
+fn a_copy_of_a_catalog_graph_keeps_its_type(rt: HostRuntime) -> Result<(), Fail> {
+    let alloc = rt.alloc();
+    let mut held = Held::untyped(Graph::new(alloc));
+    assert!(rt; held.try_copy(alloc)?.kind.is_none());
+    held.kind = Some(Text::from_str(alloc, "bank")?);
+    let kind = held.try_copy(alloc)?.kind.ok_or("no type")?;
+    assert_eq!(rt; kind.as_str(), "bank");
     Ok(())
 }

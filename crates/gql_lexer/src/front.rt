@@ -73,16 +73,25 @@ fn no_lone(rest: &[u8]) -> Front
     requires { 0 < length rest.now }
     ensures { result ≡ front rest.now }
 {
+    match shared(rest) {
+        Some(found) => found,
+        None => no_shared(rest),
+    }
+}
+
+/// The longest form, where the first byte mostly begins no symbol alone.
+#[inline(always)]
+fn no_shared(rest: &[u8]) -> Front
+    requires { 0 < length rest.now }
+    ensures { result ≡ front rest.now }
+{
     if is_blank(rest[0]) {
         return Front::new(Shape::Gap, 1);
     }
     if is_letter(rest[0]) {
         return letters(rest);
     }
-    match shared(rest) {
-        Some(found) => found,
-        None => by_sort(rest),
-    }
+    by_sort(rest)
 }
 
 /// The longest form at a byte that is no white space and no letter, by the sort of that byte.

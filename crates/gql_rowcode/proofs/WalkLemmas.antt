@@ -1,6 +1,6 @@
 -- The walk over records: what it passes stands for a catalog, what it stops at is the first fault, and the records of
 -- a catalog are passed.
-use Rattle.std.proofs.Common.{◌≡◌, ℕ, zero, suc, ◌+◌, ◌^◌, ◌<◌, ◌≤◌, true, ltb, List, [], ◌∷◌, ◌++◌, length, map, take, Option, Some, None, Result, Ok, Err, refl, sym, ap, subst, ◌∙◌, append_assoc, arith, inl, inr, ◌⊎◌}
+use Rattle.std.proofs.Common.{◌≡◌, ℕ, zero, suc, ◌+◌, ◌^◌, ◌<◌, ◌≤◌, Bool, true, false, ◌&&◌, not, is_some, ltb, List, [], ◌∷◌, ◌++◌, length, map, take, Option, Some, None, Result, Ok, Err, refl, sym, ap, subst, ◌∙◌, append_assoc, arith, inl, inr, ◌⊎◌}
 use Rattle.std.specs.Prelude.{slice_get}
 use Rattle.std.specs.List.{AllByRecursion, list_all}
 use Rattle.std.proofs.lemmas.Bool.{ltb-true, lt-ltb, and_parts, and_from}
@@ -8,7 +8,8 @@ use Rattle.std.proofs.lemmas.List.{append-nil}
 use Rattle.gql_values3.specs.Texts.{texts_ascend}
 use Rattle.gql_values3.specs.PropertyGraph.{PropertyGraph, numbers_ascend, are_numbers, are_properties, is_node_record, is_edge_record, are_nodes, are_edges, is_graph}
 use Rattle.gql_values3.specs.declared.records.NodeRecord.{NodeRecord}
-use Rattle.gql_graph.specs.Catalog.{CatalogData, is_sound, initial_catalog}
+use Rattle.gql_graph.specs.Catalog.{CatalogGraph, CatalogData, is_sound, catalog_with, initial_catalog}
+use Rattle.gql_graph.specs.declared.graph_type.GraphType.{GraphType}
 use Rattle.gql_ports.specs.declared.stored.Record.{Record}
 use Rattle.gql_rowcode.specs.Records.{Form, version, home_graph, home_node, home, record_of, IsForm}
 use Rattle.gql_rowcode.specs.StandFor.{node_record, graph_records, catalog_records, IsKeptNode, AreKept, StandFor}
@@ -180,12 +181,12 @@ seen_graph n e last nodes seen =
 pub seen_sound : (rs : List Record) (seen : Seen) → Knows rs seen → is_sound (catalog_of seen) ≡ true
 seen_sound rs Nothing k = refl
 seen_sound rs Version k = refl
-seen_sound rs (Graph n e last nodes) k = and_from (is_graph (graph_of n e nodes)) true (seen_graph n e last nodes k.0) refl
+seen_sound rs (Graph n e last nodes) k = let one = seen_graph n e last nodes k.0 in rw one refl
 
 -- and the records stand for it
 pub seen_stands : (rs : List Record) (seen : Seen) → Knows rs seen → StandFor rs (catalog_of seen)
 seen_stands rs Nothing k = subst (λ (b : List Record). StandFor b initial_catalog) (sym k) refl
-seen_stands rs Version k = subst (λ (b : List Record). StandFor b (record { graphs = [] })) (sym k) (refl, tt, refl)
+seen_stands rs Version k = subst (λ (b : List Record). StandFor b (record { graphs = []; types = [] })) (sym k) (refl, tt, refl)
 seen_stands rs (Graph n e last nodes) k =
     let sound = seen_sound rs (Graph n e last nodes) k in
     let c : CatalogData = catalog_of (Graph n e last nodes) in
@@ -250,20 +251,33 @@ walk_version = walk-more 0 Nothing Version (record_of version) [] (after_record 
 abbrev pub Finds : List Record → CatalogData → Type 0
 Finds rs c = (seen : Seen) × (walk 0 Nothing rs ≡ Ok seen) × (catalog_of seen ≡ c)
 
-walk_graphs : (gs : List (List ℕ × PropertyGraph)) → is_sound (record { graphs = gs }) ≡ true → AreKept gs → Finds (catalog_records (record { graphs = gs })) (record { graphs = gs })
-walk_graphs [] sound kept = (Version, walk_version, refl)
-walk_graphs (p ∷ []) sound kept =
-    let graph = (and_parts (is_graph p.1) true sound).0 in
-    let seen : Seen = Graph p.1.next_node p.1.next_edge (last_of 0 (numbers p.1.nodes)) p.1.nodes in
-    let records : catalog_records (record { graphs = p ∷ [] }) ≡ record_of version ∷ graph_records p.1 = ap (λ (x : List Record). record_of version ∷ x) (append-nil (graph_records p.1)) in
-    let whole : PropertyGraph = p.1 in
+-- a graph of a sound catalog is one, and has no type
+held_parts : (p : List ℕ × CatalogGraph) → is_sound (record { graphs = p ∷ []; types = [] }) ≡ true → (is_graph p.1.graph ≡ true) × (p.1.kind ≡ None)
+held_parts p sound = told p.1.kind (is_graph p.1.graph) refl sound
+  where
+    told : (k : Option (List ℕ)) (b : Bool) → is_graph p.1.graph ≡ b → (b && not (is_some k) && true && true) ≡ true → (is_graph p.1.graph ≡ true) × (k ≡ None)
+    told None true one all = (one, refl)
+    told None false one all = absurd (cc)
+    told (Some t) true one all = absurd (cc)
+    told (Some t) false one all = absurd (cc)
+
+walk_graphs : (gs : List (List ℕ × CatalogGraph)) (ts : List (List ℕ × GraphType)) → is_sound (record { graphs = gs; types = ts }) ≡ true → AreKept gs → Finds (catalog_records (record { graphs = gs; types = ts })) (record { graphs = gs; types = ts })
+walk_graphs [] [] sound kept = (Version, walk_version, refl)
+walk_graphs (p ∷ []) [] sound kept =
+    let parts = held_parts p sound in
+    let whole : PropertyGraph = p.1.graph in
+    let seen : Seen = Graph whole.next_node whole.next_edge (last_of 0 (numbers whole.nodes)) whole.nodes in
+    let records : catalog_records (record { graphs = p ∷ []; types = [] }) ≡ record_of version ∷ graph_records whole = ap (λ (x : List Record). record_of version ∷ x) (append-nil (graph_records whole)) in
     let edges_are : graph_of whole.next_node whole.next_edge whole.nodes ≡ whole = ap (λ es. record { nodes = whole.nodes; edges = es; next_node = whole.next_node; next_edge = whole.next_edge }) (sym kept.1.0) in
-    let same : catalog_of seen ≡ record { graphs = p ∷ [] } = ap (λ (g : PropertyGraph). record { graphs = (home, g) ∷ [] }) edges_are ∙ ap (λ (name : List ℕ). record { graphs = (name, p.1) ∷ [] }) (sym kept.0) in
-    (seen, ap (walk 0 Nothing) records ∙ walk_graph p.1 graph kept.1.1, same)
-walk_graphs (p ∷ q ∷ more) sound kept = absurd kept
+    let same : catalog_of seen ≡ record { graphs = p ∷ []; types = [] } = ap (λ (g : PropertyGraph). catalog_with home g) edges_are
+    ∙ ap (λ (name : List ℕ). catalog_with name whole) (sym kept.0)
+    ∙ ap (λ (kind : Option (List ℕ)). record { graphs = (p.0, record { graph = whole; kind = kind }) ∷ []; types = [] }) (sym parts.1) in
+    (seen, ap (walk 0 Nothing) records ∙ walk_graph whole parts.0 kept.1.1, same)
+walk_graphs (p ∷ q ∷ more) [] sound kept = absurd kept
+walk_graphs gs (t ∷ ts) sound kept = let some : false ≡ true = (and_parts _ false sound).1 in absurd (cc)
 
 -- records that stand for a catalog are read as it
 pub walk_stands : (rs : List Record) (c : CatalogData) → StandFor rs c → Finds rs c
 unfolding walk
 walk_stands [] c stands = (Nothing, refl, sym stands)
-walk_stands (r ∷ rs) c stands = subst (λ (x : List Record). Finds x c) (sym stands.2) (walk_graphs c.graphs stands.0 stands.1)
+walk_stands (r ∷ rs) c stands = subst (λ (x : List Record). Finds x c) (sym stands.2) (walk_graphs c.graphs c.types stands.0 stands.1)

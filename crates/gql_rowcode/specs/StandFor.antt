@@ -3,7 +3,7 @@ use Rattle.std.specs.Prelude.{◌≡◌, ℕ, List, [], ◌∷◌, map, IsTrue}
 use Rattle.std.specs.List.{flat_map, AllByRecursion}
 use Rattle.gql_values3.specs.PropertyGraph.{PropertyGraph}
 use Rattle.gql_values3.specs.declared.records.NodeRecord.{NodeRecord}
-use Rattle.gql_graph.specs.Catalog.{CatalogData, is_sound, initial_catalog}
+use Rattle.gql_graph.specs.Catalog.{CatalogGraph, CatalogData, is_sound, initial_catalog}
 use Rattle.gql_ports.specs.declared.stored.Record.{Record}
 use Rattle.gql_rowcode.specs.Records.{home, version, home_graph, home_node, record_of, IsForm}
 
@@ -17,7 +17,7 @@ graph_records g = record_of (home_graph g.next_node g.next_edge) ∷ map node_re
 
 -- the records of a catalog: the version, and those of its graph
 abbrev pub catalog_records : CatalogData → List Record
-catalog_records c = record_of version ∷ flat_map (λ (p : List ℕ × PropertyGraph). graph_records p.1) c.graphs
+catalog_records c = record_of version ∷ flat_map (λ (p : List ℕ × CatalogGraph). graph_records p.1.graph) c.graphs
 
 -- a node that can be kept: without properties, its labels texts
 abbrev pub IsKeptNode : NodeRecord → Type 0
@@ -28,9 +28,9 @@ abbrev pub IsKeptGraph : PropertyGraph → Type 0
 IsKeptGraph g = (g.edges ≡ []) × AllByRecursion IsKeptNode g.nodes
 
 -- a catalog that can be kept: sound, and it has no other graph than home, which can be
-abbrev pub AreKept : List (List ℕ × PropertyGraph) → Type 0
+abbrev pub AreKept : List (List ℕ × CatalogGraph) → Type 0
 AreKept [] = Unit {0}
-AreKept (p ∷ []) = (p.0 ≡ home) × IsKeptGraph p.1
+AreKept (p ∷ []) = (p.0 ≡ home) × IsKeptGraph p.1.graph
 AreKept (p ∷ q ∷ more) = ⊥
 
 -- The records stand for the catalog: none for the initial one, and else they are its records.

@@ -1,7 +1,7 @@
 -- Going over records from the first on: what they said so far, or the place of the first that can't stand there.
 use Rattle.std.specs.Prelude.{◌≡◌, ◌<◌, ℕ, suc, List, [], ◌∷◌, ◌++◌, length, slice_get, Option, Some, None, Result, Ok, Err, nat_lt, ◌&&◌, if◌then◌else◌}
 use Rattle.gql_values3.specs.declared.records.NodeRecord.{NodeRecord}
-use Rattle.gql_graph.specs.Catalog.{CatalogData, initial_catalog}
+use Rattle.gql_graph.specs.Catalog.{CatalogData, catalog_with, initial_catalog}
 use Rattle.gql_ports.specs.declared.stored.Record.{Record}
 use Rattle.gql_rowcode.specs.Records.{Form, version, home_graph, home_node, home, record_of, IsForm}
 use Rattle.gql_rowcode.specs.Reading.{◌>>=◌, form_at}
@@ -63,6 +63,6 @@ SpelledAsFar (Err (faults.BadRecord place)) records = AreSpelled place records
 -- the catalog that was seen
 abbrev pub catalog_of : Seen → CatalogData
 catalog_of Nothing = initial_catalog
-catalog_of Version = record { graphs = [] }
+catalog_of Version = record { graphs = []; types = [] }
 catalog_of (Graph next_node next_edge last nodes) =
-    record { graphs = (home, record { nodes = nodes; edges = []; next_node = next_node; next_edge = next_edge }) ∷ [] }
+    catalog_with home (record { nodes = nodes; edges = []; next_node = next_node; next_edge = next_edge })

@@ -56,11 +56,3 @@ pub enum Binding {
 
 /// The names of a match, each with what it stands for.
 pub type Bound = Sequence<(Text, Binding)>;
-
-/// The types of plain values that a query may name.
-#[derive(Clone, Copy, Debug, PartialEq, Eq)]
-pub enum Scalar {
-    Bool,
-    Int,
-    Text,
-}

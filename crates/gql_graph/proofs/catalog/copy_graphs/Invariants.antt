@@ -1,5 +1,5 @@
 use Rattle.std.proofs.Common.{◌≡◌, map, take}
-use Rattle.gql_graph.specs.Room.{bare}
+use Rattle.gql_graph.specs.Bare.{bare}
 use Rattle.gql_graph.proofs.catalog.copy_graphs.Given as goal
 
 abbrev pub invariant-loop-name : goal.invariant-loop-name

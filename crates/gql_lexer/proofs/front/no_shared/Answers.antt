@@ -1,6 +1,6 @@
 use Rattle.std.proofs.Common.{◌∙◌, sym, arith}
 use Rattle.gql_lexer.proofs.FrontLemmas.{blank-here}
-use Rattle.gql_lexer.proofs.front.no_lone.Goals as goal
+use Rattle.gql_lexer.proofs.front.no_shared.Goals as goal
 
 pub returns-then-is_blank : goal.returns-then-is_blank
 returns-then-is_blank c =

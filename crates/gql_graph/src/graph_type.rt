@@ -1,0 +1,43 @@
+//! Graph types: what the nodes and edges of a graph may be. No catalog has one before CREATE GRAPH TYPE is a statement.
+
+use gql_values3::{Names, PropertyKind, Sequence, Text};
+
+/// A property that a node or an edge may have.
+#[derive(Debug, Drop)]
+pub struct PropertyType {
+    pub name: Text,
+    pub kind: PropertyKind,
+    /// Whether each such node or edge has it.
+    pub required: bool,
+}
+
+/// Properties by strictly ascending name.
+pub type PropertyTypes = Sequence<PropertyType>;
+
+/// What a node may be: one that has exactly these labels, and no properties but these.
+#[derive(Debug, Drop)]
+pub struct NodeType {
+    /// Strictly ascending.
+    pub labels: Names,
+    pub properties: PropertyTypes,
+}
+
+/// What an edge may be, between nodes of two types.
+#[derive(Debug, Drop)]
+pub struct EdgeType {
+    pub is_directed: bool,
+    /// The place of the source's type among the node types, from 0; of either end's where the edge is undirected.
+    pub first: u64,
+    /// The place of the target's type, or of the other end's.
+    pub second: u64,
+    /// Strictly ascending.
+    pub labels: Names,
+    pub properties: PropertyTypes,
+}
+
+/// Each node of a graph of this type is one of the node types, and each edge one of the edge types.
+#[derive(Debug, Drop)]
+pub struct GraphType {
+    pub nodes: Sequence<NodeType>,
+    pub edges: Sequence<EdgeType>,
+}
