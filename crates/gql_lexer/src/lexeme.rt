@@ -65,30 +65,8 @@ fn is_gap(shape: Shape) -> bool
     }
 }
 
-/// Adds the lexeme that bytes of a shape mean. A symbol is known from its shape.
-#[inline(always)]
+/// Adds the lexeme that bytes of a shape mean.
 fn add(alloc: Global, all: &mut Lexemes, shape: Shape, bytes: &[u8]) -> Result<(), LexFault>
-    requires { Tells shape bytes.now }
-    ensures { Adds result all.old all.new (lexeme_of shape bytes.now) }
-{
-    match shape {
-        Shape::Symbol(place) => add_sign(all, place),
-        _ => add_meaning(alloc, all, shape, bytes),
-    }
-}
-
-/// Adds a symbol.
-#[inline(always)]
-fn add_sign(all: &mut Lexemes, place: u32) -> Result<(), LexFault>
-    ensures { Adds result all.old all.new (Some (Lexeme.Sign place)) }
-{
-    all.push(Lexeme::Sign(place))?;
-    Ok(())
-}
-
-/// Adds a lexeme that its bytes tell.
-#[inline(never)]
-fn add_meaning(alloc: Global, all: &mut Lexemes, shape: Shape, bytes: &[u8]) -> Result<(), LexFault>
     requires { Tells shape bytes.now }
     ensures { Adds result all.old all.new (lexeme_of shape bytes.now) }
 {
