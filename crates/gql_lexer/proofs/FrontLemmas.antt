@@ -4,21 +4,25 @@ use Rattle.std.specs.Option.{option_map, option_or}
 use Rattle.std.specs.List.{prefix_len}
 use Rattle.std.specs.Char.{is_ascii_digit, is_ascii_alphabetic}
 use Rattle.std.proofs.lemmas.Bool.{ne_eqb}
+use Rattle.std.proofs.lemmas.List.{drop_more}
 use Rattle.std.proofs.lemmas.Bool.Decides.{nat_tests}
 use Rattle.unicode_ident.proofs.IdentLemmas.{is_xid_start-ascii}
 use Rattle.bstr.specs.Utf8.{decoded}
 use Rattle.gql_lexer.specs.declared.front.Front.{Front}
 use Rattle.gql_lexer.specs.declared.front.Shape.{Shape}
 use Rattle.gql_lexer.specs.declared.front.Shape.TheVariants.{Gap, Plain, Ticked, Quoted, Digits, Symbol, Bad}
-use Rattle.gql_lexer.specs.Lengths.{line_length, block_length, quoted_length, first_passes, may_start, name_length}
+use Rattle.gql_lexer.specs.Lengths.{line_length, block_length, quoted_length, first_passes, may_start, name_length, continue_length}
 use Rattle.gql_lexer.specs.Forms.{form, front, closed, is_blank, blank, plain, ticked, digits, with_dollar, symbols, symbols_from, longer, longest}
-use Rattle.gql_lexer.specs.Firsts.{is_letter, IsMark}
-use Rattle.gql_lexer.proofs.SymbolLemmas.{and-both}
+use Rattle.gql_lexer.specs.Firsts.{is_ascii_start, is_letter, none_begins}
+use Rattle.gql_lexer.proofs.LengthLemmas.{ascii-name}
+
+pub and-both : (a b : Bool) → (a && b) ≡ true → (a ≡ true) × (b ≡ true)
+and-both true b h = (refl, h)
+and-both false b h = cc
 
 -- a list by its first item
-pub with-first : (bs : List ℕ) (b : ℕ) → 0 < length bs → get_or bs 0 0 ≡ b → bs ≡ b ∷ drop 1 bs
-with-first [] b h e = absurd (omega arith)
-with-first (a ∷ bs) b h e = ap (λ x. x ∷ bs) e
+pub first-of : (bs : List ℕ) → 0 < length bs → bs ≡ get_or bs 0 0 ∷ drop 1 bs
+first-of bs h = drop_more bs 0 0 h
 
 first-char : (b : ℕ) (bs : List ℕ) → b < 128 → (decoded (b ∷ bs)).char ≡ Some b
 first-char b bs h = rw (ne_eqb (length (b ∷ bs)) 0 (λ e. omega arith), lt-ltb b 128 h) refl
@@ -67,25 +71,6 @@ front-dashes : (bs : List ℕ) → front (45 ∷ 45 ∷ bs) ≡ form Gap (2 + li
 unfolding front symbols
 front-dashes bs = rw (no-name 45 (45 ∷ bs) refl) (longer-first (form Gap (2 + line_length bs)) (form (Symbol 11) 1) (omega arith))
 
--- the symbols alone
-abbrev pub symbol_at : List ℕ → Front
-symbol_at bs = longest (symbols_from 0 symbols bs) (form Bad 1)
-
-front-slash : (bs : List ℕ) → (1 ≤ length bs → get_or bs 0 0 ≢ 47) → (1 ≤ length bs → get_or bs 0 0 ≢ 42) → front (47 ∷ bs) ≡ symbol_at (47 ∷ bs)
-unfolding front
-front-slash [] p q = rw (no-name 47 [] refl) refl
-front-slash (c ∷ bs) p q =
-    let no_line : (47 == c) ≡ false = ne_eqb 47 c (λ e. p (omega arith) (sym e)) in
-    let no_block : (42 == c) ≡ false = ne_eqb 42 c (λ e. q (omega arith) (sym e)) in
-    rw (no-name 47 (c ∷ bs) refl, no_line, no_block) refl
-
-front-dash : (bs : List ℕ) → (1 ≤ length bs → get_or bs 0 0 ≢ 45) → front (45 ∷ bs) ≡ symbol_at (45 ∷ bs)
-unfolding front
-front-dash [] p = rw (no-name 45 [] refl) refl
-front-dash (c ∷ bs) p =
-    let no_line : (45 == c) ≡ false = ne_eqb 45 c (λ e. p (omega arith) (sym e)) in
-    rw (no-name 45 (c ∷ bs) refl, no_line) refl
-
 -- a string
 pub front-quoted : (bs : List ℕ) → 0 < length bs → (get_or bs 0 0 ≡ 39) ⊎ (get_or bs 0 0 ≡ 34)
     → closed Quoted (option_map (λ n. n + 2) (quoted_length (get_or bs 0 0) (drop 1 bs))) bs ≡ front bs
@@ -108,10 +93,6 @@ pub ticked-here : (bs : List ℕ) → 0 < length bs → get_or bs 0 0 ≡ 96
 ticked-here [] h e = absurd (omega arith)
 ticked-here (b ∷ bs) h e =
     let P : ℕ → Type 0 = λ b. Some (closed Ticked (option_map (λ n. n + 2) (quoted_length b bs)) (b ∷ bs)) ≡ ticked (b ∷ bs) in subst P (sym e) refl
-
-pub ticked-not : (bs : List ℕ) → (1 ≤ length bs → get_or bs 0 0 ≢ 96) → ticked bs ≡ None
-ticked-not [] h = refl
-ticked-not (b ∷ bs) h = let other : (96 == b) ≡ false = ne_eqb 96 b (λ e. h (omega arith) (sym e)) in rw other refl
 
 dollar-some : (f : Front) → longer (Some (with_dollar f)) (form Bad 1) ≡ with_dollar f
 dollar-some f = longer-first (with_dollar f) (form Bad 1) (omega arith)
@@ -156,51 +137,6 @@ dash-line (b ∷ c ∷ bs) h p q =
     let same : line_length bs + 2 ≡ 2 + line_length bs = omega arith in
     subst (λ b. P b c) (sym p) (subst (P 45) (sym q) (ap (form Gap) same ∙ sym (front-dashes bs)))
 
--- a `/` or a `-` that begins no comment
-pub slash-symbol : (bs : List ℕ) → 0 < length bs → get_or bs 0 0 ≡ 47 → (1 < length bs → (get_or bs 1 0 ≢ 47) × (get_or bs 1 0 ≢ 42)) → symbol_at bs ≡ front bs
-slash-symbol [] h p q = absurd (omega arith)
-slash-symbol (b ∷ bs) h p q =
-    let P : ℕ → Type 0 = λ b. symbol_at (b ∷ bs) ≡ front (b ∷ bs) in
-    subst P (sym p) (sym (front-slash bs (λ h. (q (omega arith)).0) (λ h. (q (omega arith)).1)))
-
-pub dash-symbol : (bs : List ℕ) → 0 < length bs → get_or bs 0 0 ≡ 45 → (1 < length bs → get_or bs 1 0 ≢ 45) → symbol_at bs ≡ front bs
-dash-symbol [] h p q = absurd (omega arith)
-dash-symbol (b ∷ bs) h p q =
-    let P : ℕ → Type 0 = λ b. symbol_at (b ∷ bs) ≡ front (b ∷ bs) in
-    subst P (sym p) (sym (front-dash bs (λ h. q (omega arith))))
-
--- bytes that begin several symbols and nothing else
-pub at-60 : (bs : List ℕ) → symbol_at (60 ∷ bs) ≡ front (60 ∷ bs)
-unfolding front
-at-60 bs = rw (no-name 60 bs refl) refl
-
-pub at-62 : (bs : List ℕ) → symbol_at (62 ∷ bs) ≡ front (62 ∷ bs)
-unfolding front
-at-62 bs = rw (no-name 62 bs refl) refl
-
-pub at-126 : (bs : List ℕ) → symbol_at (126 ∷ bs) ≡ front (126 ∷ bs)
-unfolding front
-at-126 bs = rw (no-name 126 bs refl) refl
-
-pub at-58 : (bs : List ℕ) → symbol_at (58 ∷ bs) ≡ front (58 ∷ bs)
-unfolding front
-at-58 bs = rw (no-name 58 bs refl) refl
-
-pub at-124 : (bs : List ℕ) → symbol_at (124 ∷ bs) ≡ front (124 ∷ bs)
-unfolding front
-at-124 bs = rw (no-name 124 bs refl) refl
-
--- any other mark
-pub mark-symbol : (bs : List ℕ) → 0 < length bs → IsMark (get_or bs 0 0) → get_or bs 0 0 ≢ 39 → get_or bs 0 0 ≢ 34 → get_or bs 0 0 ≢ 96
-    → get_or bs 0 0 ≢ 36 → get_or bs 0 0 ≢ 47 → get_or bs 0 0 ≢ 45 → symbol_at bs ≡ front bs
-unfolding front
-mark-symbol [] h m n39 n34 n96 n36 n47 n45 = absurd (omega arith)
-mark-symbol (b ∷ bs) h m n39 n34 n96 n36 n47 n45 =
-    let turned = λ (x : ℕ) (n : b ≢ x). ne_eqb x b (λ e. n (sym e)) in
-    let no_blank = m.no_blank in
-    let no_digit = m.no_digit in
-    rw (no_blank, no-name b bs m.no_letter, no_digit, turned 39 n39, turned 34 n34, turned 96 n96, turned 36 n36, turned 47 n47, turned 45 n45) refl
-
 -- tests of all bytes
 abbrev all_below : ℕ → (ℕ → Bool) → Bool
 all_below zero p = true
@@ -221,12 +157,6 @@ below (suc n) p k h l =
 
     smaller : (k == n) ≡ false → k < n
     smaller e = grind (arith, nat_tests)
-
--- no symbol begins with the byte
-abbrev none_begins : ℕ → List (List ℕ) → Bool
-none_begins b [] = true
-none_begins b ([] ∷ ss) = false
-none_begins b ((x ∷ s) ∷ ss) = not (x == b) && none_begins b ss
 
 not-true : (b : Bool) → not b ≡ true → b ≡ false
 not-true true h = cc
@@ -316,3 +246,36 @@ letters-some (b ∷ bs) n h f l e p = sym (longer-first (form Plain n) (form Bad
 pub letters-none : (bs : List ℕ) → 0 < length bs → get_or bs 0 0 < 256 → is_letter (get_or bs 0 0) ≡ true → None ≡ name_length bs → form Bad 1 ≡ front bs
 letters-none [] h f l e = absurd (omega arith)
 letters-none (b ∷ bs) h f l e = letter-by b bs None f l e
+
+-- a byte beyond ASCII is such a letter
+pub beyond-letter : (b : ℕ) → 128 ≤ b → is_letter b ≡ true
+beyond-letter b h = grind (arith, nat_tests)
+
+-- an ASCII letter and what goes on with the name
+pub ascii-letters : (bs : List ℕ) (n : ℕ) → 0 < length bs → get_or bs 0 0 < 256 → is_ascii_start (get_or bs 0 0) ≡ true → n ≡ continue_length 1 bs → 1 ≤ n → form Plain n ≡ front bs
+ascii-letters bs n h f l e p =
+    let letter : is_letter (get_or bs 0 0) ≡ true = grind (arith, nat_tests) in
+    letters-some bs n h f letter (ap Some e ∙ ascii-name bs h l) p
+
+-- a byte with which no form begins
+abbrev is_idle : ℕ → Bool
+is_idle b =
+    not (is_blank b) && (not (is_letter b) && (none_begins b symbols && (not (is_ascii_digit b) && (not (b == 39) && (not (b == 34) && (not (b == 96) && not (b == 36)))))))
+
+quiet-idle : all_below 256 (λ b. not (is_idle b) || is_quiet b) ≡ true
+unfolding symbols
+quiet-idle = refl
+
+front-idle : (b : ℕ) (bs : List ℕ) → b < 256 → is_idle b ≡ true → is_blank b ≡ false → is_letter b ≡ false → is_ascii_digit b ≡ false → front (b ∷ bs) ≡ form Bad 1
+front-idle b bs h i no_blank no_letter no_digit =
+    front-quiet b bs (implied (is_idle b) (is_quiet b) (below 256 (λ b. not (is_idle b) || is_quiet b) b quiet-idle h) i)
+    ∙ rw (no_blank, no-name b bs no_letter, no_digit) refl
+
+pub idle-here : (bs : List ℕ) → 0 < length bs → get_or bs 0 0 < 128 → is_blank (get_or bs 0 0) ≡ false → is_ascii_start (get_or bs 0 0) ≡ false
+    → none_begins (get_or bs 0 0) symbols ≡ true → is_ascii_digit (get_or bs 0 0) ≡ false → get_or bs 0 0 ≢ 39 → get_or bs 0 0 ≢ 34 → get_or bs 0 0 ≢ 96
+    → get_or bs 0 0 ≢ 36 → form Bad 1 ≡ front bs
+idle-here [] h f no_blank no_start no_symbol no_digit n39 n34 n96 n36 = absurd (omega arith)
+idle-here (b ∷ bs) h f no_blank no_start no_symbol no_digit n39 n34 n96 n36 =
+    let no_letter : is_letter b ≡ false = grind (arith, nat_tests) in
+    let idle : is_idle b ≡ true = rw (no_blank, no_letter, no_symbol, no_digit, ne_eqb b 39 n39, ne_eqb b 34 n34, ne_eqb b 96 n96, ne_eqb b 36 n36) refl in
+    sym (front-idle b bs (omega (arith, f)) idle no_blank no_letter no_digit)

@@ -1,16 +1,18 @@
 -- How the lengths go on from one byte to the next.
-use Rattle.std.proofs.Common.{◌≡◌, ◌≢◌, ℕ, zero, suc, ◌+◌, ◌-◌, ◌<◌, ◌≤◌, Bool, true, false, ◌&&◌, ◌==◌, List, [], ◌∷◌, length, drop, get_or, Option, Some, None, refl, ap, ◌∙◌, arith, eq-eqb, drop-drop}
+use Rattle.std.proofs.Common.{◌≡◌, ℕ, zero, suc, ◌+◌, ◌-◌, ◌<◌, ◌≤◌, Bool, true, false, ◌==◌, List, [], ◌∷◌, length, drop, get_or, Option, Some, None, refl, ap, ◌∙◌, sym, nat_lt, arith, eq-eqb, drop-drop, length-drop}
+use Rattle.std.proofs.lemmas.List.{get_or-drop, drop_all}
 use Rattle.std.specs.Prelude.{codes, if◌then◌else◌}
 use Rattle.std.specs.Option.{option_map}
 use Rattle.std.proofs.lemmas.Bool.{ne_eqb}
 use Rattle.std.proofs.lemmas.Bool.Decides.{nat_tests}
 use Rattle.std.proofs.Common.{◌||◌, lt-ltb}
-use Rattle.std.specs.Char.{is_ascii_alphabetic, is_ascii_alphanumeric}
+use Rattle.std.specs.Char.{is_ascii_alphanumeric}
 use Rattle.unicode_ident.proofs.IdentLemmas.{is_xid_start-ascii, is_xid_continue-ascii}
-use Rattle.unicode_ident.specs.Ident.{is_xid_continue}
+use Rattle.unicode_ident.specs.Ident.{is_xid_start, is_xid_continue}
 use Rattle.bstr.specs.Utf8.{decoded}
 use Rattle.bstr.proofs.lemmas.PieceLemmas.{piece-bounds}
-use Rattle.gql_lexer.specs.Lengths.{begins, block_length, quoted_length, continue_length, first_passes, first_size, may_start}
+use Rattle.gql_lexer.specs.Lengths.{begins, block_length, quoted_length, continue_length, name_length, first_passes, first_size, may_start}
+use Rattle.gql_lexer.specs.Firsts.{is_ascii_start}
 
 -- a length that is counted from a place further on
 abbrev pub ahead : ℕ → Option ℕ → Option ℕ
@@ -19,10 +21,6 @@ ahead n o = option_map (λ m. n + m) o
 ahead-more : (n k : ℕ) (o : Option ℕ) → ahead n (option_map (λ m. m + k) o) ≡ ahead (n + k) o
 ahead-more n k None = refl
 ahead-more n k (Some m) = ap Some (omega arith)
-
-pub ahead-none : (o : Option ℕ) → o ≡ ahead 0 o
-ahead-none None = refl
-ahead-none (Some m) = ap Some (omega arith)
 
 -- counting goes on from a place to one further on
 pub ahead-step : (f : List ℕ → Option ℕ) (bs : List ℕ) (at n : ℕ) → f (drop at bs) ≡ option_map (λ m. m + n) (f (drop n (drop at bs)))
@@ -34,49 +32,12 @@ pub block_length-past : (bs : List ℕ) → 0 < length bs → begins (codes "*/"
 block_length-past [] h e = absurd (omega arith)
 block_length-past (b ∷ bs) h e = rw e refl
 
-pub block_length-here : (bs : List ℕ) → 0 < length bs → begins (codes "*/") bs ≡ true → block_length bs ≡ Some 0
-block_length-here [] h e = absurd (omega arith)
-block_length-here (b ∷ bs) h e = rw e refl
-
--- the two bytes of `*/`
-pub begins-close : (bs : List ℕ) → 1 < length bs → begins (codes "*/") bs ≡ ((get_or bs 0 0 == 42) && (get_or bs 1 0 == 47))
-begins-close [] h = absurd (omega arith)
-begins-close (a ∷ []) h = absurd (omega arith)
-begins-close (a ∷ b ∷ bs) h = grind (arith, nat_tests)
-
--- a byte that is neither a backslash nor the quote
-pub quoted_length-plain : (quote : ℕ) (bs : List ℕ) → 0 < length bs → get_or bs 0 0 ≢ 92 → get_or bs 0 0 ≢ quote
-    → quoted_length quote bs ≡ option_map (λ m. m + 1) (quoted_length quote (drop 1 bs))
-quoted_length-plain quote [] h p q = absurd (omega arith)
-quoted_length-plain quote (b ∷ []) h p q = rw (ne_eqb b quote q) refl
-quoted_length-plain quote (b ∷ c ∷ bs) h p q = rw (ne_eqb b 92 p, ne_eqb b quote q) refl
-
 -- a backslash and the byte that it takes with it
 pub quoted_length-escape : (quote : ℕ) (bs : List ℕ) → 1 < length bs → get_or bs 0 0 ≡ 92
     → quoted_length quote bs ≡ option_map (λ m. m + 2) (quoted_length quote (drop 2 bs))
 quoted_length-escape quote [] h p = absurd (omega arith)
 quoted_length-escape quote (b ∷ []) h p = absurd (omega arith)
 quoted_length-escape quote (b ∷ c ∷ bs) h p = rw (eq-eqb b 92 p) refl
-
--- a doubled quote
-pub quoted_length-doubled : (quote : ℕ) (bs : List ℕ) → 1 < length bs → get_or bs 0 0 ≢ 92 → get_or bs 0 0 ≡ quote → get_or bs 1 0 ≡ quote
-    → quoted_length quote bs ≡ option_map (λ m. m + 2) (quoted_length quote (drop 2 bs))
-quoted_length-doubled quote [] h p q r = absurd (omega arith)
-quoted_length-doubled quote (b ∷ []) h p q r = absurd (omega arith)
-quoted_length-doubled quote (b ∷ c ∷ bs) h p q r = rw (ne_eqb b 92 p, eq-eqb b quote q, eq-eqb c quote r) refl
-
--- a closing quote
-pub quoted_length-close : (quote : ℕ) (bs : List ℕ) → 0 < length bs → get_or bs 0 0 ≢ 92 → get_or bs 0 0 ≡ quote → (1 < length bs → get_or bs 1 0 ≢ quote)
-    → quoted_length quote bs ≡ (if get_or bs 0 0 == quote then Some 0 else None)
-quoted_length-close quote [] h p q r = absurd (omega arith)
-quoted_length-close quote (b ∷ []) h p q r = refl
-quoted_length-close quote (b ∷ c ∷ bs) h p q r = rw (ne_eqb b 92 p, eq-eqb b quote q, ne_eqb c quote (r (omega arith))) refl
-
--- a backslash at the end
-pub quoted_length-open : (quote : ℕ) (bs : List ℕ) → 0 < length bs → length bs ≤ 1 → quoted_length quote bs ≡ (if get_or bs 0 0 == quote then Some 0 else None)
-quoted_length-open quote [] h p = absurd (omega arith)
-quoted_length-open quote (b ∷ []) h p = refl
-quoted_length-open quote (b ∷ c ∷ bs) h p = absurd (omega arith)
 
 -- a first character that passes
 pub first-passes : (test : ℕ → Bool) (bs : List ℕ) (c n : ℕ) → Some c ≡ (decoded bs).char → n ≡ (decoded bs).size → test c ≡ true
@@ -157,20 +118,47 @@ pub ascii-fails : (bs : List ℕ) → 0 < length bs → get_or bs 0 0 < 128 → 
 ascii-fails [] h s t = absurd (omega arith)
 ascii-fails (b ∷ bs) h s t = first-fails is_xid_continue (b ∷ bs) b (ascii-char b bs s).0 (is_xid_continue-ascii b s ∙ t)
 
--- an ASCII letter begins a name, and goes on with one
-letter-starts : (b : ℕ) → b < 128 → is_ascii_alphabetic b ≡ true → may_start b ≡ true
+-- an ASCII byte at a place, which goes on with the name
+pub ascii-more : (bs : List ℕ) (at : ℕ) → at < length bs → (is_ascii_alphanumeric (get_or bs at 0) || (get_or bs at 0 == 95)) ≡ true
+    → continue_length (at + 1) bs ≡ continue_length at bs
+ascii-more bs at h t =
+    let s : get_or bs at 0 < 128 = grind (arith, nat_tests) in
+    let here : get_or (drop at bs) 0 0 ≡ get_or bs at 0 = get_or-drop at bs 0 0 ∙ ap (λ n. get_or bs n 0) (omega arith) in
+    let some : 0 < length (drop at bs) = omega (arith, length-drop at bs) in
+    let passes = ascii-passes (drop at bs) some (rw here s) (rw here t) in
+    let more = continue_length-more bs at 1 passes (omega arith) some in
+    sym (continue_length-skip (at + 1) bs (omega arith)) ∙ more ∙ continue_length-skip at bs (omega arith)
+
+-- where the bytes end, or an ASCII byte that does not
+pub ascii-stop : (bs : List ℕ) (at : ℕ) → at ≤ length bs
+    → (at < length bs → (get_or bs at 0 < 128) × ((is_ascii_alphanumeric (get_or bs at 0) || (get_or bs at 0 == 95)) ≡ false)) → at ≡ continue_length at bs
+ascii-stop bs at h t = by-room (nat_lt at (length bs)) refl
+  where
+    none : continue_length 0 (drop at bs) ≡ 0 → at ≡ continue_length at bs
+    none e = omega (arith, e, continue_length-skip at bs h)
+
+    by-room : (b : Bool) → nat_lt at (length bs) ≡ b → at ≡ continue_length at bs
+    by-room true e =
+        let room : at < length bs = grind (arith, nat_tests) in
+        let here : get_or (drop at bs) 0 0 ≡ get_or bs at 0 = get_or-drop at bs 0 0 ∙ ap (λ n. get_or bs n 0) (omega arith) in
+        let some : 0 < length (drop at bs) = omega (arith, room, length-drop at bs) in
+        none (continue_length-stops (drop at bs) (ascii-fails (drop at bs) some (rw here (t room).0) (rw here (t room).1)))
+    by-room false e =
+        let end : length bs ≤ at = grind (arith, nat_tests) in
+        none (ap (continue_length 0) (drop_all at bs end))
+
+-- an ASCII letter or `_` begins a name
+start-passes : (b : ℕ) → b < 128 → is_ascii_start b ≡ true → may_start b ≡ true
 unfolding may_start
-letter-starts b s t = let passes : (is_ascii_alphabetic b || (b == 95)) ≡ true = grind (arith, nat_tests) in rw (is_xid_start-ascii b s) passes
+start-passes b s t = is_xid_start-start b s t
+  where
+    is_xid_start-start : (b : ℕ) → b < 128 → is_ascii_start b ≡ true → (is_xid_start b || (b == 95)) ≡ true
+    is_xid_start-start b s t = rw (is_xid_start-ascii b s) (grind (arith, nat_tests))
 
-pub letter-passes : (bs : List ℕ) → 0 < length bs → is_ascii_alphabetic (get_or bs 0 0) ≡ true
-    → Some 1 ≡ (if first_passes may_start bs then Some (first_size bs) else None)
-letter-passes [] h t = absurd (omega arith)
-letter-passes (b ∷ bs) h t =
+pub ascii-name : (bs : List ℕ) → 0 < length bs → is_ascii_start (get_or bs 0 0) ≡ true → Some (continue_length 1 bs) ≡ name_length bs
+unfolding first_passes first_size
+ascii-name [] h t = absurd (omega arith)
+ascii-name (b ∷ bs) h t =
     let s : b < 128 = grind (arith, nat_tests) in
-    let c = ascii-char b bs s in first-passes may_start (b ∷ bs) b 1 c.0 c.1 (letter-starts b s t)
-
-pub letter-goes_on : (bs : List ℕ) → 0 < length bs → is_ascii_alphabetic (get_or bs 0 0) ≡ true
-    → Some 1 ≡ (if first_passes is_xid_continue bs then Some (first_size bs) else None)
-letter-goes_on bs h t =
-    let s : get_or bs 0 0 < 128 = grind (arith, nat_tests) in
-    let passes : (is_ascii_alphanumeric (get_or bs 0 0) || (get_or bs 0 0 == 95)) ≡ true = grind (arith, nat_tests) in ascii-passes bs h s passes
+    let c = ascii-char b bs s in
+    rw (← c.0, start-passes b s t, ← c.1) refl

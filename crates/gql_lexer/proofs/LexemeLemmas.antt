@@ -11,10 +11,6 @@ use Rattle.gql_lexer.proofs.SpanLemmas.{spans-step}
 abbrev pub behind : List Lexeme → Option (List Lexeme) → Option (List Lexeme)
 behind all o = option_map (λ ls. all ++ ls) o
 
-pub behind-none : (o : Option (List Lexeme)) → behind [] o ≡ o
-behind-none None = refl
-behind-none (Some ls) = refl
-
 lexemes-step : (bs : List ℕ) → 0 < length bs → 1 ≤ (front bs).size
     → lexemes_of bs ≡ cond (is_gap (front bs).shape) (lexemes_of (drop (front bs).size bs)) (with_lexeme (lexeme_of (front bs).shape (take (front bs).size bs)) (lexemes_of (drop (front bs).size bs)))
 lexemes-step bs h p = ap lexemes_of_spans (spans-step bs h p)
@@ -50,9 +46,3 @@ lexeme-on all after bs at f l e p g added =
     ap (behind after) (ap lexemes_of (sym (drop-drop f.size at bs)))
     ∙ with-behind all after (lexeme_of f.shape (take f.size (drop at bs))) (lexemes_of (drop f.size (drop at bs))) added
     ∙ ap (behind all) (sym (step-by (drop at bs) f false (here bs at l) e p g))
-
--- a lexeme that is bad
-pub lexeme-bad : (all : List Lexeme) (bs : List ℕ) (at : ℕ) (f : Front) (o : Option (List Lexeme)) → at < length bs → f ≡ front (drop at bs) → 1 ≤ f.size → is_gap f.shape ≡ false
-    → lexeme_of f.shape (take f.size (drop at bs)) ≡ None → behind all (lexemes_of (drop at bs)) ≡ o → o ≡ None
-lexeme-bad all bs at f o l e p g bad t =
-    sym t ∙ ap (behind all) (step-by (drop at bs) f false (here bs at l) e p g ∙ ap (λ r. with_lexeme r (lexemes_of (drop f.size (drop at bs)))) bad)

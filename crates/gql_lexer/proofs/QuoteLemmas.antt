@@ -7,7 +7,7 @@ use Rattle.std.specs.Char.{encode_utf8}
 use Rattle.std.proofs.lemmas.Str.{encodes-chars, is_utf8-from_IsUtf8, IsUtf8-from_is_utf8, length-encode, len_utf8_bounds, chars-nil}
 use Rattle.gql_lexer.specs.declared.quotes.Part.{Part}
 use Rattle.gql_lexer.specs.Quotes.{part, unescaped, text_between}
-use Rattle.gql_lexer.proofs.SymbolLemmas.{and-both}
+use Rattle.gql_lexer.proofs.FrontLemmas.{and-both}
 
 -- 16 to a power
 abbrev pub bound : ℕ → ℕ
@@ -53,23 +53,9 @@ unescaped-more quote c made cs rest all p a e r =
     ∙ made-more made p.meant (unescaped quote 0 (drop p.size cs))
     ∙ ap (made_with made) (sym (unescaped-step quote c cs p e) ∙ ap (unescaped quote 0) (sym a))
 
--- what is no escape
-pub unescaped-none : (quote c : ℕ) (made cs all : List ℕ) (o : Option (List ℕ)) → all ≡ c ∷ cs → None ≡ part quote c cs → made_with made (unescaped quote 0 all) ≡ o → o ≡ None
-unescaped-none quote c made cs all o a e t =
-    sym t ∙ ap (λ t. made_with made (unescaped quote 0 t)) a
-    ∙ ap (λ o. made_with made (option_and_then (λ (p : Part). option_map (λ t. p.meant ∷ t) (unescaped quote p.size cs)) o)) (sym e)
-
 append-nil : (xs : List ℕ) → xs ++ [] ≡ xs
 append-nil [] = refl
 append-nil (x ∷ xs) = ap (λ ys. x ∷ ys) (append-nil xs)
-
-pub unescaped-end : (quote : ℕ) (made all : List ℕ) (o : Option (List ℕ)) → all ≡ [] → made_with made (unescaped quote 0 all) ≡ o → o ≡ Some made
-unescaped-end quote made all o a t = sym t ∙ ap (λ t. made_with made (unescaped quote 0 t)) a ∙ ap Some (append-nil made)
-
--- at the beginning nothing is made
-pub made-none : (o : Option (List ℕ)) → made_with [] o ≡ option_map encode_utf8_all o
-made-none None = refl
-made-none (Some t) = refl
 
 unescaped-plain : (quote : ℕ) (cs : List ℕ) → list_all (λ c. not (c == 92) && not (c == quote)) cs ≡ true → unescaped quote 0 cs ≡ Some cs
 unescaped-plain quote [] h = refl

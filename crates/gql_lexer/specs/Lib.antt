@@ -2,7 +2,6 @@ pub mod Lengths
 pub mod Forms
 pub mod Shapes
 pub mod Firsts
-pub mod Symbols
 pub mod Spans
 pub mod Pieces
 pub mod Quotes

@@ -1,12 +1,16 @@
-ghost use Rattle.std.specs.Prelude.{◌≡◌, ◌≢◌, ◌⊎◌, ◌+◌, ◌<◌, ◌≤◌, length, take, drop, slice_index, false, IsTrue, IfSome};
+ghost use Rattle.std.specs.Prelude.{◌≡◌, ◌≢◌, ◌⊎◌, ◌+◌, ◌<◌, ◌≤◌, length, take, drop, slice_index, false, true, IfSome};
 ghost use Rattle.std.specs.Option.{option_map, option_or};
-ghost use Rattle.gql_lexer.specs.Lengths.{quoted_length};
-ghost use Rattle.gql_lexer.specs.Forms.{form, closed, is_blank, plain, ticked, dollar_shape, front};
+ghost use Rattle.gql_lexer.specs.declared.front.Shape.TheVariants.{Gap};
+ghost use Rattle.gql_lexer.specs.Lengths.{line_length, quoted_length};
+ghost use Rattle.gql_lexer.specs.Forms.{form, closed, is_blank, plain, ticked, dollar_shape, symbols, front};
 ghost use Rattle.gql_lexer.specs.Shapes.{Tells};
-ghost use Rattle.gql_lexer.specs.Firsts.{is_letter, IsMark};
+ghost use Rattle.gql_lexer.specs.Firsts.{is_ascii_start, none_begins};
 
-use crate::lengths::{block_length, digits_length, line_length, name_length, quoted_length};
-use crate::symbol::{lone_place, shared, symbol};
+use crate::first::{First, told_by};
+use crate::lengths::{
+    block_length, continue_length, digits_length, line_length, name_length, quoted_length,
+};
+use crate::symbol::{bar, byte_at, colon, greater, less, sign, tilde};
 
 /// Which form of the language some bytes are.
 #[derive(Clone, Copy, Debug, PartialEq, Eq)]
@@ -55,93 +59,57 @@ pub fn longest_form(rest: &[u8]) -> Front
     by_first(rest)
 }
 
-/// The longest form, by the first byte. White space, and a symbol whose byte begins nothing else, need no other.
+/// The longest form, by what the first byte tells.
 #[inline(always)]
 fn by_first(rest: &[u8]) -> Front
     requires { 0 < length rest.now }
     ensures { result ≡ front rest.now }
 {
-    match lone_place(rest[0]) {
-        Some(place) => Front::new(Shape::Symbol(place), 1),
-        None => no_lone(rest),
+    match told_by(rest[0]) {
+        First::Alone(place) => Front::new(Shape::Symbol(place), 1),
+        First::Less => less(rest),
+        First::Greater => greater(rest),
+        First::Tilde => tilde(rest),
+        First::Colon => colon(rest),
+        First::Bar => bar(rest),
+        First::Minus => minus(rest),
+        First::Slash => slash(rest),
+        First::Blank => Front::new(Shape::Gap, 1),
+        First::Letter => Front::new(Shape::Plain, continue_length(rest, 1)),
+        First::Other => other(rest),
     }
 }
 
-/// The longest form, where the first byte is mostly no symbol by itself.
+/// The form at a byte that is neither white space nor an ASCII letter, and with which no symbol begins. It is built anew
+/// from the answer of a call out of line, which lets the loops above keep it in registers.
 #[inline(always)]
-fn no_lone(rest: &[u8]) -> Front
-    requires { 0 < length rest.now }
+fn other(rest: &[u8]) -> Front
+    requires some_bytes { 0 < length rest.now }
+    requires no_blank { is_blank (slice_index rest.now 0) ≡ false }
+    requires no_letter { is_ascii_start (slice_index rest.now 0) ≡ false }
+    requires no_symbol { none_begins (slice_index rest.now 0) symbols ≡ true }
     ensures { result ≡ front rest.now }
 {
-    match shared(rest) {
-        Some(found) => found,
-        None => no_shared(rest),
-    }
+    let found = by_sort(rest);
+    Front::new(found.shape, found.size)
 }
 
-/// The longest form, where the first byte mostly begins no symbol alone.
-#[inline(always)]
-fn no_shared(rest: &[u8]) -> Front
-    requires { 0 < length rest.now }
-    ensures { result ≡ front rest.now }
-{
-    if is_blank(rest[0]) {
-        return Front::new(Shape::Gap, 1);
-    }
-    if is_letter(rest[0]) {
-        return letters(rest);
-    }
-    by_sort(rest)
-}
-
-/// The longest form at a byte that is no white space and no letter, by the sort of that byte.
+/// The same, by the sort of the byte.
 #[inline(never)]
 fn by_sort(rest: &[u8]) -> Front
     requires some_bytes { 0 < length rest.now }
     requires no_blank { is_blank (slice_index rest.now 0) ≡ false }
-    requires no_letter { is_letter (slice_index rest.now 0) ≡ false }
-    ensures { result ≡ front rest.now }
-{
-    if rest[0].is_ascii_digit() {
-        Front::new(Shape::Digits, digits_length(rest))
-    } else {
-        marked(rest)
-    }
-}
-
-/// Whether the byte is white space.
-fn is_blank(byte: u8) -> bool
-    ensures { result ≡ is_blank byte }
-{
-    matches!(byte, b' ' | b'\t' | b'\n' | b'\r' | 12)
-}
-
-/// Whether a name may begin with the byte.
-fn is_letter(byte: u8) -> bool
-    ensures { result ≡ is_letter byte }
-{
-    byte.is_ascii_alphabetic() | (byte == b'_') | (byte >= 128)
-}
-
-/// The form at a letter.
-fn letters(rest: &[u8]) -> Front
-    requires some_bytes { 0 < length rest.now }
-    requires first { IsTrue (is_letter (slice_index rest.now 0)) }
-    ensures { result ≡ front rest.now }
-{
-    match name_length(rest) {
-        Some(size) => Front::new(Shape::Plain, size),
-        None => Front::new(Shape::Bad, 1),
-    }
-}
-
-/// The form at a byte that is no white space, letter or digit.
-fn marked(rest: &[u8]) -> Front
-    requires some_bytes { 0 < length rest.now }
-    requires first { IsMark (slice_index rest.now 0) }
+    requires no_letter { is_ascii_start (slice_index rest.now 0) ≡ false }
+    requires no_symbol { none_begins (slice_index rest.now 0) symbols ≡ true }
     ensures { result ≡ front rest.now }
 {
     let first = rest[0];
+    if first >= 128 {
+        return beyond_ascii(rest);
+    }
+    if first.is_ascii_digit() {
+        return Front::new(Shape::Digits, digits_length(rest));
+    }
     if first == b'\'' {
         return quoted(rest);
     }
@@ -154,13 +122,19 @@ fn marked(rest: &[u8]) -> Front
     if first == b'$' {
         return dollar(rest);
     }
-    if first == b'/' {
-        return slash(rest);
+    Front::new(Shape::Bad, 1)
+}
+
+/// A name that begins beyond ASCII, or a bad byte.
+fn beyond_ascii(rest: &[u8]) -> Front
+    requires some_bytes { 0 < length rest.now }
+    requires first { 128 ≤ slice_index rest.now 0 }
+    ensures { result ≡ front rest.now }
+{
+    match name_length(rest) {
+        Some(size) => Front::new(Shape::Plain, size),
+        None => Front::new(Shape::Bad, 1),
     }
-    if first == b'-' {
-        return dash(rest);
-    }
-    symbol(rest)
 }
 
 /// A form that has to be closed and takes more bytes than stand before its close: where it is not closed, all bytes up
@@ -257,31 +231,37 @@ fn slash(rest: &[u8]) -> Front
     requires first { slice_index rest.now 0 ≡ 47 }
     ensures { result ≡ front rest.now }
 {
-    if rest.len() < 2 {
-        return symbol(rest);
-    }
-    let second = rest[1];
+    let second = byte_at(rest, 1);
     if second == b'/' {
-        return Front::new(Shape::Gap, line_length(&rest[2..]) + 2);
+        return line_comment(rest);
     }
     if second == b'*' {
         return closed(Shape::Gap, block_length(&rest[2..]), 4, rest);
     }
-    symbol(rest)
+    sign(18, 1)
 }
 
-/// A comment, or a symbol that begins with `-`.
-fn dash(rest: &[u8]) -> Front
+/// A comment, or one of the symbols `->` and `-`.
+fn minus(rest: &[u8]) -> Front
     requires some_bytes { 0 < length rest.now }
     requires first { slice_index rest.now 0 ≡ 45 }
     ensures { result ≡ front rest.now }
 {
-    if rest.len() < 2 {
-        return symbol(rest);
-    }
-    let second = rest[1];
+    let second = byte_at(rest, 1);
     if second == b'-' {
-        return Front::new(Shape::Gap, line_length(&rest[2..]) + 2);
+        return line_comment(rest);
     }
-    symbol(rest)
+    if second == b'>' {
+        sign(3, 2)
+    } else {
+        sign(11, 1)
+    }
+}
+
+/// A comment up to the end of the line, from its two first bytes.
+fn line_comment(rest: &[u8]) -> Front
+    requires { 2 ≤ length rest.now }
+    ensures { result ≡ form Gap (line_length (drop 2 rest.now) + 2) }
+{
+    Front::new(Shape::Gap, line_length(&rest[2..]) + 2)
 }

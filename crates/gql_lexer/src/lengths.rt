@@ -1,4 +1,4 @@
-ghost use Rattle.std.specs.Prelude.{◌≡◌, ◌≢◌, ◌+◌, ◌<◌, ◌≤◌, ◌==◌, ◌||◌, codes, length, drop, slice_index, if◌then◌else◌, IfSome, IfNone, IsTrue};
+ghost use Rattle.std.specs.Prelude.{◌≡◌, ◌≢◌, ◌+◌, ◌<◌, ◌≤◌, ◌==◌, ◌||◌, codes, length, drop, slice_index, if◌then◌else◌, IfSome, IfNone, IsTrue, false};
 ghost use Rattle.std.specs.Option.{option_map};
 ghost use Rattle.std.specs.List.{prefix_len};
 ghost use Rattle.std.specs.Char.{is_ascii_alphanumeric, is_ascii_digit};
@@ -114,18 +114,6 @@ fn starting(rest: &[u8]) -> Option<usize>
     ensures value { result ≡ (if first_passes may_start rest.now then Some (first_size rest.now) else None) }
     ensures bounds { IfSome result (λ n. (0 < n) × (n ≤ length rest.now)) }
 {
-    if rest.len() > 0 && rest[0].is_ascii_alphabetic() {
-        return Some(1);
-    }
-    starting_otherwise(rest)
-}
-
-/// The same, by the whole character.
-#[inline(never)]
-fn starting_otherwise(rest: &[u8]) -> Option<usize>
-    ensures value { result ≡ (if first_passes may_start rest.now then Some (first_size rest.now) else None) }
-    ensures bounds { IfSome result (λ n. (0 < n) × (n ≤ length rest.now)) }
-{
     match bstr::decode_utf8(rest) {
         (Some(first), size) => { if may_start(first) { Some(size) } else { None } }
         (None, _) => None,
@@ -139,32 +127,15 @@ fn may_start(first: char) -> bool
     unicode_ident::is_xid_start(first) | (first == '_')
 }
 
-/// How many bytes the first character takes if it may go on with a name.
-fn continuing(rest: &[u8]) -> Option<usize>
-    requires { 0 < length rest.now }
-    ensures value { result ≡ (if first_passes is_xid_continue rest.now then Some (first_size rest.now) else None) }
-    ensures bounds { IfSome result (λ n. (0 < n) × (n ≤ length rest.now)) }
-{
-    let byte = rest[0];
-    if byte.is_ascii_alphabetic() {
-        return Some(1);
-    }
-    if byte >= 128 {
-        return continuing_beyond(rest);
-    }
-    if may_continue(byte) { Some(1) } else { None }
-}
-
 /// Whether an ASCII byte may go on with a name.
 fn may_continue(byte: u8) -> bool
     ensures { result ≡ (is_ascii_alphanumeric byte || (byte == 95)) }
 {
-    byte.is_ascii_alphanumeric() | (byte == b'_')
+    byte.is_ascii_alphabetic() || byte.is_ascii_digit() || byte == b'_'
 }
 
-/// The same for any character.
-#[inline(never)]
-fn continuing_beyond(rest: &[u8]) -> Option<usize>
+/// How many bytes the first character takes if it may go on with a name.
+fn continuing(rest: &[u8]) -> Option<usize>
     ensures value { result ≡ (if first_passes is_xid_continue rest.now then Some (first_size rest.now) else None) }
     ensures bounds { IfSome result (λ n. (0 < n) × (n ≤ length rest.now)) }
 {
@@ -181,7 +152,42 @@ fn continuing_beyond(rest: &[u8]) -> Option<usize>
 }
 
 /// How many bytes a name takes whose first character takes so many.
-fn continue_length(rest: &[u8], first: usize) -> usize
+#[inline(never)]
+pub fn continue_length(rest: &[u8], first: usize) -> usize
+    requires { first ≤ length rest.now }
+    ensures value { result ≡ continue_length first rest.now }
+    ensures bounds { (first ≤ result) × (result ≤ length rest.now) }
+{
+    let at = ascii_end(rest, first);
+    if at == rest.len() {
+        return at;
+    }
+    if rest[at] < 128 {
+        return at;
+    }
+    continue_beyond(rest, at)
+}
+
+/// Where the ASCII characters end that go on with a name from a place on.
+fn ascii_end(rest: &[u8], first: usize) -> usize
+    requires { first ≤ length rest.now }
+    ensures bounds { (first ≤ result) × (result ≤ length rest.now) }
+    ensures value { continue_length result rest.now ≡ continue_length first rest.now }
+    ensures ends { result < length rest.now → (is_ascii_alphanumeric (slice_index rest.now result) || (slice_index rest.now result == 95)) ≡ false }
+{
+    let mut at = first;
+    while at < rest.len() {
+        if !may_continue(rest[at]) {
+            return at;
+        }
+        at += 1;
+    }
+    at
+}
+
+/// The same as `continue_length`, each character by itself.
+#[inline(never)]
+fn continue_beyond(rest: &[u8], first: usize) -> usize
     requires { first ≤ length rest.now }
     ensures value { result ≡ continue_length first rest.now }
     ensures bounds { (first ≤ result) × (result ≤ length rest.now) }

@@ -96,10 +96,8 @@ fn as_text(bytes: &[u8]) -> &str
     requires { IsUtf8 bytes.now }
     ensures { result.now ≡ bytes.now }
 {
-    match str::from_utf8(bytes) {
-        Ok(text) => text,
-        Err(_) => unreachable!(),
-    }
+    // They are, as the `requires` says.
+    unsafe { str::from_utf8_unchecked(bytes) }
 }
 
 /// A name, or the reserved word that it is.

@@ -7,6 +7,7 @@
 #![tactic(auto)]
 
 mod fault;
+mod first;
 mod front;
 pub mod laws;
 mod lengths;

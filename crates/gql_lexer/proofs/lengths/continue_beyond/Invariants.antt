@@ -1,6 +1,6 @@
 use Rattle.std.proofs.Common.{◌≡◌, ◌+◌, ◌≤◌, ◌-◌, drop, length}
 use Rattle.gql_lexer.specs.Lengths.{continue_length}
-use Rattle.gql_lexer.proofs.lengths.continue_length.Given as goal
+use Rattle.gql_lexer.proofs.lengths.continue_beyond.Given as goal
 
 abbrev pub invariant-loop-at : goal.invariant-loop-at
 invariant-loop-at l =

@@ -1,7 +1,8 @@
-use Rattle.std.proofs.Common.{refl}
+use Rattle.std.proofs.Common.{refl, arith}
+use Rattle.std.proofs.lemmas.Bool.Decides.{nat_tests}
 use Rattle.gql_lexer.specs.Forms.{front, symbols}
 use Rattle.gql_lexer.proofs.FrontLemmas.{no-name}
-use Rattle.gql_lexer.proofs.symbol.lone_place.Goals as goal
+use Rattle.gql_lexer.proofs.first.told_by.Goals as goal
 
 pub returns-in-61 : goal.returns-in-61
 unfolding front symbols
@@ -66,3 +67,23 @@ returns-in-63 c = λ bs. rw c.in-63.is (rw (no-name 63 bs refl) refl)
 pub returns-in-59 : goal.returns-in-59
 unfolding front symbols
 returns-in-59 c = λ bs. rw c.in-59.is (rw (no-name 59 bs refl) refl)
+
+pub returns-in_default : goal.returns-in_default
+unfolding symbols
+returns-in_default c = (grind (arith, nat_tests), (grind (arith, nat_tests), grind (arith, nat_tests)))
+
+pub returns-in_default-2 : goal.returns-in_default-2
+unfolding symbols
+returns-in_default-2 c = (grind (arith, nat_tests), (grind (arith, nat_tests), grind (arith, nat_tests)))
+
+pub returns-in_default-3 : goal.returns-in_default-3
+unfolding symbols
+returns-in_default-3 c = (grind (arith, nat_tests), (grind (arith, nat_tests), grind (arith, nat_tests)))
+
+pub returns-in_default-4 : goal.returns-in_default-4
+unfolding symbols
+returns-in_default-4 c = (grind (arith, nat_tests), (grind (arith, nat_tests), grind (arith, nat_tests)))
+
+pub returns-in_default-5 : goal.returns-in_default-5
+unfolding symbols
+returns-in_default-5 c = (grind (arith, nat_tests), (grind (arith, nat_tests), grind (arith, nat_tests)))
