@@ -60,7 +60,7 @@ fn unescaped(alloc: Global, text: &str, quote: char) -> Result<Text, LexFault>
             None => return Err(LexFault::Bad),
         }
     }
-    copied(alloc, made.as_str())
+    Ok(Text::from_string(made))
 }
 
 /// The first character, and the text behind it.
