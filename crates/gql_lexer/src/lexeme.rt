@@ -35,12 +35,15 @@ pub enum Lexeme {
 /// The lexemes of a text.
 pub type Lexemes = Sequence<Lexeme>;
 
+/// How many lexemes there is room for at first: some for a short statement, and few enough that the memory is got fast.
+const FIRST_ROOM: usize = 32;
+
 /// The lexemes of a piece, or a fault where one of them is bad.
 pub fn lexemes(alloc: Global, piece: &[u8]) -> Result<Lexemes, LexFault>
     requires { length piece.now < 2 ^ 32 }
     ensures { Reads result (lexemes_of piece.now) }
 {
-    let mut all = Sequence::new(alloc);
+    let mut all = Sequence::from_vec(Vec::with_capacity(alloc, FIRST_ROOM)?);
     let mut at = 0;
     while at < piece.len() {
         let rest = &piece[at..];
