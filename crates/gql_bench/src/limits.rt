@@ -46,7 +46,7 @@ fn doubled(alloc: Global, times: u32) -> Result<Expr, OutOfMemory> {
         let again = String::from_str(alloc, text.as_str())?;
         text.push_str(again.as_str())?;
     }
-    Ok(Expr::Constant(Value::Text(Text::from_string(text))))
+    Ok(Expr::Constant(Value::Text(Text::from_string(alloc, text)?)))
 }
 
 /// A list of so many ones.

@@ -35,11 +35,10 @@ pub fn scope(
 }
 
 fn name_of(alloc: Global, number: u32) -> Result<Text, OutOfMemory> {
-    let mut name = String::new(alloc);
-    name.push_str("x")?;
+    let mut name = Text::from_str(alloc, "x")?;
     let digits = number.to_string(alloc)?;
     name.push_str(digits.as_str())?;
-    Ok(Text::from_string(name))
+    Ok(name)
 }
 
 /// `x + x`, of the item before.

@@ -4,6 +4,7 @@ pub mod LawLemmas
 pub mod LexemeLemmas
 pub mod QuoteLemmas
 pub mod SpanLemmas
+pub mod PieceLemmas
 pub mod FrontLemmas
 pub mod NameLemmas
 pub mod SymbolLemmas

@@ -27,7 +27,7 @@ append-nil : (xs : List ℕ) → xs ++ [] ≡ xs
 append-nil [] = refl
 append-nil (x ∷ xs) = ap (λ ys. x ∷ ys) (append-nil xs)
 
-with_bytes-twice : (xs ys : List ℕ) (ps : List Piece) → with_bytes xs (with_bytes ys ps) ≡ with_bytes (xs ++ ys) ps
+pub with_bytes-twice : (xs ys : List ℕ) (ps : List Piece) → with_bytes xs (with_bytes ys ps) ≡ with_bytes (xs ++ ys) ps
 with_bytes-twice [] ys ps = refl
 with_bytes-twice (x ∷ xs) [] ps = ap (λ t. with_bytes (x ∷ t) ps) (sym (append-nil xs))
 with_bytes-twice (x ∷ xs) (y ∷ ys) [] = refl

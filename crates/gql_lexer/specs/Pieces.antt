@@ -1,5 +1,5 @@
 -- Pieces: the bytes of a session, cut at each symbol `;`.
-use Rattle.std.specs.Prelude.{ℕ, Bool, true, false, ◌==◌, if◌then◌else◌, List, [], ◌∷◌, ◌++◌}
+use Rattle.std.specs.Prelude.{◌≢◌, ◌≤◌, ◌<◌, length, slice_index, ℕ, Bool, true, false, ◌==◌, if◌then◌else◌, List, [], ◌∷◌, ◌++◌}
 use Rattle.gql_lexer.specs.declared.front.Shape.{Shape}
 use Rattle.gql_lexer.specs.declared.front.Shape.TheVariants.{Symbol}
 use Rattle.gql_lexer.specs.declared.piece.Piece.{Piece}
@@ -28,3 +28,7 @@ pieces_of_spans (s ∷ ss) = if is_end s.shape then piece [] true ∷ pieces_of_
 -- the pieces of the bytes: no bytes have no piece, and behind the last `;` an empty rest is none either
 abbrev pub pieces_of : List ℕ → List Piece
 pieces_of bs = pieces_of_spans (spans bs)
+
+-- no `;`, which is 59, stands at a place or behind it
+abbrev pub NoEndFrom : ℕ → List ℕ → Type 0
+NoEndFrom from bs = (k : ℕ) → from ≤ k → k < length bs → slice_index bs k ≢ 59

@@ -1,5 +1,6 @@
 ghost use Rattle.std.specs.Prelude.{◌≡◌, ◌<◌, ◌≤◌, ◌^◌, length, [], ◌∷◌, if◌then◌else◌};
 ghost use Rattle.std.specs.Option.{option_map};
+ghost use Rattle.std.specs.Vec.{vec_len, vec_capacity};
 ghost use Rattle.std.specs.Bool.{MatchBool};
 ghost use Rattle.std.specs.Str.{IsUtf8};
 ghost use Rattle.gql_lexer.specs.declared.front.Shape.TheVariants.{Dollar};
@@ -36,14 +37,14 @@ pub enum Lexeme {
 pub type Lexemes = Sequence<Lexeme>;
 
 /// How many lexemes there is room for at first: some for a short statement, and few enough that the memory is got fast.
-const FIRST_ROOM: usize = 32;
+const FIRST_ROOM: usize = 42;
 
 /// The lexemes of a piece, or a fault where one of them is bad.
 pub fn lexemes(alloc: Global, piece: &[u8]) -> Result<Lexemes, LexFault>
     requires { length piece.now < 2 ^ 32 }
     ensures { Reads result (lexemes_of piece.now) }
 {
-    let mut all = Sequence::from_vec(Vec::with_capacity(alloc, FIRST_ROOM)?);
+    let mut all = Vec::with_capacity(alloc, FIRST_ROOM)?;
     let mut at = 0;
     while at < piece.len() {
         let rest = &piece[at..];
@@ -55,7 +56,7 @@ pub fn lexemes(alloc: Global, piece: &[u8]) -> Result<Lexemes, LexFault>
         add(alloc, &mut all, found.shape, &rest[..found.size])?;
         at += found.size;
     }
-    Ok(all)
+    Ok(Sequence::from_vec(all))
 }
 
 /// Whether the form is white space or a comment.
@@ -69,12 +70,36 @@ fn is_gap(shape: Shape) -> bool
 }
 
 /// Adds the lexeme that bytes of a shape mean.
-fn add(alloc: Global, all: &mut Lexemes, shape: Shape, bytes: &[u8]) -> Result<(), LexFault>
+#[inline(always)]
+fn add(alloc: Global, all: &mut Vec<Lexeme>, shape: Shape, bytes: &[u8]) -> Result<(), LexFault>
     requires { Tells shape bytes.now }
-    ensures { Adds result all.old all.new (lexeme_of shape bytes.now) }
+    ensures { Adds result all.old.items all.new.items (lexeme_of shape bytes.now) }
+{
+    // The room is made first: then nothing is dropped for want of it, and a symbol is written as its place alone.
+    all.reserve(1)?;
+    match shape {
+        Shape::Symbol(place) => {
+            all.push_reserved(Lexeme::Sign(place));
+            Ok(())
+        }
+        _ => add_with_text(alloc, all, shape, bytes),
+    }
+}
+
+/// The same for a lexeme with a text, where there is room.
+#[inline(never)]
+fn add_with_text(
+    alloc: Global,
+    all: &mut Vec<Lexeme>,
+    shape: Shape,
+    bytes: &[u8],
+) -> Result<(), LexFault>
+    requires tells { Tells shape bytes.now }
+    requires room { vec_len all.old < vec_capacity all.old }
+    ensures { Adds result all.old.items all.new.items (lexeme_of shape bytes.now) }
 {
     let next = meaning(alloc, shape, bytes)?;
-    all.push(next)?;
+    all.push_reserved(next);
     Ok(())
 }
 

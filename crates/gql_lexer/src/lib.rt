@@ -2,8 +2,8 @@
 //!
 //! `pieces` cuts the bytes of a session at each `;` that is a symbol, and `lexemes` reads the bytes of a piece. The
 //! crate's promise is that both answer exactly what `specs/` says: at each place, from the left, the longest form
-//! counts. It stands on `unicode_ident` and `bstr` for the characters of names, and on `gql_values3` for texts and
-//! reserved words.
+//! counts. It stands on `unicode_ident` and `bstr` for the characters of names, on `memchr` for the last `;`, and on
+//! `gql_values3` for texts and reserved words.
 #![tactic(auto)]
 
 mod fault;

@@ -1,8 +1,9 @@
-ghost use Rattle.std.specs.Prelude.{◌≡◌, [], ◌∷◌, ◌++◌, IfOk, OnOk};
-ghost use Rattle.gql_lexer.specs.Pieces.{is_end, piece, pieces_of};
+ghost use Rattle.std.specs.Prelude.{◌≡◌, ◌≤◌, [], ◌∷◌, ◌++◌, length, IfOk, OnOk};
+ghost use Rattle.gql_lexer.specs.Pieces.{is_end, piece, pieces_of, NoEndFrom};
 
 use crate::front::{Shape, longest_form};
 use gql_values3::{Bytes, OutOfMemory, Sequence};
+use memchr::memrchr;
 use std::alloc::Global;
 
 /// Some bytes of a session, without the `;` that ended them.
@@ -22,9 +23,10 @@ pub fn pieces(alloc: Global, bytes: &[u8]) -> Result<Pieces, OutOfMemory>
     ensures { IfOk result (λ ps. ps ≡ pieces_of bytes.now) }
 {
     let mut all = Sequence::new(alloc);
+    let read = up_to_last(bytes);
     let mut start = 0;
     let mut at = 0;
-    while at < bytes.len() {
+    while at < read {
         let found = longest_form(&bytes[at..]);
         if !is_end(found.shape) {
             at += found.size;
@@ -34,10 +36,21 @@ pub fn pieces(alloc: Global, bytes: &[u8]) -> Result<Pieces, OutOfMemory>
         at += found.size;
         start = at;
     }
-    if start < at {
-        cut(alloc, &mut all, &bytes[start..at], false)?;
+    if start < bytes.len() {
+        cut(alloc, &mut all, &bytes[start..], false)?;
     }
     Ok(all)
+}
+
+/// How many bytes stand up to the last `;` and with it. Behind it nothing ends a piece, whatever the forms there are.
+fn up_to_last(bytes: &[u8]) -> usize
+    ensures bound { result ≤ length bytes.now }
+    ensures behind { NoEndFrom result bytes.now }
+{
+    match memrchr(b';', bytes) {
+        Some(place) => place + 1,
+        None => 0,
+    }
 }
 
 /// Whether the form is the symbol `;`.

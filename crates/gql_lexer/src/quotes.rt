@@ -60,7 +60,7 @@ fn unescaped(alloc: Global, text: &str, quote: char) -> Result<Text, LexFault>
             None => return Err(LexFault::Bad),
         }
     }
-    Ok(Text::from_string(made))
+    Ok(Text::from_string(alloc, made)?)
 }
 
 /// The first character, and the text behind it.

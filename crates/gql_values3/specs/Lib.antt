@@ -6,6 +6,7 @@ pub mod ValueOrder
 pub mod Truth
 pub mod Comparison
 pub mod Texts
+pub mod Stored
 pub mod PropertyGraph
 pub mod Lookup
 pub mod Names

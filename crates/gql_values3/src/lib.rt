@@ -17,6 +17,7 @@ pub mod properties;
 pub mod property_kind;
 pub mod records;
 pub mod sequence;
+mod short_text;
 pub mod table;
 #[cfg(test)]
 mod tests;

@@ -146,19 +146,49 @@ fn places_count_from_0(rt: HostRuntime) {
 }
 
 #[test]
-fn texts_and_lists_grow_at_the_end(rt: HostRuntime) {
+fn texts_grow_at_the_end(rt: HostRuntime) -> Result<(), Fail> {
     let alloc = rt.alloc();
     let mut text = Text::new(alloc);
     assert!(rt; text.is_empty());
-    assert_eq!(rt; text.push_str("pay"), Ok(()));
-    assert_eq!(rt; text.push_str("ments"), Ok(()));
-    assert_eq!(rt; text.as_str(), "payments");
-    let again = Text::from_string(text.into_string());
-    assert_eq!(rt; again.len(), 8);
+    for (more, all) in [
+        ("pay", "pay"),
+        ("ments made", "payments made"),
+        ("", "payments made"),
+        ("!", "payments made!"),
+        ("?", "payments made!?"),
+        ("é", "payments made!?é"),
+    ] {
+        text.push_str(more)?;
+        assert_eq!(rt; text.as_str(), all);
+        assert_eq!(rt; text.len(), all.len());
+    }
+    Ok(())
+}
+
+#[test]
+fn texts_of_strings_are_the_strings(rt: HostRuntime) -> Result<(), Fail> {
+    let alloc = rt.alloc();
+    for chars in [
+        "",
+        "payments made!",
+        "payments made!?",
+        "payments between accounts",
+    ] {
+        let made = Text::from_string(alloc, String::from_str(alloc, chars)?)?;
+        assert_eq!(rt; made.as_str(), chars);
+        assert_eq!(rt; made.try_copy(alloc)?.as_str(), chars);
+    }
+    Ok(())
+}
+
+#[test]
+fn lists_grow_at_the_end(rt: HostRuntime) -> Result<(), Fail> {
+    let alloc = rt.alloc();
     let mut list = List::new(alloc);
-    assert_eq!(rt; list.push(Value::Int(1)), Ok(()));
+    list.push(Value::Int(1))?;
     let mut more = List::new(alloc);
-    assert_eq!(rt; more.push(Value::Int(2)), Ok(()));
-    assert_eq!(rt; list.extend(more), Ok(()));
+    more.push(Value::Int(2))?;
+    list.extend(more)?;
     assert_eq!(rt; list.into_vec().len(), 2);
+    Ok(())
 }

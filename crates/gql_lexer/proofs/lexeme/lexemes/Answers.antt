@@ -8,7 +8,7 @@ loop-at-preserved-then-is_gap c =
     let f = c.longest_form-found.result in
     let n = c.longest_form-found.ensures.bounds in record {
       here = omega (arith, length-drop c.loop-at.at c.args.piece.now, rw take_rest at n.1);
-      told = gap-on c.loop-at.all c.args.piece.now c.loop-at.at f c.loop-at-test.true (rw take_rest at c.longest_form-found.ensures.value) n.0 (sym c.is_gap.ensures ∙ c.if-is_gap.true)
+      told = gap-on c.loop-at.all.items c.args.piece.now c.loop-at.at f c.loop-at-test.true (rw take_rest at c.longest_form-found.ensures.value) n.0 (sym c.is_gap.ensures ∙ c.if-is_gap.true)
           ∙ c.loop-at.invariant.told;
     }
 
@@ -17,6 +17,6 @@ loop-at-preserved c =
     let f = c.longest_form-found.result in
     let n = c.longest_form-found.ensures.bounds in record {
       here = omega (arith, length-drop c.loop-at.at c.args.piece.now, rw take_rest at n.1);
-      told = lexeme-on c.loop-at.all c.add.new.all c.args.piece.now c.loop-at.at f c.loop-at-test.true (rw take_rest at c.longest_form-found.ensures.value) n.0 (sym c.is_gap.ensures ∙ c.if-is_gap.false) (rw take_rest at c.in_ok-add.ensures)
+      told = lexeme-on c.loop-at.all.items c.add.new.all.items c.args.piece.now c.loop-at.at f c.loop-at-test.true (rw take_rest at c.longest_form-found.ensures.value) n.0 (sym c.is_gap.ensures ∙ c.if-is_gap.false) (rw take_rest at c.in_ok-add.ensures)
           ∙ c.loop-at.invariant.told;
     }

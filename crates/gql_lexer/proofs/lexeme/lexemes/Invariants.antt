@@ -6,7 +6,7 @@ use Rattle.gql_lexer.proofs.lexeme.lexemes.Given as goal
 abbrev pub invariant-loop-at : goal.invariant-loop-at
 invariant-loop-at l = record {
   here : l.at ≤ length l.piece;
-  told : behind l.all (lexemes_of (drop l.at l.piece)) ≡ lexemes_of l.piece;
+  told : behind l.all.items (lexemes_of (drop l.at l.piece)) ≡ lexemes_of l.piece;
 }
 
 abbrev pub decreases-loop-at : goal.decreases-loop-at

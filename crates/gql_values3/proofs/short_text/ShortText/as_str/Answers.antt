@@ -1,0 +1,6 @@
+use Rattle.std.proofs.lemmas.Str.{IsUtf8-had}
+use Rattle.gql_values3.proofs.short_text.ShortText.as_str.Goals as goal
+
+-- the invariant
+pub from_utf8_unchecked-requires : goal.from_utf8_unchecked-requires
+from_utf8_unchecked-requires c = IsUtf8-had _ c.self.invariant.1
