@@ -5,7 +5,7 @@ use Rattle.std.proofs.lemmas.List.Quantifiers.{position-Some}
 use Rattle.std.proofs.lemmas.List.Sums.{position_or_len_is}
 use Rattle.std.specs.List.{flat_map, position, position_or_len}
 use Rattle.std.proofs.lemmas.Bool.Decides.{nat_tests}
-use Rattle.gql_ast.specs.Escapes.{escaped, is_escaped}
+use Rattle.gql_ast.specs.Machinery.Escapes.{escaped, is_escaped}
 use Rattle.gql_ast.specs.declared.text.escapes.Setting.{Setting}
 use Rattle.gql_ast.specs.declared.text.escapes.Setting.TheVariants as settings
 

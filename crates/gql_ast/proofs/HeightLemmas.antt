@@ -1,11 +1,11 @@
 -- An item of a list is no higher than the list.
 use Rattle.std.proofs.Common.{◌≡◌, ℕ, zero, suc, ◌<◌, ◌≤◌, List, [], ◌∷◌, length, map, get_or, ap, arith}
 use Rattle.gql_ast.specs.Label.{Label}
-use Rattle.gql_ast.specs.LabelHeight.{label_height_of, highest_label}
+use Rattle.gql_ast.specs.Machinery.LabelHeight.{label_height_of, highest_label}
 use Rattle.gql_ast.specs.Tree.{Tree, Link}
-use Rattle.gql_ast.specs.Height.{height_of, highest, link_height_of, highest_link}
+use Rattle.gql_ast.specs.Machinery.Height.{height_of, highest, link_height_of, highest_link}
 use Rattle.gql_ast.specs.Pattern.{Pattern}
-use Rattle.gql_ast.specs.PatternHeight.{pattern_height_of, highest_pattern}
+use Rattle.gql_ast.specs.Machinery.PatternHeight.{pattern_height_of, highest_pattern}
 
 -- of label expressions
 pub label_height_of_le-highest_label : {A : Type 0} (f : A → Label) (xs : List A) (i : ℕ) (x : A) → i < length xs → x ≡ get_or xs i x → label_height_of (f x) ≤ highest_label (map f xs)

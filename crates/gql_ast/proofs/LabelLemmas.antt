@@ -1,30 +1,21 @@
 -- Two label expressions of one meaning are one: what means a tree can be read off from the tree.
 use Rattle.std.proofs.Common.{◌≡◌, List, [], ◌∷◌, refl, ap, sym, ◌∙◌}
-use Rattle.gql_ast.specs.Label.{Label, labels_of, items_of_labels, name, wildcard, paren, negation, conjunction, disjunction}
-use Rattle.gql_ast.specs.LabelMeaning.{label_of}
+use Rattle.gql_ast.specs.Label.{Label, labels_listed, items_of_labels, name, wildcard, paren, negation, conjunction, disjunction}
+use Rattle.gql_ast.specs.LabelMeaning.{label_of, label_expr_of}
 use Rattle.gql_ast.specs.declared.label.LabelExpr.{LabelExpr}
 use Rattle.gql_ast.specs.declared.label.LabelExpr.TheVariants as label
 
-pub items_of_labels-labels_of : (es : List Label) → items_of_labels (labels_of es) ≡ es
-items_of_labels-labels_of [] = refl
-items_of_labels-labels_of (e ∷ es) = ap (λ xs. e ∷ xs) (items_of_labels-labels_of es)
-
--- the label expression that means a tree
-abbrev pub label_expr_of : Label → LabelExpr
-label_expr_of (name n) = label.Name n
-label_expr_of wildcard = label.Wildcard
-label_expr_of (paren e) = label.Paren e
-label_expr_of (negation e) = label.Not e
-label_expr_of (conjunction e es) = label.And e (items_of_labels es)
-label_expr_of (disjunction e es) = label.Or e (items_of_labels es)
+pub items_of_labels-labels_listed : (es : List Label) → items_of_labels (labels_listed es) ≡ es
+items_of_labels-labels_listed [] = refl
+items_of_labels-labels_listed (e ∷ es) = ap (λ xs. e ∷ xs) (items_of_labels-labels_listed es)
 
 pub label_expr_of-label_of : (x : LabelExpr) → label_expr_of (label_of x) ≡ x
 label_expr_of-label_of (label.Name n) = refl
 label_expr_of-label_of label.Wildcard = refl
 label_expr_of-label_of (label.Paren e) = refl
 label_expr_of-label_of (label.Not e) = refl
-label_expr_of-label_of (label.And e es) = ap (λ z. label.And e z) (items_of_labels-labels_of es)
-label_expr_of-label_of (label.Or e es) = ap (λ z. label.Or e z) (items_of_labels-labels_of es)
+label_expr_of-label_of (label.And e es) = ap (λ z. label.And e z) (items_of_labels-labels_listed es)
+label_expr_of-label_of (label.Or e es) = ap (λ z. label.Or e z) (items_of_labels-labels_listed es)
 
 pub label_of-injective : (x y : LabelExpr) → label_of x ≡ label_of y → x ≡ y
 label_of-injective x y same = sym (label_expr_of-label_of x) ∙ ap label_expr_of same ∙ label_expr_of-label_of y

@@ -7,5 +7,3 @@ pub mod NumberLemmas
 pub mod PatternLemmas
 mod EvaluationExamples
 mod NameExamples
-mod RefusalExamples
-mod ChangeExamples

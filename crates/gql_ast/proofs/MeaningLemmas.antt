@@ -1,39 +1,28 @@
 -- Two expressions of one meaning are one expression: what means a tree can be read off from the tree.
 use Rattle.std.proofs.Common.{◌≡◌, List, [], ◌∷◌, refl, ap, sym, ◌∙◌}
 use Rattle.gql_values3.specs.Datum.{Datum, data_of, items_of, null, boolean, integer, text, list, node, edge, path}
-use Rattle.gql_values3.specs.Meaning.{datum_of}
+use Rattle.gql_values3.specs.Meaning.{datum_of, as_value}
 use Rattle.gql_values3.specs.declared.value.Value.{Value}
 use Rattle.gql_values3.specs.declared.value.Value.TheVariants as value
-use Rattle.gql_ast.proofs.LabelLemmas.{label_expr_of, label_expr_of-label_of}
+use Rattle.gql_ast.proofs.LabelLemmas.{label_expr_of-label_of}
 use Rattle.gql_ast.specs.Tree.{Tree, Link, trees_of, links_of, items_of_trees, items_of_links, constant, unknown, number, parameter, name, property, paren, listing, count_all, aggregate, call, modulo, coalesce, signed, product, sum, comparing, test, label_test, end_test, negation, conjunction, disjunction}
-use Rattle.gql_ast.specs.Meaning.{tree_of}
+use Rattle.gql_ast.specs.Meaning.{tree_of, expr_of}
 use Rattle.gql_ast.specs.declared.expr.Expr.{Expr}
 use Rattle.gql_ast.specs.declared.expr.Expr.TheVariants as expr
-
--- the value that means a datum
-abbrev pub value_of : Datum → Value
-value_of null = value.Null
-value_of (boolean b) = value.Bool b
-value_of (integer z) = value.Int z
-value_of (text t) = value.Text t
-value_of (list ds) = value.List (items_of ds)
-value_of (node n) = value.Node (record { 0 = n })
-value_of (edge n) = value.Edge (record { 0 = n })
-value_of (path w) = value.Path w
 
 items_of-data_of : (ds : List Datum) → items_of (data_of ds) ≡ ds
 items_of-data_of [] = refl
 items_of-data_of (d ∷ ds) = ap (λ xs. d ∷ xs) (items_of-data_of ds)
 
-value_of-datum_of : (v : Value) → value_of (datum_of v) ≡ v
-value_of-datum_of value.Null = refl
-value_of-datum_of (value.Bool b) = refl
-value_of-datum_of (value.Int z) = refl
-value_of-datum_of (value.Text t) = refl
-value_of-datum_of (value.List ds) = ap value.List (items_of-data_of ds)
-value_of-datum_of (value.Node n) = refl
-value_of-datum_of (value.Edge n) = refl
-value_of-datum_of (value.Path w) = refl
+as_value-datum_of : (v : Value) → as_value (datum_of v) ≡ v
+as_value-datum_of value.Null = refl
+as_value-datum_of (value.Bool b) = refl
+as_value-datum_of (value.Int z) = refl
+as_value-datum_of (value.Text t) = refl
+as_value-datum_of (value.List ds) = ap value.List (items_of-data_of ds)
+as_value-datum_of (value.Node n) = refl
+as_value-datum_of (value.Edge n) = refl
+as_value-datum_of (value.Path w) = refl
 
 pub items_of_trees-trees_of : (es : List Tree) → items_of_trees (trees_of es) ≡ es
 items_of_trees-trees_of [] = refl
@@ -43,34 +32,8 @@ pub items_of_links-links_of : (ls : List Link) → items_of_links (links_of ls) 
 items_of_links-links_of [] = refl
 items_of_links-links_of (l ∷ ls) = ap (λ xs. l ∷ xs) (items_of_links-links_of ls)
 
--- the expression that means a tree
-abbrev pub expr_of : Tree → Expr
-expr_of (constant d) = expr.Constant (value_of d)
-expr_of unknown = expr.Unknown
-expr_of (number n) = expr.Number n
-expr_of (parameter n) = expr.Parameter n
-expr_of (name n) = expr.Name n
-expr_of (property n p) = expr.Property n p
-expr_of (paren e) = expr.Paren e
-expr_of (listing es) = expr.List (items_of_trees es)
-expr_of count_all = expr.CountAll
-expr_of (aggregate g s e) = expr.Aggregate g s e
-expr_of (call f e) = expr.Call f e
-expr_of (modulo a b) = expr.Mod a b
-expr_of (coalesce e es) = expr.Coalesce e (items_of_trees es)
-expr_of (signed s e) = expr.Signed s e
-expr_of (product e ls) = expr.Product e (items_of_links ls)
-expr_of (sum e ls) = expr.Sum e (items_of_links ls)
-expr_of (comparing op a b) = expr.Compare op a b
-expr_of (test e s q) = expr.Is e s q
-expr_of (label_test e s l) = expr.IsLabeled e s (label_expr_of l)
-expr_of (end_test e s end n) = expr.IsEnd e s end n
-expr_of (negation e) = expr.Not e
-expr_of (conjunction e ls) = expr.And e (items_of_links ls)
-expr_of (disjunction e ls) = expr.Or e (items_of_links ls)
-
 pub expr_of-tree_of : (x : Expr) → expr_of (tree_of x) ≡ x
-expr_of-tree_of (expr.Constant d) = ap (λ z. expr.Constant z) (value_of-datum_of d)
+expr_of-tree_of (expr.Constant d) = ap (λ z. expr.Constant z) (as_value-datum_of d)
 expr_of-tree_of expr.Unknown = refl
 expr_of-tree_of (expr.Number n) = refl
 expr_of-tree_of (expr.Parameter n) = refl

@@ -32,6 +32,6 @@ unfolding expr_text digits chars is_xid_start is_xid_continue in_ranges xid_star
 canonical_chain = refl
 
 -- x:A&B
-canonical_labels : expr_text (label_test (name (codes "x")) senses.Is (label.conjunction (label.name (codes "A")) (label.labels_of (label.name (codes "B") ∷ [])))) ≡ codes "x IS LABELED A&B"
+canonical_labels : expr_text (label_test (name (codes "x")) senses.Is (label.conjunction (label.name (codes "A")) (label.labels_listed (label.name (codes "B") ∷ [])))) ≡ codes "x IS LABELED A&B"
 unfolding expr_text digits chars is_xid_start is_xid_continue in_ranges xid_start_ranges xid_continue_ranges reserved_words
 canonical_labels = refl

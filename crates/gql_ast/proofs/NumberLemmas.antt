@@ -11,7 +11,7 @@ use Rattle.std.specs.Fmt.{decimal}
 use Rattle.std.specs.Str.{all_ascii_digits}
 use Rattle.std.proofs.lemmas.Fmt.{decimal-digits_value}
 use Rattle.std.proofs.lemmas.Str.Parse.{IsNumeralModel, numerals_by_weight, tells_all_ascii_digits}
-use Rattle.gql_values3.specs.IntegerLiterals.{value_of_digits}
+use Rattle.gql_values3.specs.Integers.{value_of_digits}
 use Rattle.gql_ast.specs.ExprText.{number_text}
 
 abbrev beyond : ℕ → Bool

@@ -1,7 +1,9 @@
 -- Two path patterns of one meaning are one: what means a tree can be read off from the tree.
 use Rattle.std.proofs.Common.{◌≡◌, ℕ, List, [], ◌∷◌, map, Option, Some, None, option_map, refl, ap, sym, ◌∙◌}
-use Rattle.gql_ast.proofs.LabelLemmas.{label_expr_of, label_expr_of-label_of}
-use Rattle.gql_ast.proofs.MeaningLemmas.{expr_of, expr_of-tree_of}
+use Rattle.gql_ast.specs.LabelMeaning.{label_expr_of}
+use Rattle.gql_ast.proofs.LabelLemmas.{label_expr_of-label_of}
+use Rattle.gql_ast.specs.Meaning.{expr_of}
+use Rattle.gql_ast.proofs.MeaningLemmas.{expr_of-tree_of}
 use Rattle.gql_ast.specs.LabelMeaning.{label_of}
 use Rattle.gql_ast.specs.Tree.{Tree}
 use Rattle.gql_ast.specs.Meaning.{tree_of}

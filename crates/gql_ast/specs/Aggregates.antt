@@ -2,7 +2,7 @@
 use Rattle.std.specs.Prelude.{ℤ, pos, ◌+ℤ◌, not, List, [], ◌∷◌, filter, length, if◌then◌else◌, Result, Ok, Err}
 use Rattle.std.specs.Ordering.{is_eq, is_lt, is_gt}
 use Rattle.gql_values3.specs.Datum.{Datum, null, integer}
-use Rattle.gql_values3.specs.Nesting.{is_null}
+use Rattle.gql_values3.specs.Datum.{is_null}
 use Rattle.gql_values3.specs.ValueOrder.{datum_cmp}
 use Rattle.gql_ast.specs.declared.words.Aggregate.{Aggregate}
 use Rattle.gql_ast.specs.declared.words.Aggregate.TheVariants as aggregate

@@ -2,7 +2,7 @@
 -- deleted element, each rule asked of both operands, where there are two, before the next.
 use Rattle.std.specs.Prelude.{ℕ, Bool, true, false, not, ◌&&◌, ◌||◌, ◌==◌, List, [], ◌∷◌, is_some, Option, Some, None, Result, Ok, Err}
 use Rattle.std.specs.List.{list_any}
-use Rattle.gql_values3.specs.Datum.{Datum, null, node, edge}
+use Rattle.gql_values3.specs.Datum.{Datum, null, or_null, node, edge}
 use Rattle.gql_values3.specs.Texts.{same_text}
 use Rattle.gql_values3.specs.PropertyGraph.{PropertyGraph}
 use Rattle.gql_values3.specs.Lookup.{node_of, edge_of, ends_of, labels_of, property_of}
@@ -36,12 +36,7 @@ element_in g (node n) = undeleted g (elem.Node (record { 0 = n })) >>= λ e. Ok 
 element_in g (edge n) = undeleted g (elem.Edge (record { 0 = n })) >>= λ e. Ok (Some e)
 element_in g _ = Err fault.WrongKind
 
--- a property that isn't there is NULL
-abbrev pub or_null : Option Datum → Datum
-or_null None = null
-or_null (Some d) = d
-
--- `x.p`
+-- `x.p`; a property that isn't there is NULL
 abbrev pub property_value : PropertyGraph → Datum → List ℕ → Result Datum DataFault
 property_value g d p = element_in g d >>= of_element
   where

@@ -1,9 +1,9 @@
 -- Evaluation: the value of an expression, or its first data fault, from left to right.
 use Rattle.std.specs.Prelude.{ℕ, pos, Bool, true, false, not, List, [], ◌∷◌, Option, Some, None, find, option_map, Result, Ok, Err}
 use Rattle.gql_values3.specs.Datum.{Datum, null, boolean, integer, list, items_of}
-use Rattle.gql_values3.specs.Nesting.{is_null}
+use Rattle.gql_values3.specs.Datum.{is_null}
 use Rattle.gql_values3.specs.Texts.{same_text}
-use Rattle.gql_values3.specs.IntegerLiterals.{value_of_digits}
+use Rattle.gql_values3.specs.Integers.{value_of_digits}
 use Rattle.gql_values3.specs.PropertyGraph.{PropertyGraph}
 use Rattle.gql_values3.specs.Truth.{negated, both, either, one_of}
 use Rattle.gql_values3.specs.Comparison.{compared}
@@ -12,8 +12,10 @@ use Rattle.gql_values3.specs.declared.truth.Truth.TheVariants as truth
 use Rattle.gql_ast.specs.Tree.{Tree, Trees, Links, constant, unknown, number, parameter, name, property, paren, listing, count_all, aggregate, call, modulo, coalesce, signed, product, sum, comparing, test, label_test, end_test, negation, conjunction, disjunction, link, no_trees, more_trees, no_links, more_links}
 use Rattle.gql_ast.specs.Faults.{◌>>=◌, each}
 use Rattle.gql_ast.specs.Scope.{Scope, datum_of_name, with_item, group_of}
-use Rattle.gql_ast.specs.Operators.{truth_in, datum_of_truth, made_list, arithmetic, remaining, operated, sign_of, applied}
-use Rattle.gql_ast.specs.ElementTests.{or_null, property_value, labeled_value, directed_value, end_value}
+use Rattle.gql_ast.specs.Operators.{made_list, arithmetic, remaining, operated, sign_of, applied}
+use Rattle.gql_ast.specs.TruthValues.{truth_in, datum_of_truth}
+use Rattle.gql_ast.specs.ElementTests.{property_value, labeled_value, directed_value, end_value}
+use Rattle.gql_values3.specs.Datum.{or_null}
 use Rattle.gql_ast.specs.Aggregates.{considered, aggregated}
 use Rattle.gql_ast.specs.declared.words.Operator.{Operator}
 use Rattle.gql_ast.specs.declared.words.Operator.TheVariants as operator
@@ -69,8 +71,8 @@ or_then _ truth.True side = Ok truth.True
 or_then _ t side = side >>= λ u. Ok (either t u)
 
 -- COALESCE: a value that is not NULL ends it
-abbrev pub or_else : Datum → Result Datum DataFault → Result Datum DataFault
-or_else d more = chosen (is_null d)
+abbrev pub unless_null : Datum → Result Datum DataFault → Result Datum DataFault
+unless_null d more = chosen (is_null d)
   where
     chosen : Bool → Result Datum DataFault
     chosen true = more
@@ -99,7 +101,7 @@ module _ (g : PropertyGraph) (params : List (List ℕ × Datum)) where
         each (λ item. value_of (with_item scope x item) e) (group_items (datum_of_name scope x)) >>= λ ds. aggregated a (considered q ds))
     value_of scope (call f e) = value_of scope e >>= applied f
     value_of scope (modulo a b) = value_of scope a >>= λ x. value_of scope b >>= λ y. arithmetic remaining x y
-    value_of scope (coalesce e es) = value_of scope e >>= λ d. or_else d (first_of scope es)
+    value_of scope (coalesce e es) = value_of scope e >>= λ d. unless_null d (first_value scope es)
     value_of scope (signed s e) = value_of scope e >>= sign_of s
     value_of scope (product e ls) = value_of scope e >>= λ d. chained scope d ls
     value_of scope (sum e ls) = value_of scope e >>= λ d. chained scope d ls
@@ -117,9 +119,9 @@ module _ (g : PropertyGraph) (params : List (List ℕ × Datum)) where
     values_of scope (more_trees e es) = value_of scope e >>= λ d. values_of scope es >>= λ ds. Ok (d ∷ ds)
 
     -- the first value that is not NULL, else NULL
-    pub first_of : Scope → Trees → Result Datum DataFault
-    first_of scope no_trees = Ok null
-    first_of scope (more_trees e es) = value_of scope e >>= λ d. or_else d (first_of scope es)
+    pub first_value : Scope → Trees → Result Datum DataFault
+    first_value scope no_trees = Ok null
+    first_value scope (more_trees e es) = value_of scope e >>= λ d. unless_null d (first_value scope es)
 
     -- a sum or a product after the sides so far
     pub chained : Scope → Datum → Links → Result Datum DataFault

@@ -17,9 +17,9 @@ mutual
     more_labels : Label → Labels → Labels
 
 -- a list as Labels
-abbrev pub labels_of : List Label → Labels
-labels_of [] = no_labels
-labels_of (x ∷ xs) = more_labels x (labels_of xs)
+abbrev pub labels_listed : List Label → Labels
+labels_listed [] = no_labels
+labels_listed (x ∷ xs) = more_labels x (labels_listed xs)
 
 -- the items of Labels
 abbrev pub items_of_labels : Labels → List Label

@@ -1,7 +1,7 @@
 -- The number literals of a statement, and the first that is too large for an integer.
 use Rattle.std.specs.Prelude.{ℕ, nat_lt, Bool, List, [], ◌∷◌, ◌++◌, find, Option, Some, None}
 use Rattle.std.specs.List.{flat_map}
-use Rattle.gql_values3.specs.IntegerLiterals.{value_of_digits}
+use Rattle.gql_values3.specs.Integers.{value_of_digits}
 use Rattle.gql_ast.specs.Filler.{ConditionTree, FillerTree, properties, holds}
 use Rattle.gql_ast.specs.Meaning.{tree_of}
 use Rattle.gql_ast.specs.Pattern.{Pattern, Patterns, node, edge, paren as paren_pattern, repeated, optional, sequence, alternation, multiset_alternation, no_patterns, more_patterns}

@@ -1,13 +1,10 @@
 -- Operators and functions on data: a datum or a fault. NULL gives NULL before kinds are looked at.
-use Rattle.std.specs.Prelude.{ℕ, zero, ℤ, pos, negsuc, ◌+ℤ◌, ◌-ℤ◌, ◌*ℤ◌, int_div, int_rem, true, false, nat_le, List, [], ◌∷◌, ◌++◌, length, Result, Ok, Err, if◌then◌else◌}
+use Rattle.std.specs.Prelude.{ℕ, zero, ℤ, pos, negsuc, ◌+ℤ◌, ◌-ℤ◌, ◌*ℤ◌, int_div, int_rem, nat_le, List, [], ◌∷◌, ◌++◌, length, Result, Ok, Err, if◌then◌else◌}
 use Rattle.std.specs.Str.{chars}
 use Rattle.std.specs.List.{flat_map}
-use Rattle.gql_values3.specs.Datum.{Datum, null, boolean, integer, text, list, node, edge, path, data_of, items_of}
+use Rattle.gql_values3.specs.Datum.{Datum, null, integer, text, list, node, edge, path, data_of, items_of}
 use Rattle.gql_values3.specs.Nesting.{depth}
-use Rattle.gql_values3.specs.PropertyGraph.{is_int64}
-use Rattle.gql_values3.specs.Truth.{truth_of}
-use Rattle.gql_values3.specs.declared.truth.Truth.{Truth}
-use Rattle.gql_values3.specs.declared.truth.Truth.TheVariants as truth
+use Rattle.gql_values3.specs.Integers.{is_int64}
 use Rattle.gql_ast.specs.declared.words.Function.{Function}
 use Rattle.gql_ast.specs.declared.words.Function.TheVariants as function
 use Rattle.gql_ast.specs.declared.words.Operator.{Operator}
@@ -39,18 +36,6 @@ made_list items =
 abbrev pub made_text : List ℕ → Result Datum DataFault
 made_text bytes = if nat_le (length bytes) most_text then Ok (text bytes) else Err fault.TooLarge
 
--- a condition: a boolean or NULL
-abbrev pub truth_in : Datum → Result Truth DataFault
-truth_in null = Ok truth.Unknown
-truth_in (boolean b) = Ok (truth_of b)
-truth_in _ = Err fault.WrongKind
-
--- a truth as a value: Unknown is NULL
-abbrev pub datum_of_truth : Truth → Datum
-datum_of_truth truth.False = boolean false
-datum_of_truth truth.Unknown = null
-datum_of_truth truth.True = boolean true
-
 -- arithmetic on two integers
 abbrev pub arithmetic : (ℤ → ℤ → Result Datum DataFault) → Datum → Datum → Result Datum DataFault
 arithmetic f null b = Ok null
@@ -69,18 +54,18 @@ remaining a (pos zero) = Err fault.DivideByZero
 remaining a b = fitted (int_rem a b)
 
 -- `||` joins two strings or two lists
-abbrev pub joined : Datum → Datum → Result Datum DataFault
-joined null b = Ok null
-joined a null = Ok null
-joined (text a) (text b) = made_text (a ++ b)
-joined (list a) (list b) = made_list (items_of a ++ items_of b)
-joined a b = Err fault.WrongKind
+abbrev pub concatenated : Datum → Datum → Result Datum DataFault
+concatenated null b = Ok null
+concatenated a null = Ok null
+concatenated (text a) (text b) = made_text (a ++ b)
+concatenated (list a) (list b) = made_list (items_of a ++ items_of b)
+concatenated a b = Err fault.WrongKind
 
 -- an operator between two sides of a sum or a product
 abbrev pub operated : Operator → Datum → Datum → Result Datum DataFault
 operated operator.Add a b = arithmetic (λ x y. fitted (x +ℤ y)) a b
 operated operator.Subtract a b = arithmetic (λ x y. fitted (x -ℤ y)) a b
-operated operator.Concatenate a b = joined a b
+operated operator.Concatenate a b = concatenated a b
 operated operator.Multiply a b = arithmetic (λ x y. fitted (x *ℤ y)) a b
 operated operator.Divide a b = arithmetic divided a b
 operated _ a b = Err fault.WrongKind

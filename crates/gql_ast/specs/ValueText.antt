@@ -14,8 +14,8 @@ abbrev pub control : ℕ → List ℕ
 control b = codes "\\u00" ++ hex_digit (b / 16) ∷ hex_digit (b % 16) ∷ []
 
 -- a byte that needs no escape of its own; line feed, carriage return, tab, backspace and form feed have letters
-abbrev pub plainly : ℕ → List ℕ
-plainly b =
+abbrev pub escaped_byte : ℕ → List ℕ
+escaped_byte b =
     if b == 92 then codes "\\\\"
     else if b == 10 then codes "\\n"
     else if b == 13 then codes "\\r"
@@ -27,15 +27,15 @@ plainly b =
 
 -- a byte within a string, whose quote is `'`
 abbrev pub in_string : ℕ → List ℕ
-in_string b = if b == 39 then codes "\\'" else plainly b
+in_string b = if b == 39 then codes "\\'" else escaped_byte b
 
 -- a byte within a delimited name, where a backtick is doubled
 abbrev pub in_ticks : ℕ → List ℕ
-in_ticks b = if b == 96 then codes "``" else plainly b
+in_ticks b = if b == 96 then codes "``" else escaped_byte b
 
 -- a byte of a column's name above the column, where quotes and backslashes stand as they are
 abbrev pub in_header : ℕ → List ℕ
-in_header b = if b == 92 then 92 ∷ [] else plainly b
+in_header b = if b == 92 then 92 ∷ [] else escaped_byte b
 
 abbrev pub string_text : List ℕ → List ℕ
 string_text t = 39 ∷ (flat_map in_string t ++ 39 ∷ [])

@@ -95,7 +95,7 @@ impl Model for Sub {
 
     ghost Value = { Tree };
 
-    ghost use Rattle.gql_ast.specs.TreeCode.{coded_tree};
+    ghost use Rattle.gql_ast.specs.Machinery.TreeCode.{coded_tree};
 
     ghost coded = { coded_tree };
 
@@ -104,12 +104,12 @@ impl Model for Sub {
 
     ghost view = { λ a. tree_of a.expr.value };
 
-    ghost use Rattle.gql_ast.specs.Height.{height_of};
+    ghost use Rattle.gql_ast.specs.Machinery.Height.{height_of};
 
     ghost size = { height_of };
 
     ghost use Rattle.std.proofs.Common.{arith};
-    ghost use Rattle.gql_ast.specs.Falls.{deep_le-height_of};
+    ghost use Rattle.gql_ast.specs.Machinery.Falls.{deep_le-height_of};
 
     ghost size_decreases = { λ a h. omega (arith, deep_le-height_of a.expr.value) };
 }
@@ -121,7 +121,7 @@ impl Model for Exprs {
     ghost Value = { List Tree };
 
     ghost use Rattle.std.specs.Coded.{coded_list};
-    ghost use Rattle.gql_ast.specs.TreeCode.{coded_tree};
+    ghost use Rattle.gql_ast.specs.Machinery.TreeCode.{coded_tree};
 
     ghost coded = { coded_list coded_tree };
 
@@ -130,12 +130,12 @@ impl Model for Exprs {
 
     ghost view = { λ a. map tree_of a.items.items };
 
-    ghost use Rattle.gql_ast.specs.Height.{highest};
+    ghost use Rattle.gql_ast.specs.Machinery.Height.{highest};
 
     ghost size = { highest };
 
     ghost use Rattle.std.proofs.Common.{arith};
-    ghost use Rattle.gql_ast.specs.Falls.{most_le-highest};
+    ghost use Rattle.gql_ast.specs.Machinery.Falls.{most_le-highest};
 
     ghost size_decreases = { λ a h. omega (arith, most_le-highest a.items.items) };
 }
@@ -147,7 +147,7 @@ impl Model for Steps {
     ghost Value = { List Link };
 
     ghost use Rattle.std.specs.Coded.{coded_list};
-    ghost use Rattle.gql_ast.specs.TreeCode.{coded_link};
+    ghost use Rattle.gql_ast.specs.Machinery.TreeCode.{coded_link};
 
     ghost coded = { coded_list coded_link };
 
@@ -155,12 +155,12 @@ impl Model for Steps {
 
     ghost view = { λ a. map link_of a.items.items };
 
-    ghost use Rattle.gql_ast.specs.Height.{highest_link};
+    ghost use Rattle.gql_ast.specs.Machinery.Height.{highest_link};
 
     ghost size = { highest_link };
 
     ghost use Rattle.std.proofs.Common.{arith};
-    ghost use Rattle.gql_ast.specs.Falls.{most_le-highest_link};
+    ghost use Rattle.gql_ast.specs.Machinery.Falls.{most_le-highest_link};
 
     ghost size_decreases = { λ a h. omega (arith, most_le-highest_link a.items.items) };
 }

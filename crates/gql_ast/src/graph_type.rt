@@ -1,11 +1,11 @@
 use crate::change::Arrow;
-use gql_values3::{Names, PropertyKind, Sequence, Text};
+use gql_values3::{Names, PropKind, Sequence, Text};
 
 /// A property of an element of a graph type. `required` is NOT NULL behind its type.
 #[derive(Drop)]
 pub struct TypeProperty {
     pub name: Text,
-    pub kind: PropertyKind,
+    pub kind: PropKind,
     pub required: bool,
 }
 

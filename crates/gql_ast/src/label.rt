@@ -42,7 +42,7 @@ impl Model for LabelSub {
 
     ghost Value = { Label };
 
-    ghost use Rattle.gql_ast.specs.LabelCode.{coded_label};
+    ghost use Rattle.gql_ast.specs.Machinery.LabelCode.{coded_label};
 
     ghost coded = { coded_label };
 
@@ -50,12 +50,12 @@ impl Model for LabelSub {
 
     ghost view = { λ a. label_of a.expr.value };
 
-    ghost use Rattle.gql_ast.specs.LabelHeight.{label_height_of};
+    ghost use Rattle.gql_ast.specs.Machinery.LabelHeight.{label_height_of};
 
     ghost size = { label_height_of };
 
     ghost use Rattle.std.proofs.Common.{arith};
-    ghost use Rattle.gql_ast.specs.LabelFalls.{deep_le-label_height_of};
+    ghost use Rattle.gql_ast.specs.Machinery.LabelFalls.{deep_le-label_height_of};
 
     ghost size_decreases = { λ a h. omega (arith, deep_le-label_height_of a.expr.value) };
 }
@@ -67,7 +67,7 @@ impl Model for LabelList {
     ghost Value = { List Label };
 
     ghost use Rattle.std.specs.Coded.{coded_list};
-    ghost use Rattle.gql_ast.specs.LabelCode.{coded_label};
+    ghost use Rattle.gql_ast.specs.Machinery.LabelCode.{coded_label};
 
     ghost coded = { coded_list coded_label };
 
@@ -75,12 +75,12 @@ impl Model for LabelList {
 
     ghost view = { λ a. map label_of a.items.items };
 
-    ghost use Rattle.gql_ast.specs.LabelHeight.{highest_label};
+    ghost use Rattle.gql_ast.specs.Machinery.LabelHeight.{highest_label};
 
     ghost size = { highest_label };
 
     ghost use Rattle.std.proofs.Common.{arith};
-    ghost use Rattle.gql_ast.specs.LabelFalls.{most_le-highest_label};
+    ghost use Rattle.gql_ast.specs.Machinery.LabelFalls.{most_le-highest_label};
 
     ghost size_decreases = { λ a h. omega (arith, most_le-highest_label a.items.items) };
 }

@@ -8,26 +8,26 @@
 //! are proved against: what evaluation gives (`specs/Evaluation.antt`).
 #![tactic(auto)]
 
-pub mod change;
-pub mod clause;
-pub mod expr;
-pub mod fault;
-pub mod filler;
-pub mod graph_type;
-pub mod label;
-pub mod last_clause;
-pub mod mode;
-pub mod page;
-pub mod parse_fault;
-pub mod path;
-pub mod pattern;
-pub mod projection;
-pub mod refusal;
-pub mod statement;
+mod change;
+mod clause;
+mod expr;
+mod fault;
+mod filler;
+mod graph_type;
+mod label;
+mod last_clause;
+mod mode;
+mod page;
+mod parse_fault;
+mod path;
+mod pattern;
+mod projection;
+mod refusal;
+mod statement;
 #[cfg(test)]
 mod tests;
-pub mod text;
-pub mod words;
+mod text;
+mod words;
 
 pub use change::{
     Arrow, ChangeClause, Detachment, Fill, InsertPath, InsertStep, RemoveItem, SetItem,
@@ -48,5 +48,10 @@ pub use projection::{Return, ReturnItem, ReturnItems};
 pub use refusal::{ColumnRef, ElemKind, Outcome, Refusal};
 pub use statement::{
     AccessMode, CatalogStatement, GraphKind, SessionStatement, Statement, TransactionStatement,
+};
+pub use text::{
+    Setting, a_number_prints_in_decimal, expr_text, push_any_name, push_digits, push_edge,
+    push_escaped, push_expr, push_header, push_integer, push_label, push_name, push_node,
+    push_number, push_parameter, push_property, push_value,
 };
 pub use words::{Aggregate, EdgeEnd, Function, Operator, Quality, Sense, SetQuantifier, Sign};

@@ -36,6 +36,8 @@ pub type PathPatterns = Sequence<PathPattern>;
 /// The path patterns of a MATCH, and what must hold of them together.
 #[derive(Drop)]
 pub struct GraphPattern {
+    /// DIFFERENT EDGES: no edge stands twice in what the path patterns match together. No statement says so yet.
+    pub different: bool,
     pub paths: PathPatterns,
     pub condition: Option<Expr>,
 }

@@ -79,7 +79,7 @@ impl Model for PathSub {
 
     ghost Value = { Pattern };
 
-    ghost use Rattle.gql_ast.specs.PatternCode.{coded_pattern};
+    ghost use Rattle.gql_ast.specs.Machinery.PatternCode.{coded_pattern};
 
     ghost coded = { coded_pattern };
 
@@ -87,12 +87,12 @@ impl Model for PathSub {
 
     ghost view = { λ a. pattern_of a.expr.value };
 
-    ghost use Rattle.gql_ast.specs.PatternHeight.{pattern_height_of};
+    ghost use Rattle.gql_ast.specs.Machinery.PatternHeight.{pattern_height_of};
 
     ghost size = { pattern_height_of };
 
     ghost use Rattle.std.proofs.Common.{arith};
-    ghost use Rattle.gql_ast.specs.PatternFalls.{deep_le-pattern_height_of};
+    ghost use Rattle.gql_ast.specs.Machinery.PatternFalls.{deep_le-pattern_height_of};
 
     ghost size_decreases = { λ a h. omega (arith, deep_le-pattern_height_of a.expr.value) };
 }
@@ -104,7 +104,7 @@ impl Model for PathList {
     ghost Value = { List Pattern };
 
     ghost use Rattle.std.specs.Coded.{coded_list};
-    ghost use Rattle.gql_ast.specs.PatternCode.{coded_pattern};
+    ghost use Rattle.gql_ast.specs.Machinery.PatternCode.{coded_pattern};
 
     ghost coded = { coded_list coded_pattern };
 
@@ -112,12 +112,12 @@ impl Model for PathList {
 
     ghost view = { λ a. map pattern_of a.items.items };
 
-    ghost use Rattle.gql_ast.specs.PatternHeight.{highest_pattern};
+    ghost use Rattle.gql_ast.specs.Machinery.PatternHeight.{highest_pattern};
 
     ghost size = { highest_pattern };
 
     ghost use Rattle.std.proofs.Common.{arith};
-    ghost use Rattle.gql_ast.specs.PatternFalls.{most_le-highest_pattern};
+    ghost use Rattle.gql_ast.specs.Machinery.PatternFalls.{most_le-highest_pattern};
 
     ghost size_decreases = { λ a h. omega (arith, most_le-highest_pattern a.items.items) };
 }

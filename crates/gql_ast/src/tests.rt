@@ -149,6 +149,7 @@ fn trails(alloc: Global) -> Result<Clause, OutOfMemory> {
     Ok(Clause::Match(Match {
         optional: false,
         pattern: GraphPattern {
+            different: false,
             paths: Sequence::from_vec(vec![in alloc; path]?),
             condition: None,
         },

@@ -4,7 +4,7 @@ use Rattle.std.specs.Prelude.{◌||◌}
 use Rattle.std.specs.List.{flat_map}
 use Rattle.gql_values3.specs.Datum.{Datum, data_of, items_of, null, boolean, integer, text, list, node, edge, path}
 use Rattle.gql_values3.specs.Meaning.{datum_of}
-use Rattle.gql_values3.specs.Nesting.{is_null}
+use Rattle.gql_values3.specs.Datum.{is_null}
 use Rattle.gql_values3.specs.PropertyGraph.{PropertyGraph, is_storable, is_property}
 use Rattle.gql_values3.specs.declared.element.Elem.{Elem}
 use Rattle.gql_values3.specs.declared.value.Value.{Value}
@@ -17,7 +17,8 @@ use Rattle.gql_eval.specs.declared.error.EvalError.{EvalError}
 use Rattle.gql_eval.specs.declared.error.EvalError.TheVariants as error
 use Rattle.gql_change.specs.RowSteps.{each_some}
 use Rattle.gql_ast.specs.declared.fault.DataFault.TheVariants as fault
-use Rattle.gql_change.specs.Assignments.{as_value, set_property}
+use Rattle.gql_change.specs.Assignments.{set_property}
+use Rattle.gql_values3.specs.Meaning.{as_value}
 use Rattle.gql_change.specs.declared.assignment.Act.TheVariants as act
 
 abbrev pub joined : {B : Type 0} → List (List B) → List B

@@ -15,7 +15,7 @@ use Rattle.gql_values3.specs.declared.element.Elem.{Elem}
 use Rattle.gql_values3.specs.declared.element.Elem.TheVariants as elem
 use Rattle.gql_values3.specs.declared.records.NodeRecord.{NodeRecord}
 use Rattle.gql_values3.specs.declared.records.EdgeRecord.{EdgeRecord}
-use Rattle.gql_ast.specs.ElementTests.{or_null}
+use Rattle.gql_values3.specs.Datum.{or_null}
 use Rattle.gql_change.specs.Storing.{PropertyList}
 use Rattle.gql_change.proofs.StoringLemmas.{left_true, right_true, text_cmp, first_above, lower, above_ascends, names}
 

@@ -23,7 +23,8 @@ use Rattle.gql_ast.specs.declared.fault.DataFault.TheVariants as fault
 use Rattle.gql_eval.specs.Next.{next}
 use Rattle.gql_change.specs.RowSteps.{RowList, each_some}
 use Rattle.gql_change.specs.Storing.{stored}
-use Rattle.gql_change.specs.Assignments.{as_value, on, target_in, set_property, set_by, removed_by, set_assignments, remove_assignments}
+use Rattle.gql_change.specs.Assignments.{on, target_in, set_property, set_by, removed_by, set_assignments, remove_assignments}
+use Rattle.gql_values3.specs.Meaning.{as_value}
 use Rattle.gql_change.specs.Swaps.{act_fits, fits, all_fit}
 use Rattle.gql_change.specs.declared.assignment.Act.{Act}
 use Rattle.gql_change.specs.declared.assignment.Act.TheVariants as act

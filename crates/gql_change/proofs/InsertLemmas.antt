@@ -13,7 +13,7 @@ use Rattle.gql_values3.specs.declared.table.ColumnKind.{ColumnKind}
 use Rattle.gql_values3.specs.declared.table.ColumnKind.TheVariants as kind
 use Rattle.gql_ast.specs.ClauseColumns.{ColumnList, is_column}
 use Rattle.gql_ast.specs.InsertColumns.{Spots, with_variable}
-use Rattle.gql_ast.specs.WrongKinds.{wrong_endpoint, wrong_in_spots}
+use Rattle.gql_ast.specs.Endpoints.{wrong_endpoint, wrong_in_spots}
 use Rattle.gql_ast.specs.declared.change.Arrow.{Arrow}
 use Rattle.gql_ast.specs.declared.change.Arrow.TheVariants as arrow
 use Rattle.gql_ast.specs.declared.change.Fill.{Fill}

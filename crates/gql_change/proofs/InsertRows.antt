@@ -6,7 +6,7 @@ use Rattle.gql_values3.specs.declared.element.NodeId.{NodeId}
 use Rattle.gql_ast.specs.Faults.{◌>>=◌}
 use Rattle.gql_ast.specs.ClauseColumns.{ColumnList}
 use Rattle.gql_ast.specs.InsertColumns.{insert_spots}
-use Rattle.gql_ast.specs.WrongKinds.{wrong_in_spots}
+use Rattle.gql_ast.specs.Endpoints.{wrong_in_spots}
 use Rattle.gql_ast.specs.declared.change.InsertPath.{InsertPath}
 use Rattle.gql_ast.specs.declared.fault.DataFault.{DataFault}
 use Rattle.gql_ast.specs.declared.refusal.ElemKind.{ElemKind}

@@ -10,7 +10,7 @@ use Rattle.gql_ast.specs.ClauseColumns.{ColumnList, is_column}
 use Rattle.gql_ast.specs.InsertColumns.{Spots, with_variable}
 use Rattle.gql_ast.specs.Outputs.{kind_of_name}
 use Rattle.gql_ast.specs.Scope.{row_scope, datum_of_name, datum_in}
-use Rattle.gql_ast.specs.WrongKinds.{is_node, wrong_endpoint, wrong_in_spots}
+use Rattle.gql_ast.specs.Endpoints.{is_node, wrong_endpoint, wrong_in_spots}
 use Rattle.gql_eval.specs.Places.{place_among}
 use Rattle.gql_eval.specs.ScopeMeaning.{column_entry}
 use Rattle.gql_eval.proofs.ScopeLemmas.{at_place, entry_at_place, place_below}

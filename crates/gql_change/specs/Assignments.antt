@@ -1,7 +1,8 @@
 -- SET and REMOVE: what they do to which elements. All expressions are evaluated on the graph before the clause, rows in
 -- order, and items in the order of the text; in an item the target is looked at before the expression.
 use Rattle.std.specs.Prelude.{ℕ, List, [], ◌∷◌, Option, Some, None, Result, Ok}
-use Rattle.gql_values3.specs.Datum.{Datum, null, boolean, integer, text, list, node, edge, path, items_of}
+use Rattle.gql_values3.specs.Datum.{Datum}
+use Rattle.gql_values3.specs.Meaning.{as_value}
 use Rattle.gql_values3.specs.PropertyGraph.{PropertyGraph}
 use Rattle.gql_values3.specs.declared.element.Elem.{Elem}
 use Rattle.gql_values3.specs.declared.value.Value.{Value}
@@ -22,17 +23,6 @@ use Rattle.gql_change.specs.Storing.{stored}
 use Rattle.gql_change.specs.declared.assignment.Act.{Act}
 use Rattle.gql_change.specs.declared.assignment.Act.TheVariants as act
 use Rattle.gql_change.specs.declared.assignment.Assignment.{Assignment}
-
--- the value of the code that a datum is the meaning of
-abbrev pub as_value : Datum → Value
-as_value null = v.Null
-as_value (boolean b) = v.Bool b
-as_value (integer z) = v.Int z
-as_value (text t) = v.Text t
-as_value (list ds) = v.List (items_of ds)
-as_value (node n) = v.Node (record { 0 = n })
-as_value (edge n) = v.Edge (record { 0 = n })
-as_value (path p) = v.Path p
 
 -- nothing is done to NULL
 abbrev pub on : Option Elem → Act → List Assignment

@@ -6,7 +6,7 @@ use Rattle.gql_values3.specs.Datum.{Datum}
 use Rattle.gql_values3.specs.PropertyGraph.{PropertyGraph}
 use Rattle.gql_ast.specs.ClauseColumns.{ColumnList}
 use Rattle.gql_ast.specs.InsertColumns.{insert_spots}
-use Rattle.gql_ast.specs.WrongKinds.{wrong_in_spots}
+use Rattle.gql_ast.specs.Endpoints.{wrong_in_spots}
 use Rattle.gql_ast.specs.declared.change.ChangeClause.{ChangeClause}
 use Rattle.gql_ast.specs.declared.change.ChangeClause.TheVariants as change
 use Rattle.gql_ast.specs.declared.change.Detachment.{Detachment}

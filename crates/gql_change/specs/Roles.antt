@@ -9,7 +9,8 @@ use Rattle.gql_values3.specs.declared.value.Value.{Value}
 use Rattle.gql_ast.specs.Meaning.{tree_of}
 use Rattle.gql_ast.specs.Scope.{row_scope}
 use Rattle.gql_ast.specs.Evaluation.{value_of}
-use Rattle.gql_ast.specs.ElementTests.{element_in, or_null}
+use Rattle.gql_ast.specs.ElementTests.{element_in}
+use Rattle.gql_values3.specs.Datum.{or_null}
 use Rattle.gql_ast.specs.Faults.{◌>>=◌, each}
 use Rattle.gql_ast.specs.ClauseColumns.{ColumnList}
 use Rattle.gql_ast.specs.InsertColumns.{Spots, with_variable}

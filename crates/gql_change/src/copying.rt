@@ -4,7 +4,7 @@ ghost use Rattle.std.specs.Prelude.{◌≡◌, map, IfOk, IsTrue};
 ghost use Rattle.gql_values3.specs.Meaning.{datum_of};
 ghost use Rattle.gql_values3.specs.PropertyGraph.{is_graph};
 ghost use Rattle.gql_values3.specs.Lookup.{labels_of, properties_of, property_of};
-ghost use Rattle.gql_ast.specs.ElementTests.{or_null};
+ghost use Rattle.gql_values3.specs.Datum.{or_null};
 
 use gql_values3::{Elem, OutOfMemory, Text, Value, View};
 use std::alloc::Global;

@@ -14,7 +14,7 @@ use Rattle.gql_values3.proofs.OrderLaws.{exact_datum}
 use Rattle.gql_ast.specs.declared.fault.DataFault.{DataFault}
 use Rattle.gql_ast.specs.Faults.{◌>>=◌, each}
 use Rattle.gql_ast.specs.Operators.{fitted}
-use Rattle.gql_values3.specs.Nesting.{is_null}
+use Rattle.gql_values3.specs.Datum.{is_null}
 use Rattle.gql_ast.specs.Aggregates.{addend, total, summed, distinct, considered}
 use Rattle.gql_ast.specs.declared.words.SetQuantifier.{SetQuantifier}
 use Rattle.gql_ast.specs.declared.words.SetQuantifier.TheVariants as quantifier

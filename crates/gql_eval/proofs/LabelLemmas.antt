@@ -1,18 +1,18 @@
 -- The sides of a label expression, from one on.
 use Rattle.std.proofs.Common.{◌≡◌, ℕ, zero, suc, ◌+◌, ◌<◌, ◌≤◌, Bool, ◌&&◌, ◌||◌, List, [], ◌∷◌, length, map, drop, get_or, ap, arith}
 use Rattle.std.proofs.lemmas.Grind.{common_steps}
-use Rattle.gql_ast.specs.Label.{labels_of}
+use Rattle.gql_ast.specs.Label.{labels_listed}
 use Rattle.gql_ast.specs.LabelMeaning.{label_of}
-use Rattle.gql_ast.specs.LabelHeight.{label_height_of, highest_label}
+use Rattle.gql_ast.specs.Machinery.LabelHeight.{label_height_of, highest_label}
 use Rattle.gql_ast.specs.ElementTests.{has_labels, has_all_labels, has_some_labels}
 use Rattle.gql_ast.specs.declared.label.LabelExpr.{LabelExpr}
 
 -- whether the sides from i on are all fulfilled, or some of them
 abbrev pub all_from : List (List ℕ) → List LabelExpr → ℕ → Bool
-all_from ls parts i = has_all_labels ls (labels_of (map label_of (drop i parts)))
+all_from ls parts i = has_all_labels ls (labels_listed (map label_of (drop i parts)))
 
 abbrev pub some_from : List (List ℕ) → List LabelExpr → ℕ → Bool
-some_from ls parts i = has_some_labels ls (labels_of (map label_of (drop i parts)))
+some_from ls parts i = has_some_labels ls (labels_listed (map label_of (drop i parts)))
 
 pub all_step : (ls : List (List ℕ)) (parts : List LabelExpr) (i : ℕ) (e : LabelExpr) → i < length parts → e ≡ get_or parts i e
     → all_from ls parts i ≡ (has_labels ls (label_of e) && all_from ls parts (i + 1))

@@ -14,7 +14,7 @@ use Rattle.gql_ast.specs.declared.words.Sense.{Sense}
 use Rattle.gql_ast.specs.declared.words.Quality.{Quality}
 use Rattle.gql_ast.specs.declared.words.EdgeEnd.{EdgeEnd}
 use Rattle.gql_ast.specs.Meaning.{tree_of}
-use Rattle.gql_ast.specs.Operators.{truth_in, datum_of_truth}
+use Rattle.gql_ast.specs.TruthValues.{truth_in, datum_of_truth}
 use Rattle.gql_values3.specs.Truth.{negated}
 use Rattle.gql_ast.specs.Scope.{Scope}
 use Rattle.gql_ast.specs.Tree.{Tree}

@@ -6,7 +6,7 @@ use Rattle.gql_eval.proofs.ScopeLemmas.{first, find_append}
 use Rattle.std.proofs.lemmas.Grind.{common_steps}
 use Rattle.gql_ast.specs.Tree.{Trees, Links, trees_of, links_of, more_trees, more_links}
 use Rattle.gql_ast.specs.Meaning.{tree_of, link_of}
-use Rattle.gql_ast.specs.Height.{height_of, highest, highest_link}
+use Rattle.gql_ast.specs.Machinery.Height.{height_of, highest, highest_link}
 use Rattle.gql_ast.specs.declared.expr.Expr.{Expr}
 use Rattle.gql_ast.specs.declared.expr.Step.{Step}
 

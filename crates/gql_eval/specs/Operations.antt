@@ -7,7 +7,8 @@ use Rattle.gql_values3.specs.Comparison.{compared}
 use Rattle.gql_ast.specs.Tree.{Tree, call, modulo, signed, comparing, test, label_test, end_test, negation}
 use Rattle.gql_ast.specs.Faults.{◌>>=◌}
 use Rattle.gql_ast.specs.Scope.{Scope, datum_of_name}
-use Rattle.gql_ast.specs.Operators.{truth_in, datum_of_truth, arithmetic, remaining, sign_of, applied}
+use Rattle.gql_ast.specs.Operators.{arithmetic, remaining, sign_of, applied}
+use Rattle.gql_ast.specs.TruthValues.{truth_in, datum_of_truth}
 use Rattle.gql_ast.specs.ElementTests.{labeled_value, end_value}
 use Rattle.gql_ast.specs.Evaluation.{comparison_value, quality_value, sensed}
 use Rattle.gql_ast.specs.declared.fault.DataFault.{DataFault}

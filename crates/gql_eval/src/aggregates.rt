@@ -2,7 +2,7 @@
 
 ghost use Rattle.std.specs.Prelude.{◌≡◌, map, filter, not, IfOk};
 ghost use Rattle.gql_values3.specs.Meaning.{datum_of};
-ghost use Rattle.gql_values3.specs.Nesting.{is_null};
+ghost use Rattle.gql_values3.specs.Datum.{is_null};
 ghost use Rattle.gql_ast.specs.Aggregates.{considered, distinct, aggregated, addend, summed, lesser, greater, least, least_of, greatest, greatest_of};
 ghost use Rattle.gql_eval.specs.Kept.{kept};
 ghost use Rattle.gql_eval.specs.WholeSum.{total_of};

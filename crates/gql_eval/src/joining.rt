@@ -1,7 +1,7 @@
 ghost use Rattle.std.specs.Prelude.{◌≡◌, ◌++◌, map, nat_le, true, IfOk};
 ghost use Rattle.gql_values3.specs.Meaning.{datum_of};
 ghost use Rattle.gql_values3.specs.Nesting.{depth, depth_all};
-ghost use Rattle.gql_ast.specs.Operators.{joined, made_text, made_list};
+ghost use Rattle.gql_ast.specs.Operators.{concatenated, made_text, made_list};
 ghost use Rattle.gql_eval.specs.Gives.{Gives};
 
 use crate::error::EvalError;
@@ -15,7 +15,7 @@ use std::alloc::Global;
 #[tactic(auto, using(crate::proofs::ItemLemmas::items_again))]
 pub fn join(alloc: Global, a: Value, is_within: bool, b: &Value) -> Result<Value, EvalError>
     requires within { is_within ≡ true → nat_le (depth (datum_of a)) 64 ≡ true }
-    ensures value { Gives datum_of result (joined (datum_of a) (datum_of b.now)) }
+    ensures value { Gives datum_of result (concatenated (datum_of a) (datum_of b.now)) }
     ensures within { IfOk result (λ value. nat_le (depth (datum_of value)) 64 ≡ true) }
 {
     match (a, b) {

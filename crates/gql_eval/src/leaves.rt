@@ -1,7 +1,7 @@
 ghost use Rattle.std.specs.Prelude.{◌≡◌, pos, Ok};
 ghost use Rattle.std.specs.Str.{all_ascii_digits};
 ghost use Rattle.gql_values3.specs.Datum.{integer};
-ghost use Rattle.gql_values3.specs.IntegerLiterals.{value_of_digits};
+ghost use Rattle.gql_values3.specs.Integers.{value_of_digits};
 ghost use Rattle.gql_values3.specs.Meaning.{datum_of};
 ghost use Rattle.gql_ast.specs.Scope.{datum_of_name};
 ghost use Rattle.gql_ast.specs.ElementTests.{property_value};

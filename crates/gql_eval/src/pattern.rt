@@ -1,7 +1,7 @@
 ghost use Rattle.std.specs.Prelude.{◌≡◌, ◌++◌, IfOk};
 ghost use Rattle.gql_ast.specs.Meaning.{tree_of};
 ghost use Rattle.gql_ast.specs.Scope.{row_scope};
-ghost use Rattle.gql_ast.specs.Operators.{truth_in};
+ghost use Rattle.gql_ast.specs.TruthValues.{truth_in};
 ghost use Rattle.gql_ast.specs.Evaluation.{value_of, pattern_truth};
 ghost use Rattle.gql_eval.specs.Bound.{bound_scope};
 ghost use Rattle.gql_eval.specs.Gives.{Gives};

@@ -5,7 +5,7 @@ ghost use Rattle.gql_values3.specs.Comparison.{compared};
 ghost use Rattle.gql_values3.specs.Truth.{negated};
 ghost use Rattle.gql_values3.specs.Meaning.{datum_of};
 ghost use Rattle.gql_ast.specs.LabelMeaning.{label_of};
-ghost use Rattle.gql_ast.specs.Operators.{truth_in, datum_of_truth};
+ghost use Rattle.gql_ast.specs.TruthValues.{truth_in, datum_of_truth};
 ghost use Rattle.gql_ast.specs.ElementTests.{labeled_value, end_value};
 ghost use Rattle.gql_ast.specs.Evaluation.{comparison_value, quality_value, sensed};
 ghost use Rattle.gql_eval.specs.Gives.{Gives};

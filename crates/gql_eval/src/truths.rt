@@ -4,7 +4,7 @@ ghost use Rattle.gql_values3.specs.declared.truth.Truth.{Truth};
 ghost use Rattle.gql_ast.specs.declared.fault.DataFault.{DataFault};
 ghost use Rattle.gql_ast.specs.Faults.{Given};
 ghost use Rattle.gql_values3.specs.Meaning.{datum_of};
-ghost use Rattle.gql_ast.specs.Operators.{truth_in, datum_of_truth};
+ghost use Rattle.gql_ast.specs.TruthValues.{truth_in, datum_of_truth};
 ghost use Rattle.gql_ast.specs.Evaluation.{sensed, is_truth, or_then};
 ghost use Rattle.gql_eval.specs.JoinedTruth.{joined_truth};
 ghost use Rattle.gql_eval.specs.Gives.{Gives};

@@ -10,13 +10,13 @@ use Rattle.gql_front.proofs.Found.{Found, exact, Sound, Complete, some_is, bind_
 use Rattle.gql_front.proofs.LexemeTests.{after_sign, sign_is, cond_some_is}
 use Rattle.gql_front.proofs.Chains.{Consumes, Many, operators_apart, sequence_found, level_sound}
 use Rattle.gql_front.proofs.Agree.{agree, is_longest}
-use Rattle.gql_ast.specs.Label.{Label, Labels, labels_of, items_of_labels, name, wildcard, paren, negation, conjunction, disjunction, no_labels, more_labels}
+use Rattle.gql_ast.specs.Label.{Label, Labels, labels_listed, items_of_labels, name, wildcard, paren, negation, conjunction, disjunction, no_labels, more_labels}
 use Rattle.gql_exprs.specs.LabelGrammar.{at_base, at_factor, at_term, at_expression, label_rank, IsLabel, AreSides}
 use Rattle.gql_exprs.specs.LabelReaders.{symbol_op, operand, negated, conjoined, disjoined, paren_of, base_of, factor_of, term_of, expression_of, read_to, read_label}
 
-labels_of-items_of_labels : (es : Labels) → labels_of (items_of_labels es) ≡ es
-labels_of-items_of_labels no_labels = refl
-labels_of-items_of_labels (more_labels e es) = ap (λ z. more_labels e z) (labels_of-items_of_labels es)
+labels_listed-items_of_labels : (es : Labels) → labels_listed (items_of_labels es) ≡ es
+labels_listed-items_of_labels no_labels = refl
+labels_listed-items_of_labels (more_labels e es) = ap (λ z. more_labels e z) (labels_listed-items_of_labels es)
 
 -- what derives takes a lexeme at least
 mutual
@@ -75,7 +75,7 @@ not_both g place stop t o e h = let q = ap g (symbol_op_is place t o e) in cc
 -- A level of chains, once for both: an item alone, or a node of it and further sides
 
 abbrev SidesAre : ℕ → ℕ → List Label → List Lexeme → List Lexeme → Type 0
-SidesAre k place es ts r = AreSides (labels_of es) k place ts r
+SidesAre k place es ts r = AreSides (labels_listed es) k place ts r
 
 abbrev Side : ℕ → ℕ → Label → List Lexeme → List Lexeme → Type 0
 Side k place = StepIs (symbol_op place) (At k) operand
@@ -194,9 +194,9 @@ module _ (n : ℕ) (f : Reader Label) (inner : Inner n f) where
       is_complete (conjunction e no_labels) ts s le h = absurd h.derived.3
       is_complete (conjunction e (more_labels c cs)) ts s le h =
           let d = h.derived in
-          subst (λ z. Found (term_of f ts) goes_term (conjunction e (more_labels c z)) s) (labels_of-items_of_labels cs)
+          subst (λ z. Found (term_of f ts) goes_term (conjunction e (more_labels c z)) s) (labels_listed-items_of_labels cs)
           (chain_found at_factor n ampersand refl goes_base (factor_of f) factor_reads refl conjoined e (items_of_labels (more_labels c cs)) ts d.1 s le (record { ranked = d.0; derived = d.2 })
-          (subst (λ z. AreSides (more_labels c z) at_factor ampersand d.1 s) (sym (labels_of-items_of_labels cs)) d.4))
+          (subst (λ z. AreSides (more_labels c z) at_factor ampersand d.1 s) (sym (labels_listed-items_of_labels cs)) d.4))
       is_complete y ts s le h =
           chain_found at_factor n ampersand refl goes_base (factor_of f) factor_reads refl conjoined y [] ts s s le (record { ranked = omega (arith, h.ranked); derived = h.derived }) refl
 
@@ -211,9 +211,9 @@ module _ (n : ℕ) (f : Reader Label) (inner : Inner n f) where
       is_complete (disjunction e no_labels) ts s le h = absurd h.derived.3
       is_complete (disjunction e (more_labels c cs)) ts s le h =
           let d = h.derived in
-          subst (λ z. Found (expression_of f ts) goes_label (disjunction e (more_labels c z)) s) (labels_of-items_of_labels cs)
+          subst (λ z. Found (expression_of f ts) goes_label (disjunction e (more_labels c z)) s) (labels_listed-items_of_labels cs)
           (chain_found at_term n bar refl goes_term (term_of f) term_reads refl disjoined e (items_of_labels (more_labels c cs)) ts d.1 s le (record { ranked = d.0; derived = d.2 })
-          (subst (λ z. AreSides (more_labels c z) at_term bar d.1 s) (sym (labels_of-items_of_labels cs)) d.4))
+          (subst (λ z. AreSides (more_labels c z) at_term bar d.1 s) (sym (labels_listed-items_of_labels cs)) d.4))
       is_complete y ts s le h =
           chain_found at_term n bar refl goes_term (term_of f) term_reads refl disjoined y [] ts s s le (record { ranked = omega (arith, h.ranked); derived = h.derived }) refl
 

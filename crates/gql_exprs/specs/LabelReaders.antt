@@ -4,7 +4,7 @@ use Rattle.gql_lexer.specs.declared.lexeme.Lexeme.{Lexeme}
 use Rattle.gql_lexer.specs.declared.lexeme.Lexeme.TheVariants.{Word, Name, Chars, Number, Param, Sign}
 use Rattle.gql_front.specs.SymbolPlaces.{opening, closing, percent, ampersand, bar, bang}
 use Rattle.gql_front.specs.Reading.{◌>>=◌, Reader, is_sign, after, step, many, chain, prefix, one_or}
-use Rattle.gql_ast.specs.Label.{Label, labels_of, name, wildcard, paren, negation, conjunction, disjunction}
+use Rattle.gql_ast.specs.Label.{Label, labels_listed, name, wildcard, paren, negation, conjunction, disjunction}
 use Rattle.gql_exprs.specs.declared.labels.LabelChain.{LabelChain}
 use Rattle.gql_exprs.specs.declared.labels.LabelChain.TheVariants.{Or, And}
 
@@ -21,10 +21,10 @@ negated o e = negation e
 
 -- the chains of `&` and of `|`
 abbrev pub conjoined : Label → List Label → Label
-conjoined e es = conjunction e (labels_of es)
+conjoined e es = conjunction e (labels_listed es)
 
 abbrev pub disjoined : Label → List Label → Label
-disjoined e es = disjunction e (labels_of es)
+disjoined e es = disjunction e (labels_listed es)
 
 module _ (f : Reader Label) where
   -- behind an opening parenthesis

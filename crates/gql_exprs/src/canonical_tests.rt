@@ -3,7 +3,7 @@
 use crate::expression_tests::shown::write;
 use crate::expression_tests::{BRACKETS, CHAINS, Case, LEAVES, TESTS, parsed, read};
 use gql_ast::Expr;
-use gql_ast::text::expr_text;
+use gql_ast::expr_text;
 use std::alloc::Global;
 use std::test::Fail;
 

@@ -1,25 +1,25 @@
 //! Graph types: what the nodes and edges of a graph may be. No catalog has one before CREATE GRAPH TYPE is a statement.
 
-use gql_values3::{Names, PropertyKind, Sequence, Text};
+use gql_values3::{Names, PropKind, Sequence, Text};
 
 /// A property that a node or an edge may have.
 #[derive(Debug, Drop)]
-pub struct PropertyType {
+pub struct PropType {
     pub name: Text,
-    pub kind: PropertyKind,
+    pub kind: PropKind,
     /// Whether each such node or edge has it.
     pub required: bool,
 }
 
 /// Properties by strictly ascending name.
-pub type PropertyTypes = Sequence<PropertyType>;
+pub type PropTypes = Sequence<PropType>;
 
 /// What a node may be: one that has exactly these labels, and no properties but these.
 #[derive(Debug, Drop)]
 pub struct NodeType {
     /// Strictly ascending.
     pub labels: Names,
-    pub properties: PropertyTypes,
+    pub properties: PropTypes,
 }
 
 /// What an edge may be, between nodes of two types.
@@ -32,7 +32,7 @@ pub struct EdgeType {
     pub second: u64,
     /// Strictly ascending.
     pub labels: Names,
-    pub properties: PropertyTypes,
+    pub properties: PropTypes,
 }
 
 /// Each node of a graph of this type is one of the node types, and each edge one of the edge types.

@@ -33,5 +33,5 @@ pub use change::{Change, Changes};
 pub use edit::Edit;
 pub use gql_values3::{EdgeRecord, NodeRecord};
 pub use graph::{EdgeRecords, Graph, NodeRecords};
-pub use graph_type::{EdgeType, GraphType, NodeType, PropertyType, PropertyTypes};
+pub use graph_type::{EdgeType, GraphType, NodeType, PropType, PropTypes};
 pub use held::Held;

@@ -2,7 +2,8 @@ ghost use Rattle.std.specs.Prelude.{◌≡◌, map};
 ghost use Rattle.std.specs.List.{list_all};
 ghost use Rattle.gql_values3.specs.Datum.{data_of};
 ghost use Rattle.gql_values3.specs.Meaning.{datum_of};
-ghost use Rattle.gql_values3.specs.PropertyGraph.{is_int64, is_storable, are_storable, is_property, are_properties};
+ghost use Rattle.gql_values3.specs.PropertyGraph.{is_storable, are_storable, is_property, are_properties};
+ghost use Rattle.gql_values3.specs.Integers.{is_int64};
 
 use crate::names::keys_ascend;
 use gql_values3::{Properties, Text, Value};

@@ -2,7 +2,7 @@
 
 use crate::answer::{Answer, RunFault};
 use crate::query::run_query;
-use gql_ast::text::push_value;
+use gql_ast::push_value;
 use gql_ast::{
     Clause, Condition, DataFault, Expr, Exprs, Filler, For, GraphPattern, LabelExpr, Map, MapItem,
     Match, Operator, PathExpr, PathPattern, PathPatterns, Query, Refusal, Return, ReturnItems,
@@ -81,7 +81,11 @@ fn filter_x(alloc: Global) -> Result<Clause, OutOfMemory> {
 fn matching(paths: PathPatterns, condition: Option<Expr>) -> Clause {
     Clause::Match(Match {
         optional: false,
-        pattern: GraphPattern { paths, condition },
+        pattern: GraphPattern {
+            different: false,
+            paths,
+            condition,
+        },
     })
 }
 

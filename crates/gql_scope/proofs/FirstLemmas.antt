@@ -5,10 +5,10 @@ use Rattle.std.specs.List.{list_any}
 use Rattle.std.specs.Option.{option_or}
 use Rattle.gql_values3.specs.Datum.{Datum}
 use Rattle.gql_values3.specs.Texts.{same_text}
-use Rattle.gql_ast.specs.UnsetParameters.{unset, is_set}
+use Rattle.gql_scope.specs.UnsetParameters.{unset, is_set}
 use Rattle.gql_ast.specs.RowAggregates.{RowAggregate}
 use Rattle.gql_ast.specs.Projections.{has_none}
-use Rattle.gql_ast.specs.Misuses.{are_two}
+use Rattle.gql_scope.specs.Misuses.{are_two}
 use Rattle.gql_scope.specs.First.{first}
 use Rattle.gql_scope.proofs.KnowingLemmas.{same_text-refl}
 

@@ -3,18 +3,18 @@ use Rattle.std.proofs.Common.{◌≡◌, List, [], ◌∷◌, ◌++◌}
 use Rattle.std.specs.Option.{option_or}
 use Rattle.gql_ast.specs.ClauseColumns.{ColumnList}
 use Rattle.gql_ast.specs.Meaning.{tree_of}
-use Rattle.gql_ast.specs.Misuses.{misused_let, misused_expr, elsewhere}
+use Rattle.gql_scope.specs.Misuses.{misused_let, misused_expr, elsewhere}
 use Rattle.gql_ast.specs.Outputs.{kind_of}
-use Rattle.gql_ast.specs.StaticRefusals.{first_of, misuse_if}
-use Rattle.gql_ast.specs.UnknownNames.{taken, unknown_in_expr, unknown_in_let}
+use Rattle.gql_scope.specs.StaticRefusals.{refusal_of_first, misuse_if}
+use Rattle.gql_scope.specs.UnknownNames.{taken, unknown_in_expr, unknown_in_let}
 use Rattle.gql_ast.specs.declared.clause.LetItem.{LetItem}
 use Rattle.gql_ast.specs.declared.refusal.Refusal.TheVariants as refusal
 use Rattle.gql_scope.proofs.RefusalLemmas.{first_of_in_two, misuse_in_two}
 
 pub unknown_in_let-item : (columns : ColumnList) (i : LetItem) (is : List LetItem)
-    → first_of refusal.Variable (unknown_in_let columns (i ∷ is))
-    ≡ option_or (first_of refusal.Variable (taken columns i.name ++ unknown_in_expr columns i.value))
-    (first_of refusal.Variable (unknown_in_let (columns ++ (i.name, kind_of columns (tree_of i.value)) ∷ []) is))
+    → refusal_of_first refusal.Variable (unknown_in_let columns (i ∷ is))
+    ≡ option_or (refusal_of_first refusal.Variable (taken columns i.name ++ unknown_in_expr columns i.value))
+    (refusal_of_first refusal.Variable (unknown_in_let (columns ++ (i.name, kind_of columns (tree_of i.value)) ∷ []) is))
 unknown_in_let-item columns i is =
     first_of_in_two refusal.Variable (taken columns i.name ++ unknown_in_expr columns i.value) (unknown_in_let (columns ++ (i.name, kind_of columns (tree_of i.value)) ∷ []) is)
 

@@ -7,3 +7,5 @@ pub mod LetLemmas
 pub mod SeenLemmas
 pub mod SpotLemmas
 pub mod MapLemmas
+mod RefusalExamples
+mod ChangeExamples

@@ -4,11 +4,11 @@ use Rattle.std.specs.List.{flat_map, list_any}
 use Rattle.std.specs.Option.{option_or}
 use Rattle.gql_values3.specs.Datum.{Datum}
 use Rattle.gql_values3.specs.declared.table.ColumnKind.{ColumnKind}
-use Rattle.gql_ast.specs.ColumnFaults.{faults_in_map}
+use Rattle.gql_scope.specs.ColumnFaults.{faults_in_map}
 use Rattle.gql_ast.specs.InsertColumns.{Spots}
-use Rattle.gql_ast.specs.Misuses.{misused_map}
-use Rattle.gql_ast.specs.StaticRefusals.{first_of, misuse_if}
-use Rattle.gql_ast.specs.UnsetParameters.{parameters_of_map, unset}
+use Rattle.gql_scope.specs.Misuses.{misused_map}
+use Rattle.gql_scope.specs.StaticRefusals.{refusal_of_first, misuse_if}
+use Rattle.gql_scope.specs.UnsetParameters.{parameters_of_map, unset}
 use Rattle.gql_ast.specs.declared.change.Fill.{Fill}
 use Rattle.gql_ast.specs.declared.filler.MapItem.{MapItem}
 use Rattle.gql_ast.specs.declared.refusal.Refusal.TheVariants as refusal
@@ -56,19 +56,19 @@ misuse_is_first q columns (s ∷ ss) same =
     ∙ ap (λ o. option_or o (misuse_if (list_any (λ (s : ColumnKind × Fill). misused_map columns s.1.map) ss))) (sym (same s.1.map))
     ∙ ap (option_or (map_refusal q s.1.map)) (misuse_is_first q columns ss same)
 
-pub fault_is_first : (ss : Spots) → first_of refusal.Column (flat_map (λ (s : ColumnKind × Fill). faults_in_map s.1.map) ss) ≡ first_in_maps question.Repeated ss
+pub fault_is_first : (ss : Spots) → refusal_of_first refusal.Column (flat_map (λ (s : ColumnKind × Fill). faults_in_map s.1.map) ss) ≡ first_in_maps question.Repeated ss
 fault_is_first [] = refl
 fault_is_first (s ∷ ss) =
     first_of_in_two refusal.Column (faults_in_map s.1.map) (flat_map (λ (s : ColumnKind × Fill). faults_in_map s.1.map) ss)
     ∙ ap (option_or (map_refusal question.Repeated s.1.map)) (fault_is_first ss)
 
 pub unset_is_first : (q : MapQuestion) (params : List (List ℕ × Datum)) (ss : Spots)
-    → ((m : Option (List MapItem)) → map_refusal q m ≡ first_of refusal.Parameter (unset params (parameters_of_map m)))
-    → first_of refusal.Parameter (unset params (flat_map (λ (s : ColumnKind × Fill). parameters_of_map s.1.map) ss)) ≡ first_in_maps q ss
+    → ((m : Option (List MapItem)) → map_refusal q m ≡ refusal_of_first refusal.Parameter (unset params (parameters_of_map m)))
+    → refusal_of_first refusal.Parameter (unset params (flat_map (λ (s : ColumnKind × Fill). parameters_of_map s.1.map) ss)) ≡ first_in_maps q ss
 unset_is_first q params [] same = refl
 unset_is_first q params (s ∷ ss) same =
     unset_of_two params (parameters_of_map s.1.map) (flat_map (λ (s : ColumnKind × Fill). parameters_of_map s.1.map) ss)
-    ∙ ap (λ o. option_or o (first_of refusal.Parameter (unset params (flat_map (λ (s : ColumnKind × Fill). parameters_of_map s.1.map) ss)))) (sym (same s.1.map))
+    ∙ ap (λ o. option_or o (refusal_of_first refusal.Parameter (unset params (flat_map (λ (s : ColumnKind × Fill). parameters_of_map s.1.map) ss)))) (sym (same s.1.map))
     ∙ ap (option_or (map_refusal q s.1.map)) (unset_is_first q params ss same)
 
 -- an answer to one question is one to another that asks the same

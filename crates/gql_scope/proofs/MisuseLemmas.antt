@@ -6,7 +6,7 @@ use Rattle.gql_ast.specs.Tree.{Tree}
 use Rattle.gql_ast.specs.Scope.{names_in}
 use Rattle.gql_ast.specs.ClauseColumns.{ColumnList}
 use Rattle.gql_ast.specs.Outputs.{kind_of_name, element_kind}
-use Rattle.gql_ast.specs.Misuses.{misused, within, is_group, are_two, is_over_rows, item_columns, groups_in}
+use Rattle.gql_scope.specs.Misuses.{misused, within, is_group_column, are_two, is_over_rows, item_columns, groups_in}
 use Rattle.gql_scope.specs.First.{first}
 use Rattle.gql_scope.specs.Places.{argument_misused}
 use Rattle.gql_scope.proofs.FirstLemmas.{first-filter, none_passes, are_two-filter}
@@ -15,15 +15,15 @@ use Rattle.gql_scope.proofs.FirstLemmas.{first-filter, none_passes, are_two-filt
 abbrev by_groups : ColumnList → Bool → Tree → List (List ℕ) → Bool
 by_groups columns bars e gs = are_two gs || (is_over_rows gs && bars) || misused (item_columns columns gs) within e
 
-pub argument_over_rows : (columns : ColumnList) (bars : Bool) (e : Tree) → find (is_group columns) (names_in e) ≡ None
+pub argument_over_rows : (columns : ColumnList) (bars : Bool) (e : Tree) → find (is_group_column columns) (names_in e) ≡ None
     → argument_misused columns bars e ≡ (bars || misused columns within e)
-argument_over_rows columns bars e h = ap (by_groups columns bars e) (none_passes (is_group columns) (names_in e) h)
+argument_over_rows columns bars e h = ap (by_groups columns bars e) (none_passes (is_group_column columns) (names_in e) h)
 
-pub argument_over_group : (columns : ColumnList) (bars : Bool) (e : Tree) (x : List ℕ) → find (is_group columns) (names_in e) ≡ Some x
-    → argument_misused columns bars e ≡ (is_some (find (λ y. is_group columns y && not (same_text x y)) (names_in e)) || misused ((x, element_kind (kind_of_name columns x)) ∷ columns) within e)
+pub argument_over_group : (columns : ColumnList) (bars : Bool) (e : Tree) (x : List ℕ) → find (is_group_column columns) (names_in e) ≡ Some x
+    → argument_misused columns bars e ≡ (is_some (find (λ y. is_group_column columns y && not (same_text x y)) (names_in e)) || misused ((x, element_kind (kind_of_name columns x)) ∷ columns) within e)
 argument_over_group columns bars e x h =
-    by (groups_in columns e) (first-filter (is_group columns) (names_in e) ∙ h)
-    ∙ ap (λ b. b || misused ((x, element_kind (kind_of_name columns x)) ∷ columns) within e) (are_two-filter (is_group columns) (names_in e) x h)
+    by (groups_in columns e) (first-filter (is_group_column columns) (names_in e) ∙ h)
+    ∙ ap (λ b. b || misused ((x, element_kind (kind_of_name columns x)) ∷ columns) within e) (are_two-filter (is_group_column columns) (names_in e) x h)
   where
     or_nothing : (b : Bool) → (b || false) ≡ b
     or_nothing true = refl

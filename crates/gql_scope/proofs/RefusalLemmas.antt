@@ -7,9 +7,9 @@ use Rattle.gql_values3.specs.declared.table.ColumnKind.{ColumnKind}
 use Rattle.gql_ast.specs.ClauseColumns.{ColumnList}
 use Rattle.gql_ast.specs.Projections.{is_key}
 use Rattle.gql_ast.specs.RowAggregates.{row_aggregates}
-use Rattle.gql_ast.specs.StaticRefusals.{first_of, misuse_if}
+use Rattle.gql_scope.specs.StaticRefusals.{refusal_of_first, misuse_if}
 use Rattle.gql_ast.specs.Tree.{name}
-use Rattle.gql_ast.specs.UnsetParameters.{unset, is_set}
+use Rattle.gql_scope.specs.UnsetParameters.{unset, is_set}
 use Rattle.gql_values3.specs.Datum.{Datum}
 use Rattle.gql_ast.specs.declared.refusal.Refusal.TheVariants as refusal
 use Rattle.gql_ast.specs.declared.refusal.Refusal.{Refusal}
@@ -28,7 +28,7 @@ names_are_keys columns [] = refl
 names_are_keys columns (c ∷ cs) = names_are_keys columns cs
 
 -- the first of two lists
-pub first_of_in_two : {A : Type 0} (f : A → Refusal) (xs ys : List A) → first_of f (xs ++ ys) ≡ option_or (first_of f xs) (first_of f ys)
+pub first_of_in_two : {A : Type 0} (f : A → Refusal) (xs ys : List A) → refusal_of_first f (xs ++ ys) ≡ option_or (refusal_of_first f xs) (refusal_of_first f ys)
 first_of_in_two f [] ys = refl
 first_of_in_two f (x ∷ xs) ys = refl
 
@@ -36,9 +36,9 @@ pub misuse_in_two : (a b : Bool) → misuse_if (a || b) ≡ option_or (misuse_if
 misuse_in_two true b = refl
 misuse_in_two false b = refl
 
-pub first_of-first : {A : Type 0} (f : A → Refusal) (xs : List A) → first_of f xs ≡ option_map f (first xs)
-first_of-first f [] = refl
-first_of-first f (x ∷ xs) = refl
+pub refusal_of_first-first : {A : Type 0} (f : A → Refusal) (xs : List A) → refusal_of_first f xs ≡ option_map f (first xs)
+refusal_of_first-first f [] = refl
+refusal_of_first-first f (x ∷ xs) = refl
 
 -- a check that stops at the first of two answers the first of both
 pub stops : (e : ScopeFault) (o p whole : Option Refusal) → Refuses e o → whole ≡ option_or o p → Refuses e whole
@@ -50,22 +50,22 @@ pub goes_on : (o p whole : Option Refusal) → o ≡ None → whole ≡ option_o
 goes_on o p whole h q = q ∙ ap (λ z. option_or z p) h
 
 -- the first that passes is the first refusal
-pub known : {A : Type 0} (f : A → Refusal) (p : A → Bool) (xs : List A) → first_of f (filter p xs) ≡ option_map f (find p xs)
-known f p xs = first_of-first f (filter p xs) ∙ ap (option_map f) (first-filter p xs)
+pub known : {A : Type 0} (f : A → Refusal) (p : A → Bool) (xs : List A) → refusal_of_first f (filter p xs) ≡ option_map f (find p xs)
+known f p xs = refusal_of_first-first f (filter p xs) ∙ ap (option_map f) (first-filter p xs)
 
 -- the first unset of two lists of parameters
 pub unset_of_two : (params : List (List ℕ × Datum)) (xs ys : List (List ℕ))
-    → first_of refusal.Parameter (unset params (xs ++ ys)) ≡ option_or (first_of refusal.Parameter (unset params xs)) (first_of refusal.Parameter (unset params ys))
+    → refusal_of_first refusal.Parameter (unset params (xs ++ ys)) ≡ option_or (refusal_of_first refusal.Parameter (unset params xs)) (refusal_of_first refusal.Parameter (unset params ys))
 unset_of_two params [] ys = refl
 unset_of_two params (x ∷ xs) ys = by (not (is_set params x)) (unset_of_two params xs ys)
   where
-    by : (b : Bool) → first_of refusal.Parameter (unset params (xs ++ ys)) ≡ option_or (first_of refusal.Parameter (unset params xs)) (first_of refusal.Parameter (unset params ys))
-        → first_of refusal.Parameter (cond b (x ∷ unset params (xs ++ ys)) (unset params (xs ++ ys)))
-        ≡ option_or (first_of refusal.Parameter (cond b (x ∷ unset params xs) (unset params xs))) (first_of refusal.Parameter (unset params ys))
+    by : (b : Bool) → refusal_of_first refusal.Parameter (unset params (xs ++ ys)) ≡ option_or (refusal_of_first refusal.Parameter (unset params xs)) (refusal_of_first refusal.Parameter (unset params ys))
+        → refusal_of_first refusal.Parameter (cond b (x ∷ unset params (xs ++ ys)) (unset params (xs ++ ys)))
+        ≡ option_or (refusal_of_first refusal.Parameter (cond b (x ∷ unset params xs) (unset params xs))) (refusal_of_first refusal.Parameter (unset params ys))
     by true h = refl
     by false h = h
 
-pub ruleset first_of_first = (first_of-first)
+pub ruleset first_of_first = (refusal_of_first-first)
 
 -- what `?` gives back is the fault that it met
 pub answers_fault : (r : Result (Unit {0}) ScopeFault) (e : ScopeFault) (o : Option Refusal) → IsErr r → IsErrAnd r (λ f. f ≡ e) → Refuses e o → Answers r o

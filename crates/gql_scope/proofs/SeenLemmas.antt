@@ -6,11 +6,11 @@ use Rattle.std.proofs.lemmas.List.{reverse-append, map-append}
 use Rattle.gql_values3.specs.Texts.{same_text}
 use Rattle.gql_values3.specs.declared.table.ColumnKind.{ColumnKind}
 use Rattle.gql_ast.specs.ClauseColumns.{ColumnList, is_column}
-use Rattle.gql_ast.specs.ColumnFaults.{is_among, repeated, columns_outside, repeated_name, faults_in_list, faults_in_names, omitted}
+use Rattle.gql_scope.specs.ColumnFaults.{is_among, repeated, columns_outside, repeated_name, faults_in_list, faults_in_names, omitted}
 use Rattle.gql_ast.specs.Meaning.{tree_of}
 use Rattle.gql_ast.specs.Outputs.{item_name}
 use Rattle.gql_ast.specs.Projections.{is_key}
-use Rattle.gql_ast.specs.StaticRefusals.{first_of}
+use Rattle.gql_scope.specs.StaticRefusals.{refusal_of_first}
 use Rattle.gql_ast.specs.declared.projection.ReturnItem.{ReturnItem}
 use Rattle.gql_ast.specs.declared.refusal.ColumnRef.TheVariants as column
 use Rattle.gql_ast.specs.declared.refusal.Refusal.TheVariants as refusal
@@ -56,42 +56,42 @@ pub ruleset seen = (is_among-seen_names, is_among-names_of, seen_names-push, nam
 
 -- a property of a map, and then those behind it
 pub repeated_step : (seen : List (List ℕ)) (x : List ℕ) (xs : List (List ℕ))
-    → first_of refusal.Column (map column.Property (repeated seen (x ∷ xs)))
-    ≡ option_or (first_of refusal.Column (if is_among seen x then column.Property x ∷ [] else [])) (first_of refusal.Column (map column.Property (repeated (x ∷ seen) xs)))
+    → refusal_of_first refusal.Column (map column.Property (repeated seen (x ∷ xs)))
+    ≡ option_or (refusal_of_first refusal.Column (if is_among seen x then column.Property x ∷ [] else [])) (refusal_of_first refusal.Column (map column.Property (repeated (x ∷ seen) xs)))
 repeated_step seen x xs = by (is_among seen x)
   where
-    by : (b : Bool) → first_of refusal.Column (map column.Property (if b then x ∷ repeated (x ∷ seen) xs else repeated (x ∷ seen) xs))
-        ≡ option_or (first_of refusal.Column (if b then column.Property x ∷ [] else [])) (first_of refusal.Column (map column.Property (repeated (x ∷ seen) xs)))
+    by : (b : Bool) → refusal_of_first refusal.Column (map column.Property (if b then x ∷ repeated (x ∷ seen) xs else repeated (x ∷ seen) xs))
+        ≡ option_or (refusal_of_first refusal.Column (if b then column.Property x ∷ [] else [])) (refusal_of_first refusal.Column (map column.Property (repeated (x ∷ seen) xs)))
     by true = refl
     by false = refl
 
 -- an item of RETURN, and then those behind it
 pub item_step : (columns : ColumnList) (seen : List (List ℕ)) (i : ReturnItem) (is : List ReturnItem)
-    → first_of refusal.Column (faults_in_list columns seen (i ∷ is))
-    ≡ option_or (first_of refusal.Column (columns_outside columns (tree_of i.value) ++ repeated_name columns seen (item_name i)))
-    (first_of refusal.Column (faults_in_list columns (item_name i ∷ seen) is))
+    → refusal_of_first refusal.Column (faults_in_list columns seen (i ∷ is))
+    ≡ option_or (refusal_of_first refusal.Column (columns_outside columns (tree_of i.value) ++ repeated_name columns seen (item_name i)))
+    (refusal_of_first refusal.Column (faults_in_list columns (item_name i ∷ seen) is))
 item_step columns seen i is =
     first_of_in_two refusal.Column (columns_outside columns (tree_of i.value) ++ repeated_name columns seen (item_name i)) (faults_in_list columns (item_name i ∷ seen) is)
 
 -- a name of GROUP BY, and then those behind it
 pub name_step : (columns : ColumnList) (keys seen : List (List ℕ)) (x : List ℕ) (xs : List (List ℕ))
-    → first_of refusal.Column (faults_in_names columns keys seen (x ∷ xs))
-    ≡ option_or (first_of refusal.Column (if is_among keys x && not (is_among seen x) then [] else column.Name x ∷ [])) (first_of refusal.Column (faults_in_names columns keys (x ∷ seen) xs))
+    → refusal_of_first refusal.Column (faults_in_names columns keys seen (x ∷ xs))
+    ≡ option_or (refusal_of_first refusal.Column (if is_among keys x && not (is_among seen x) then [] else column.Name x ∷ [])) (refusal_of_first refusal.Column (faults_in_names columns keys (x ∷ seen) xs))
 name_step columns keys seen x xs = by (is_among keys x && not (is_among seen x))
   where
-    by : (b : Bool) → first_of refusal.Column (if b then faults_in_names columns keys (x ∷ seen) xs else column.Name x ∷ faults_in_names columns keys (x ∷ seen) xs)
-        ≡ option_or (first_of refusal.Column (if b then [] else column.Name x ∷ [])) (first_of refusal.Column (faults_in_names columns keys (x ∷ seen) xs))
+    by : (b : Bool) → refusal_of_first refusal.Column (if b then faults_in_names columns keys (x ∷ seen) xs else column.Name x ∷ faults_in_names columns keys (x ∷ seen) xs)
+        ≡ option_or (refusal_of_first refusal.Column (if b then [] else column.Name x ∷ [])) (refusal_of_first refusal.Column (faults_in_names columns keys (x ∷ seen) xs))
     by true = refl
     by false = refl
 
 -- a key, and then those behind it
 pub omitted_step : (columns : ColumnList) (x : List ℕ) (xs names : List (List ℕ))
-    → first_of refusal.Column (omitted columns (x ∷ xs) names)
-    ≡ option_or (first_of refusal.Column (if is_among names x then [] else column.Name x ∷ [])) (first_of refusal.Column (omitted columns xs names))
+    → refusal_of_first refusal.Column (omitted columns (x ∷ xs) names)
+    ≡ option_or (refusal_of_first refusal.Column (if is_among names x then [] else column.Name x ∷ [])) (refusal_of_first refusal.Column (omitted columns xs names))
 omitted_step columns x xs names = by (is_among names x)
   where
-    by : (b : Bool) → first_of refusal.Column (map column.Name (if not b then x ∷ filter (λ k. not (is_among names k)) xs else filter (λ k. not (is_among names k)) xs))
-        ≡ option_or (first_of refusal.Column (if b then [] else column.Name x ∷ [])) (first_of refusal.Column (omitted columns xs names))
+    by : (b : Bool) → refusal_of_first refusal.Column (map column.Name (if not b then x ∷ filter (λ k. not (is_among names k)) xs else filter (λ k. not (is_among names k)) xs))
+        ≡ option_or (refusal_of_first refusal.Column (if b then [] else column.Name x ∷ [])) (refusal_of_first refusal.Column (omitted columns xs names))
     by true = refl
     by false = refl
 
@@ -107,6 +107,6 @@ key_step columns i is = by (is_key columns (tree_of i.value))
     by false = refl
 
 -- the first of some names is the first fault
-pub named : (xs : List (List ℕ)) → first_of refusal.Column (map column.Name xs) ≡ option_map (λ x. refusal.Column (column.Name x)) (first xs)
+pub named : (xs : List (List ℕ)) → refusal_of_first refusal.Column (map column.Name xs) ≡ option_map (λ x. refusal.Column (column.Name x)) (first xs)
 named [] = refl
 named (x ∷ xs) = refl

@@ -10,9 +10,9 @@ use Rattle.gql_values3.specs.declared.table.ColumnKind.TheVariants as kind
 use Rattle.gql_ast.specs.ClauseColumns.{ColumnList, is_column}
 use Rattle.gql_ast.specs.InsertColumns.{Spots, with_variable, spot_columns}
 use Rattle.gql_ast.specs.Outputs.{kind_of_name}
-use Rattle.gql_ast.specs.StaticRefusals.{first_of}
-use Rattle.gql_ast.specs.UnknownNames.{misplaced, unknown_in_map, unknown_in_spots}
-use Rattle.gql_ast.specs.WrongKinds.{wrong_endpoint, wrong_in_spots}
+use Rattle.gql_scope.specs.StaticRefusals.{refusal_of_first}
+use Rattle.gql_scope.specs.UnknownNames.{misplaced, unknown_in_map, unknown_in_spots}
+use Rattle.gql_ast.specs.Endpoints.{wrong_endpoint, wrong_in_spots}
 use Rattle.gql_ast.specs.declared.refusal.Refusal.TheVariants as refusal
 use Rattle.gql_ast.specs.declared.refusal.Refusal.{Refusal}
 use Rattle.gql_scope.specs.Questions.{spot_refusal, first_in_spots}
@@ -75,7 +75,7 @@ spots_of_two q incoming columns (s ∷ xs) ys =
 
 -- the names at fault, and the kinds, are what the questions ask for
 pub unknown_is_first : (incoming columns : ColumnList) (ss : Spots)
-    → first_of refusal.Variable (unknown_in_spots incoming columns ss) ≡ first_in_spots question.Names incoming columns ss
+    → refusal_of_first refusal.Variable (unknown_in_spots incoming columns ss) ≡ first_in_spots question.Names incoming columns ss
 unknown_is_first incoming columns [] = refl
 unknown_is_first incoming columns (s ∷ ss) =
     let next = with_variable columns s.0 s.1.variable in
@@ -83,7 +83,7 @@ unknown_is_first incoming columns (s ∷ ss) =
     ∙ ap (option_or (spot_refusal question.Names incoming columns s.0 s.1)) (unknown_is_first incoming next ss)
 
 pub wrong_is_first : (incoming columns : ColumnList) (ss : Spots)
-    → first_of refusal.Kind (wrong_in_spots columns ss) ≡ first_in_spots question.Kinds incoming columns ss
+    → refusal_of_first refusal.Kind (wrong_in_spots columns ss) ≡ first_in_spots question.Kinds incoming columns ss
 wrong_is_first incoming columns [] = refl
 wrong_is_first incoming columns (s ∷ ss) =
     let next = with_variable columns s.0 s.1.variable in

@@ -1,3 +1,9 @@
+pub mod UnknownNames
+pub mod WrongKinds
+pub mod Misuses
+pub mod ColumnFaults
+pub mod UnsetParameters
+pub mod StaticRefusals
 pub mod Knowing
 pub mod Sought
 pub mod First

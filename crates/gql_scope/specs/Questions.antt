@@ -3,13 +3,13 @@ use Rattle.std.specs.Prelude.{List, [], ◌∷◌, ◌++◌, Option, None}
 use Rattle.std.specs.Option.{option_or}
 use Rattle.gql_values3.specs.declared.table.ColumnKind.{ColumnKind}
 use Rattle.gql_ast.specs.ClauseColumns.{ColumnList}
-use Rattle.gql_ast.specs.ColumnFaults.{faults_in_map}
+use Rattle.gql_scope.specs.ColumnFaults.{faults_in_map}
 use Rattle.gql_ast.specs.InsertColumns.{Spots, with_variable}
-use Rattle.gql_ast.specs.Misuses.{misused_map}
-use Rattle.gql_ast.specs.StaticRefusals.{first_of, misuse_if}
-use Rattle.gql_ast.specs.UnknownNames.{misplaced, unknown_in_map}
-use Rattle.gql_ast.specs.UnsetParameters.{parameters_of_map, unset}
-use Rattle.gql_ast.specs.WrongKinds.{wrong_endpoint}
+use Rattle.gql_scope.specs.Misuses.{misused_map}
+use Rattle.gql_scope.specs.StaticRefusals.{refusal_of_first, misuse_if}
+use Rattle.gql_scope.specs.UnknownNames.{misplaced, unknown_in_map}
+use Rattle.gql_scope.specs.UnsetParameters.{parameters_of_map, unset}
+use Rattle.gql_ast.specs.Endpoints.{wrong_endpoint}
 use Rattle.gql_ast.specs.declared.change.Fill.{Fill}
 use Rattle.gql_ast.specs.declared.filler.MapItem.{MapItem}
 use Rattle.gql_ast.specs.declared.refusal.Refusal.{Refusal}
@@ -21,8 +21,8 @@ use Rattle.gql_scope.specs.declared.insert_spots.SpotQuestion.TheVariants as spo
 
 -- the refusal of a node or an edge, under the incoming columns and those so far
 abbrev pub spot_refusal : SpotQuestion → ColumnList → ColumnList → ColumnKind → Fill → Option Refusal
-spot_refusal spot_question.Names incoming columns k f = first_of refusal.Variable (misplaced columns k f f.variable ++ unknown_in_map incoming f.map)
-spot_refusal spot_question.Kinds incoming columns k f = first_of refusal.Kind (wrong_endpoint columns k f.variable)
+spot_refusal spot_question.Names incoming columns k f = refusal_of_first refusal.Variable (misplaced columns k f f.variable ++ unknown_in_map incoming f.map)
+spot_refusal spot_question.Kinds incoming columns k f = refusal_of_first refusal.Kind (wrong_endpoint columns k f.variable)
 
 -- the first under columns that grow by each variable
 abbrev pub first_in_spots : SpotQuestion → ColumnList → ColumnList → Spots → Option Refusal
@@ -33,8 +33,8 @@ first_in_spots q incoming columns (s ∷ ss) =
 -- the refusal of a map
 abbrev pub map_refusal : MapQuestion → Option (List MapItem) → Option Refusal
 map_refusal (map_question.Misuse scope) m = misuse_if (misused_map scope.now m)
-map_refusal map_question.Repeated m = first_of refusal.Column (faults_in_map m)
-map_refusal (map_question.Parameter params) m = first_of refusal.Parameter (unset params.now (parameters_of_map m))
+map_refusal map_question.Repeated m = refusal_of_first refusal.Column (faults_in_map m)
+map_refusal (map_question.Parameter params) m = refusal_of_first refusal.Parameter (unset params.now (parameters_of_map m))
 
 -- the first among the maps
 abbrev pub first_in_maps : MapQuestion → Spots → Option Refusal

@@ -2,7 +2,7 @@
 use Rattle.std.specs.Prelude.{ℕ, Bool, true, not, ◌&&◌, List}
 use Rattle.gql_values3.specs.Texts.{same_text}
 use Rattle.gql_ast.specs.ClauseColumns.{ColumnList, is_column}
-use Rattle.gql_ast.specs.Misuses.{is_group}
+use Rattle.gql_scope.specs.Misuses.{is_group_column}
 use Rattle.gql_scope.specs.declared.names.Sought.{Sought}
 use Rattle.gql_scope.specs.declared.names.Sought.TheVariants as sought
 
@@ -10,5 +10,5 @@ use Rattle.gql_scope.specs.declared.names.Sought.TheVariants as sought
 abbrev pub is_sought : ColumnList → Sought → List ℕ → Bool
 is_sought columns sought.Any x = true
 is_sought columns sought.Unknown x = not (is_column columns x)
-is_sought columns sought.Group x = is_group columns x
-is_sought columns (sought.OtherGroup y) x = is_group columns x && not (same_text y.now x)
+is_sought columns sought.Group x = is_group_column columns x
+is_sought columns (sought.OtherGroup y) x = is_group_column columns x && not (same_text y.now x)

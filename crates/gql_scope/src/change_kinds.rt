@@ -3,8 +3,9 @@
 ghost use Rattle.std.specs.Prelude.{◌≡◌, ◌++◌};
 ghost use Rattle.std.specs.List.{flat_map};
 ghost use Rattle.gql_ast.specs.InsertColumns.{insert_spots};
-ghost use Rattle.gql_ast.specs.StaticRefusals.{first_of};
-ghost use Rattle.gql_ast.specs.WrongKinds.{is_node, is_element, wrong_endpoint, wrong_in_spots, wrong_target, set_target, remove_target, wrong_in_change};
+ghost use Rattle.gql_scope.specs.StaticRefusals.{refusal_of_first};
+ghost use Rattle.gql_ast.specs.Endpoints.{is_node, wrong_endpoint, wrong_in_spots};
+ghost use Rattle.gql_scope.specs.WrongKinds.{is_element, wrong_target, set_target, remove_target, wrong_in_change};
 ghost use Rattle.gql_scope.specs.Answers.{Answers};
 
 use crate::columns::Scope;
@@ -36,7 +37,7 @@ fn check_node(
     fresh: &Scope,
     variable: &Option<Text>,
 ) -> Result<(), ScopeFault>
-    ensures { Answers result (first_of Refusal.Kind (wrong_endpoint (incoming.now ++ fresh.now) ColumnKind.Node variable.now)) }
+    ensures { Answers result (refusal_of_first Refusal.Kind (wrong_endpoint (incoming.now ++ fresh.now) ColumnKind.Node variable.now)) }
 {
     match variable {
         Some(name)
@@ -55,7 +56,7 @@ pub fn check_endpoint(
     kind: ColumnKind,
     variable: &Option<Text>,
 ) -> Result<(), ScopeFault>
-    ensures { Answers result (first_of Refusal.Kind (wrong_endpoint (incoming.now ++ fresh.now) kind variable.now)) }
+    ensures { Answers result (refusal_of_first Refusal.Kind (wrong_endpoint (incoming.now ++ fresh.now) kind variable.now)) }
 {
     match kind {
         ColumnKind::Node => check_node(alloc, incoming, fresh, variable),
@@ -66,14 +67,14 @@ pub fn check_endpoint(
 /// Checks the endpoints of INSERT.
 #[tactic(auto, using(crate::proofs::SpotLemmas::wrong_is_first))]
 fn check_insert(alloc: Global, scope: &Scope, paths: &[InsertPath]) -> Result<(), ScopeFault>
-    ensures { Answers result (first_of Refusal.Kind (wrong_in_spots scope.now (insert_spots paths.now))) }
+    ensures { Answers result (refusal_of_first Refusal.Kind (wrong_in_spots scope.now (insert_spots paths.now))) }
 {
     check_spots(alloc, SpotQuestion::Kinds, scope, paths)
 }
 
 /// Checks that a target, where it is a column, is an element.
 fn check_target(alloc: Global, scope: &Scope, name: &Text) -> Result<(), ScopeFault>
-    ensures { Answers result (first_of Refusal.Kind (wrong_target scope.now name.now)) }
+    ensures { Answers result (refusal_of_first Refusal.Kind (wrong_target scope.now name.now)) }
 {
     if scope.contains(name) && !is_element(scope.kind(name)) {
         return Err(ScopeFault::Defect(Refusal::Kind(name.try_copy(alloc)?)));
@@ -83,7 +84,7 @@ fn check_target(alloc: Global, scope: &Scope, name: &Text) -> Result<(), ScopeFa
 
 /// Checks the target of an item of SET.
 fn check_set_item(alloc: Global, scope: &Scope, item: &SetItem) -> Result<(), ScopeFault>
-    ensures { Answers result (first_of Refusal.Kind (wrong_target scope.now (set_target item.now))) }
+    ensures { Answers result (refusal_of_first Refusal.Kind (wrong_target scope.now (set_target item.now))) }
 {
     match item {
         SetItem::Property(name, _, _) | SetItem::Label(name, _) => check_target(alloc, scope, name),
@@ -93,7 +94,7 @@ fn check_set_item(alloc: Global, scope: &Scope, item: &SetItem) -> Result<(), Sc
 /// Checks the targets of SET.
 #[tactic(auto, using(crate::proofs::RefusalLemmas::first_of_in_two))]
 fn check_set(alloc: Global, scope: &Scope, items: &[SetItem]) -> Result<(), ScopeFault>
-    ensures { Answers result (first_of Refusal.Kind (flat_map (λ i. wrong_target scope.now (set_target i)) items.now)) }
+    ensures { Answers result (refusal_of_first Refusal.Kind (flat_map (λ i. wrong_target scope.now (set_target i)) items.now)) }
 {
     for item in items {
         check_set_item(alloc, scope, item)?;
@@ -103,7 +104,7 @@ fn check_set(alloc: Global, scope: &Scope, items: &[SetItem]) -> Result<(), Scop
 
 /// Checks the target of an item of REMOVE.
 fn check_remove_item(alloc: Global, scope: &Scope, item: &RemoveItem) -> Result<(), ScopeFault>
-    ensures { Answers result (first_of Refusal.Kind (wrong_target scope.now (remove_target item.now))) }
+    ensures { Answers result (refusal_of_first Refusal.Kind (wrong_target scope.now (remove_target item.now))) }
 {
     match item {
         RemoveItem::Property(name, _) | RemoveItem::Label(name, _) => {
@@ -115,7 +116,7 @@ fn check_remove_item(alloc: Global, scope: &Scope, item: &RemoveItem) -> Result<
 /// Checks the targets of REMOVE.
 #[tactic(auto, using(crate::proofs::RefusalLemmas::first_of_in_two))]
 fn check_remove(alloc: Global, scope: &Scope, items: &[RemoveItem]) -> Result<(), ScopeFault>
-    ensures { Answers result (first_of Refusal.Kind (flat_map (λ i. wrong_target scope.now (remove_target i)) items.now)) }
+    ensures { Answers result (refusal_of_first Refusal.Kind (flat_map (λ i. wrong_target scope.now (remove_target i)) items.now)) }
 {
     for item in items {
         check_remove_item(alloc, scope, item)?;
@@ -126,7 +127,7 @@ fn check_remove(alloc: Global, scope: &Scope, items: &[RemoveItem]) -> Result<()
 /// Checks the targets of DELETE.
 #[tactic(auto, using(crate::proofs::RefusalLemmas::first_of_in_two))]
 fn check_delete(alloc: Global, scope: &Scope, names: &[Text]) -> Result<(), ScopeFault>
-    ensures { Answers result (first_of Refusal.Kind (flat_map (wrong_target scope.now) names.now)) }
+    ensures { Answers result (refusal_of_first Refusal.Kind (flat_map (wrong_target scope.now) names.now)) }
 {
     for name in names {
         check_target(alloc, scope, name)?;
@@ -136,7 +137,7 @@ fn check_delete(alloc: Global, scope: &Scope, names: &[Text]) -> Result<(), Scop
 
 /// Checks the kinds of a clause that changes data.
 pub fn check_change(alloc: Global, scope: &Scope, change: &ChangeClause) -> Result<(), ScopeFault>
-    ensures { Answers result (first_of Refusal.Kind (wrong_in_change scope.now change.now)) }
+    ensures { Answers result (refusal_of_first Refusal.Kind (wrong_in_change scope.now change.now)) }
 {
     match change {
         ChangeClause::Insert(paths) => check_insert(alloc, scope, paths.as_slice()),

@@ -3,8 +3,8 @@
 ghost use Rattle.std.specs.Prelude.{◌≡◌, ◌||◌};
 ghost use Rattle.std.specs.List.{list_any};
 ghost use Rattle.gql_ast.specs.InsertColumns.{insert_spots};
-ghost use Rattle.gql_ast.specs.Misuses.{misused_map, misused_set, misused_change};
-ghost use Rattle.gql_ast.specs.StaticRefusals.{misuse_if};
+ghost use Rattle.gql_scope.specs.Misuses.{misused_map, misused_set, misused_change};
+ghost use Rattle.gql_scope.specs.StaticRefusals.{misuse_if};
 ghost use Rattle.gql_scope.specs.Answers.{Answers};
 
 use crate::columns::Scope;

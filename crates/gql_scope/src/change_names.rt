@@ -3,8 +3,8 @@
 ghost use Rattle.std.specs.Prelude.{◌≡◌, ◌++◌};
 ghost use Rattle.std.specs.List.{flat_map};
 ghost use Rattle.gql_ast.specs.InsertColumns.{insert_spots};
-ghost use Rattle.gql_ast.specs.StaticRefusals.{first_of};
-ghost use Rattle.gql_ast.specs.UnknownNames.{may_refer, misplaced, unknown_in_map, unknown_in_spots, missing, unknown_in_expr, unknown_in_set, unknown_in_remove, unknown_in_change};
+ghost use Rattle.gql_scope.specs.StaticRefusals.{refusal_of_first};
+ghost use Rattle.gql_scope.specs.UnknownNames.{may_refer, misplaced, unknown_in_map, unknown_in_spots, missing, unknown_in_expr, unknown_in_set, unknown_in_remove, unknown_in_change};
 ghost use Rattle.gql_scope.specs.Answers.{Answers};
 
 use crate::columns::Scope;
@@ -34,7 +34,7 @@ fn check_variable(
     kind: ColumnKind,
     fill: &Fill,
 ) -> Result<(), ScopeFault>
-    ensures { Answers result (first_of Refusal.Variable (misplaced (incoming.now ++ fresh.now) kind fill.now fill.now.variable)) }
+    ensures { Answers result (refusal_of_first Refusal.Variable (misplaced (incoming.now ++ fresh.now) kind fill.now fill.now.variable)) }
 {
     match &fill.variable {
         Some(name) if stands(incoming, fresh, name) && !may_refer(kind, fill) => {
@@ -46,7 +46,7 @@ fn check_variable(
 
 /// Checks the names of a map that may be there.
 fn check_values(alloc: Global, scope: &Scope, map: &Option<Map>) -> Result<(), ScopeFault>
-    ensures { Answers result (first_of Refusal.Variable (unknown_in_map scope.now map.now)) }
+    ensures { Answers result (refusal_of_first Refusal.Variable (unknown_in_map scope.now map.now)) }
 {
     match map {
         None => Ok(()),
@@ -63,7 +63,7 @@ pub fn check_fill(
     kind: ColumnKind,
     fill: &Fill,
 ) -> Result<(), ScopeFault>
-    ensures { Answers result (first_of Refusal.Variable (misplaced (incoming.now ++ fresh.now) kind fill.now fill.now.variable ++ unknown_in_map incoming.now fill.now.map)) }
+    ensures { Answers result (refusal_of_first Refusal.Variable (misplaced (incoming.now ++ fresh.now) kind fill.now fill.now.variable ++ unknown_in_map incoming.now fill.now.map)) }
 {
     check_variable(alloc, incoming, fresh, kind, fill)?;
     check_values(alloc, incoming, &fill.map)
@@ -72,14 +72,14 @@ pub fn check_fill(
 /// Checks the names of INSERT.
 #[tactic(auto, using(crate::proofs::SpotLemmas::unknown_is_first))]
 fn check_insert(alloc: Global, scope: &Scope, paths: &[InsertPath]) -> Result<(), ScopeFault>
-    ensures { Answers result (first_of Refusal.Variable (unknown_in_spots scope.now scope.now (insert_spots paths.now))) }
+    ensures { Answers result (refusal_of_first Refusal.Variable (unknown_in_spots scope.now scope.now (insert_spots paths.now))) }
 {
     check_spots(alloc, SpotQuestion::Names, scope, paths)
 }
 
 /// Checks that a target is a column.
 fn check_target(alloc: Global, scope: &Scope, name: &Text) -> Result<(), ScopeFault>
-    ensures { Answers result (first_of Refusal.Variable (missing scope.now name.now)) }
+    ensures { Answers result (refusal_of_first Refusal.Variable (missing scope.now name.now)) }
 {
     if scope.contains(name) {
         return Ok(());
@@ -95,7 +95,7 @@ fn check_assignment(
     name: &Text,
     value: &Expr,
 ) -> Result<(), ScopeFault>
-    ensures { Answers result (first_of Refusal.Variable (missing scope.now name.now ++ unknown_in_expr scope.now value.now)) }
+    ensures { Answers result (refusal_of_first Refusal.Variable (missing scope.now name.now ++ unknown_in_expr scope.now value.now)) }
 {
     check_target(alloc, scope, name)?;
     check_names(alloc, scope, value)
@@ -103,7 +103,7 @@ fn check_assignment(
 
 /// Checks the names of an item of SET.
 fn check_set_item(alloc: Global, scope: &Scope, item: &SetItem) -> Result<(), ScopeFault>
-    ensures { Answers result (first_of Refusal.Variable (unknown_in_set scope.now item.now)) }
+    ensures { Answers result (refusal_of_first Refusal.Variable (unknown_in_set scope.now item.now)) }
 {
     match item {
         SetItem::Property(name, _, value) => check_assignment(alloc, scope, name, value),
@@ -114,7 +114,7 @@ fn check_set_item(alloc: Global, scope: &Scope, item: &SetItem) -> Result<(), Sc
 /// Checks the names of SET.
 #[tactic(auto, using(crate::proofs::RefusalLemmas::first_of_in_two))]
 fn check_set(alloc: Global, scope: &Scope, items: &[SetItem]) -> Result<(), ScopeFault>
-    ensures { Answers result (first_of Refusal.Variable (flat_map (unknown_in_set scope.now) items.now)) }
+    ensures { Answers result (refusal_of_first Refusal.Variable (flat_map (unknown_in_set scope.now) items.now)) }
 {
     for item in items {
         check_set_item(alloc, scope, item)?;
@@ -124,7 +124,7 @@ fn check_set(alloc: Global, scope: &Scope, items: &[SetItem]) -> Result<(), Scop
 
 /// Checks the name of an item of REMOVE.
 fn check_remove_item(alloc: Global, scope: &Scope, item: &RemoveItem) -> Result<(), ScopeFault>
-    ensures { Answers result (first_of Refusal.Variable (unknown_in_remove scope.now item.now)) }
+    ensures { Answers result (refusal_of_first Refusal.Variable (unknown_in_remove scope.now item.now)) }
 {
     match item {
         RemoveItem::Property(name, _) | RemoveItem::Label(name, _) => {
@@ -136,7 +136,7 @@ fn check_remove_item(alloc: Global, scope: &Scope, item: &RemoveItem) -> Result<
 /// Checks the names of REMOVE.
 #[tactic(auto, using(crate::proofs::RefusalLemmas::first_of_in_two))]
 fn check_remove(alloc: Global, scope: &Scope, items: &[RemoveItem]) -> Result<(), ScopeFault>
-    ensures { Answers result (first_of Refusal.Variable (flat_map (unknown_in_remove scope.now) items.now)) }
+    ensures { Answers result (refusal_of_first Refusal.Variable (flat_map (unknown_in_remove scope.now) items.now)) }
 {
     for item in items {
         check_remove_item(alloc, scope, item)?;
@@ -147,7 +147,7 @@ fn check_remove(alloc: Global, scope: &Scope, items: &[RemoveItem]) -> Result<()
 /// Checks the names of DELETE.
 #[tactic(auto, using(crate::proofs::RefusalLemmas::first_of_in_two))]
 fn check_delete(alloc: Global, scope: &Scope, names: &[Text]) -> Result<(), ScopeFault>
-    ensures { Answers result (first_of Refusal.Variable (flat_map (missing scope.now) names.now)) }
+    ensures { Answers result (refusal_of_first Refusal.Variable (flat_map (missing scope.now) names.now)) }
 {
     for name in names {
         check_target(alloc, scope, name)?;
@@ -157,7 +157,7 @@ fn check_delete(alloc: Global, scope: &Scope, names: &[Text]) -> Result<(), Scop
 
 /// Checks the names of a clause that changes data.
 pub fn check_change(alloc: Global, scope: &Scope, change: &ChangeClause) -> Result<(), ScopeFault>
-    ensures { Answers result (first_of Refusal.Variable (unknown_in_change scope.now change.now)) }
+    ensures { Answers result (refusal_of_first Refusal.Variable (unknown_in_change scope.now change.now)) }
 {
     match change {
         ChangeClause::Insert(paths) => check_insert(alloc, scope, paths.as_slice()),

@@ -2,7 +2,7 @@
 
 ghost use Rattle.std.specs.Prelude.{◌≡◌, [], Some, None, OnOk, IfErr};
 ghost use Rattle.gql_ast.specs.Meaning.{tree_of};
-ghost use Rattle.gql_ast.specs.StaticRefusals.{static_refusal, query_refusal, session_refusal};
+ghost use Rattle.gql_scope.specs.StaticRefusals.{static_refusal, query_refusal, session_refusal};
 ghost use Rattle.gql_scope.specs.Answers.{Answers, Refuses};
 ghost use Rattle.gql_scope.specs.ValueRefusal.{value_refusal};
 

@@ -2,11 +2,11 @@
 
 ghost use Rattle.std.specs.Prelude.{◌≡◌, [], ◌∷◌, ◌++◌, map, OnOk, IfOk, if◌then◌else◌};
 ghost use Rattle.std.specs.Option.{option_copied};
-ghost use Rattle.gql_ast.specs.ColumnFaults.{is_among, repeated, faults_in_condition, faults_in_node, columns_outside, repeated_name, faults_in_list, faults_in_items, faults_in_return, faults_in_clause, faults_in_clauses};
+ghost use Rattle.gql_scope.specs.ColumnFaults.{is_among, repeated, faults_in_condition, faults_in_node, columns_outside, repeated_name, faults_in_list, faults_in_items, faults_in_return, faults_in_clause, faults_in_clauses};
 ghost use Rattle.gql_ast.specs.Meaning.{tree_of};
 ghost use Rattle.gql_ast.specs.Outputs.{item_name};
 ghost use Rattle.gql_ast.specs.Projections.{columns_behind};
-ghost use Rattle.gql_ast.specs.StaticRefusals.{first_of};
+ghost use Rattle.gql_scope.specs.StaticRefusals.{refusal_of_first};
 ghost use Rattle.gql_ast.specs.declared.refusal.ColumnRef.TheVariants as column;
 ghost use Rattle.gql_scope.specs.Answers.{Answers, Refuses};
 ghost use Rattle.gql_scope.specs.Seen.{seen_names};
@@ -38,7 +38,7 @@ pub fn fault_of(alloc: Global, name: &Text) -> ScopeFault
 /// Checks that the property was not seen before, and notes it.
 #[tactic(auto, using(crate::proofs::SeenLemmas::seen))]
 fn note_property(alloc: Global, seen: &mut Scope, name: &Text) -> Result<(), ScopeFault>
-    ensures fresh { Answers result (first_of Refusal.Column (if is_among (seen_names seen.old) name.now then ColumnRef.Property name.now ∷ [] else [])) }
+    ensures fresh { Answers result (refusal_of_first Refusal.Column (if is_among (seen_names seen.old) name.now then ColumnRef.Property name.now ∷ [] else [])) }
     ensures noted { OnOk result (seen_names seen.new ≡ name.now ∷ seen_names seen.old) }
 {
     if seen.contains(name) {
@@ -52,7 +52,7 @@ fn note_property(alloc: Global, seen: &mut Scope, name: &Text) -> Result<(), Sco
 /// Checks that the column's name was not seen before, and notes it.
 #[tactic(auto, using(crate::proofs::SeenLemmas::seen))]
 pub fn note_name(alloc: Global, seen: &mut Scope, name: &Text) -> Result<(), ScopeFault>
-    ensures fresh { Answers result (first_of Refusal.Column (if is_among (seen_names seen.old) name.now then ColumnRef.Name name.now ∷ [] else [])) }
+    ensures fresh { Answers result (refusal_of_first Refusal.Column (if is_among (seen_names seen.old) name.now then ColumnRef.Name name.now ∷ [] else [])) }
     ensures noted { OnOk result (seen_names seen.new ≡ name.now ∷ seen_names seen.old) }
 {
     if seen.contains(name) {
@@ -65,7 +65,7 @@ pub fn note_name(alloc: Global, seen: &mut Scope, name: &Text) -> Result<(), Sco
 /// Checks that a map names no property twice.
 #[tactic(auto, using(crate::proofs::SeenLemmas::repeated_step))]
 pub fn check_map(alloc: Global, items: &[MapItem]) -> Result<(), ScopeFault>
-    ensures { Answers result (first_of Refusal.Column (map column.Property (repeated [] (map (λ i. i.name) items.now)))) }
+    ensures { Answers result (refusal_of_first Refusal.Column (map column.Property (repeated [] (map (λ i. i.name) items.now)))) }
 {
     let mut seen = Scope::new(alloc);
     for item in items {
@@ -76,7 +76,7 @@ pub fn check_map(alloc: Global, items: &[MapItem]) -> Result<(), ScopeFault>
 
 /// Checks the map of a node.
 fn check_node(alloc: Global, node: Option<&Filler>) -> Result<(), ScopeFault>
-    ensures { Answers result (first_of Refusal.Column (faults_in_node (option_copied node.entry))) }
+    ensures { Answers result (refusal_of_first Refusal.Column (faults_in_node (option_copied node.entry))) }
 {
     match node {
         None => Ok(()),
@@ -85,7 +85,7 @@ fn check_node(alloc: Global, node: Option<&Filler>) -> Result<(), ScopeFault>
 }
 
 fn check_condition(alloc: Global, condition: &Option<Condition>) -> Result<(), ScopeFault>
-    ensures { Answers result (first_of Refusal.Column (faults_in_condition condition.now)) }
+    ensures { Answers result (refusal_of_first Refusal.Column (faults_in_condition condition.now)) }
 {
     match condition {
         Some(Condition::Map(items)) => check_map(alloc, items.as_slice()),
@@ -96,7 +96,7 @@ fn check_condition(alloc: Global, condition: &Option<Condition>) -> Result<(), S
 /// Checks that an item with an aggregate over rows names no column outside it.
 #[tactic(auto, using(crate::proofs::SeenLemmas::named))]
 fn check_outside(alloc: Global, scope: &Scope, expr: &Expr) -> Result<(), ScopeFault>
-    ensures { Answers result (first_of Refusal.Column (columns_outside scope.now (tree_of expr.now))) }
+    ensures { Answers result (refusal_of_first Refusal.Column (columns_outside scope.now (tree_of expr.now))) }
 {
     if !has_aggregate(scope, expr) {
         return Ok(());
@@ -115,7 +115,7 @@ fn check_item(
     seen: &mut Scope,
     item: &ReturnItem,
 ) -> Result<(), ScopeFault>
-    ensures faults { Answers result (first_of Refusal.Column (columns_outside scope.now (tree_of item.now.value) ++ repeated_name scope.now (seen_names seen.old) (item_name item.now))) }
+    ensures faults { Answers result (refusal_of_first Refusal.Column (columns_outside scope.now (tree_of item.now.value) ++ repeated_name scope.now (seen_names seen.old) (item_name item.now))) }
     ensures noted { OnOk result (seen_names seen.new ≡ item_name item.now ∷ seen_names seen.old) }
 {
     check_outside(alloc, scope, &item.value)?;
@@ -126,7 +126,7 @@ fn check_item(
 /// Checks the items of RETURN in order.
 #[tactic(auto, using(crate::proofs::SeenLemmas::item_step))]
 fn check_listed(alloc: Global, scope: &Scope, items: &[ReturnItem]) -> Result<(), ScopeFault>
-    ensures { Answers result (first_of Refusal.Column (faults_in_list scope.now [] items.now)) }
+    ensures { Answers result (refusal_of_first Refusal.Column (faults_in_list scope.now [] items.now)) }
 {
     let mut seen = Scope::new(alloc);
     for item in items {
@@ -137,7 +137,7 @@ fn check_listed(alloc: Global, scope: &Scope, items: &[ReturnItem]) -> Result<()
 
 /// Checks what RETURN gives.
 fn check_items(alloc: Global, scope: &Scope, items: &ReturnItems) -> Result<(), ScopeFault>
-    ensures { Answers result (first_of Refusal.Column (faults_in_items scope.now items.now)) }
+    ensures { Answers result (refusal_of_first Refusal.Column (faults_in_items scope.now items.now)) }
 {
     match items {
         ReturnItems::All => check_all(scope),
@@ -147,7 +147,7 @@ fn check_items(alloc: Global, scope: &Scope, items: &ReturnItems) -> Result<(), 
 
 /// Checks that there are columns for `*`.
 fn check_all(scope: &Scope) -> Result<(), ScopeFault>
-    ensures { Answers result (first_of Refusal.Column (faults_in_items scope.now ReturnItems.All)) }
+    ensures { Answers result (refusal_of_first Refusal.Column (faults_in_items scope.now ReturnItems.All)) }
 {
     match scope.columns() {
         [] => Err(ScopeFault::Defect(Refusal::Column(ColumnRef::All))),
@@ -158,7 +158,7 @@ fn check_all(scope: &Scope) -> Result<(), ScopeFault>
 /// Checks RETURN.
 #[tactic(auto, using(crate::proofs::RefusalLemmas::first_of_in_two))]
 fn check_return(alloc: Global, scope: &Scope, clause: &Return) -> Result<(), ScopeFault>
-    ensures { Answers result (first_of Refusal.Column (faults_in_return scope.now clause.now)) }
+    ensures { Answers result (refusal_of_first Refusal.Column (faults_in_return scope.now clause.now)) }
 {
     check_items(alloc, scope, &clause.items)?;
     check_grouping(alloc, scope, clause)
@@ -166,7 +166,7 @@ fn check_return(alloc: Global, scope: &Scope, clause: &Return) -> Result<(), Sco
 
 /// Checks a clause.
 fn check_clause(alloc: Global, scope: &Scope, clause: &Clause) -> Result<(), ScopeFault>
-    ensures { Answers result (first_of Refusal.Column (faults_in_clause scope.now clause.now)) }
+    ensures { Answers result (refusal_of_first Refusal.Column (faults_in_clause scope.now clause.now)) }
 {
     match clause {
         Clause::Match(m) => check_node(alloc, node_of(&m.pattern)),
@@ -178,7 +178,7 @@ fn check_clause(alloc: Global, scope: &Scope, clause: &Clause) -> Result<(), Sco
 
 /// Checks a clause, and changes the columns to those behind it.
 fn pass_clause(alloc: Global, scope: &mut Scope, clause: &Clause) -> Result<(), ScopeFault>
-    ensures faults { Answers result (first_of Refusal.Column (faults_in_clause scope.old clause.now)) }
+    ensures faults { Answers result (refusal_of_first Refusal.Column (faults_in_clause scope.old clause.now)) }
     ensures columns { OnOk result (scope.new ≡ columns_behind scope.old clause.now) }
 {
     check_clause(alloc, scope, clause)?;
@@ -189,7 +189,7 @@ fn pass_clause(alloc: Global, scope: &mut Scope, clause: &Clause) -> Result<(), 
 /// Checks a query's clauses.
 #[tactic(auto, using(crate::proofs::RefusalLemmas::first_of_in_two))]
 pub fn column_faults(alloc: Global, clauses: &[Clause]) -> Result<(), ScopeFault>
-    ensures { Answers result (first_of Refusal.Column (faults_in_clauses [] clauses.now)) }
+    ensures { Answers result (refusal_of_first Refusal.Column (faults_in_clauses [] clauses.now)) }
 {
     let mut scope = Scope::new(alloc);
     for clause in clauses {

@@ -1,11 +1,11 @@
 //! E16 of GROUP BY: its names are the keys, each once.
 
 ghost use Rattle.std.specs.Prelude.{◌≡◌, [], ◌∷◌, ◌++◌, map, filter, not, ◌&&◌, OnOk, IfOk, if◌then◌else◌};
-ghost use Rattle.gql_ast.specs.ColumnFaults.{is_among, key_names, faults_in_names, omitted, faults_in_grouping};
+ghost use Rattle.gql_scope.specs.ColumnFaults.{is_among, key_names, faults_in_names, omitted, faults_in_grouping};
 ghost use Rattle.gql_ast.specs.Meaning.{tree_of};
 ghost use Rattle.gql_ast.specs.Outputs.{item_name};
 ghost use Rattle.gql_ast.specs.Projections.{is_key};
-ghost use Rattle.gql_ast.specs.StaticRefusals.{first_of};
+ghost use Rattle.gql_scope.specs.StaticRefusals.{refusal_of_first};
 ghost use Rattle.gql_ast.specs.declared.refusal.ColumnRef.TheVariants as column;
 ghost use Rattle.gql_ast.specs.declared.refusal.Refusal.TheVariants as refusal;
 ghost use Rattle.gql_scope.specs.Answers.{Answers};
@@ -80,7 +80,7 @@ fn name_scope(alloc: Global, names: &[Text]) -> Result<Scope, OutOfMemory>
 /// Checks that a name of GROUP BY is a key that was not seen before, and notes it.
 #[tactic(auto, using(crate::proofs::SeenLemmas::seen))]
 fn check_name(alloc: Global, keys: &Scope, seen: &mut Scope, name: &Text) -> Result<(), ScopeFault>
-    ensures key { Answers result (first_of refusal.Column (if is_among (names_of keys.now) name.now && not (is_among (seen_names seen.old) name.now) then [] else column.Name name.now ∷ [])) }
+    ensures key { Answers result (refusal_of_first refusal.Column (if is_among (names_of keys.now) name.now && not (is_among (seen_names seen.old) name.now) then [] else column.Name name.now ∷ [])) }
     ensures noted { OnOk result (seen_names seen.new ≡ name.now ∷ seen_names seen.old) }
 {
     if !keys.contains(name) {
@@ -92,7 +92,7 @@ fn check_name(alloc: Global, keys: &Scope, seen: &mut Scope, name: &Text) -> Res
 /// Checks the names of GROUP BY in order.
 #[tactic(auto, using(crate::proofs::SeenLemmas::name_step))]
 fn check_names(alloc: Global, scope: &Scope, keys: &Scope, names: &[Text]) -> Result<(), ScopeFault>
-    ensures { Answers result (first_of refusal.Column (faults_in_names scope.now (names_of keys.now) [] names.now)) }
+    ensures { Answers result (refusal_of_first refusal.Column (faults_in_names scope.now (names_of keys.now) [] names.now)) }
 {
     let mut seen = Scope::new(alloc);
     for name in names {
@@ -104,7 +104,7 @@ fn check_names(alloc: Global, scope: &Scope, keys: &Scope, names: &[Text]) -> Re
 /// Checks that a key is named.
 #[tactic(auto, using(crate::proofs::SeenLemmas::seen))]
 fn check_key(alloc: Global, named: &Scope, key: &Text) -> Result<(), ScopeFault>
-    ensures { Answers result (first_of refusal.Column (if is_among (names_of named.now) key.now then [] else column.Name key.now ∷ [])) }
+    ensures { Answers result (refusal_of_first refusal.Column (if is_among (names_of named.now) key.now then [] else column.Name key.now ∷ [])) }
 {
     if !named.contains(key) {
         return Err(fault_of(alloc, key));
@@ -120,7 +120,7 @@ fn check_omitted(
     keys: &[(Text, ColumnKind)],
     named: &Scope,
 ) -> Result<(), ScopeFault>
-    ensures { Answers result (first_of refusal.Column (omitted scope.now (names_of keys.now) (names_of named.now))) }
+    ensures { Answers result (refusal_of_first refusal.Column (omitted scope.now (names_of keys.now) (names_of named.now))) }
 {
     for key in keys {
         check_key(alloc, named, &key.0)?;
@@ -131,7 +131,7 @@ fn check_omitted(
 /// Checks the names of GROUP BY against the keys.
 #[tactic(auto, using(crate::proofs::RefusalLemmas::first_of_in_two))]
 fn check_keys(alloc: Global, scope: &Scope, keys: &Scope, names: &[Text]) -> Result<(), ScopeFault>
-    ensures { Answers result (first_of refusal.Column (faults_in_names scope.now (names_of keys.now) [] names.now ++ omitted scope.now (names_of keys.now) names.now)) }
+    ensures { Answers result (refusal_of_first refusal.Column (faults_in_names scope.now (names_of keys.now) [] names.now ++ omitted scope.now (names_of keys.now) names.now)) }
 {
     check_names(alloc, scope, keys, names)?;
     let named = name_scope(alloc, names)?;
@@ -140,7 +140,7 @@ fn check_keys(alloc: Global, scope: &Scope, keys: &Scope, names: &[Text]) -> Res
 
 /// Checks GROUP BY, where it stands.
 pub fn check_grouping(alloc: Global, scope: &Scope, clause: &Return) -> Result<(), ScopeFault>
-    ensures { Answers result (first_of refusal.Column (faults_in_grouping scope.now (key_names scope.now clause.now.items) clause.now.grouping)) }
+    ensures { Answers result (refusal_of_first refusal.Column (faults_in_grouping scope.now (key_names scope.now clause.now.items) clause.now.grouping)) }
 {
     match &clause.grouping {
         None => Ok(()),

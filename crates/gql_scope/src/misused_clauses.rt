@@ -6,10 +6,10 @@ ghost use Rattle.std.specs.List.{list_any};
 ghost use Rattle.gql_ast.specs.ClauseColumns.{with_filler, match_columns, let_columns, for_columns};
 ghost use Rattle.gql_ast.specs.InsertColumns.{change_columns};
 ghost use Rattle.gql_ast.specs.Meaning.{tree_of};
-ghost use Rattle.gql_ast.specs.Misuses.{misused_expr, misused_if, misused_condition, misused_node, misused_pattern, misused_let, misused_keys, misused_order, misused_page, misused_items, misused_change, misused_clause, misused_clauses, item, elsewhere};
+ghost use Rattle.gql_scope.specs.Misuses.{misused_expr, misused_if, misused_condition, misused_node, misused_pattern, misused_let, misused_keys, misused_order, misused_page, misused_items, misused_change, misused_clause, misused_clauses, item, elsewhere};
 ghost use Rattle.gql_ast.specs.Outputs.{kind_of};
 ghost use Rattle.gql_ast.specs.Projections.{columns_behind, sort_columns, output_columns};
-ghost use Rattle.gql_ast.specs.StaticRefusals.{misuse_if};
+ghost use Rattle.gql_scope.specs.StaticRefusals.{misuse_if};
 ghost use Rattle.gql_scope.specs.Answers.{Answers};
 ghost use Rattle.gql_scope.specs.Places.{place_of, columns_at};
 

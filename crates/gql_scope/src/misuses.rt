@@ -3,13 +3,13 @@
 ghost use Rattle.std.specs.Prelude.{◌≡◌, map, find, is_some, not, ◌&&◌};
 ghost use Rattle.gql_ast.specs.Tree.{trees_of, links_of};
 ghost use Rattle.gql_ast.specs.Meaning.{tree_of, link_of};
-ghost use Rattle.gql_ast.specs.Misuses.{misused, misused_any, misused_side, is_group, is_bare_group, bars_rows};
+ghost use Rattle.gql_scope.specs.Misuses.{misused, misused_any, misused_side, is_group_column, is_bare_group, bars_rows};
 ghost use Rattle.gql_ast.specs.Scope.{names_in};
 ghost use Rattle.gql_values3.specs.Texts.{same_text};
 ghost use Rattle.gql_scope.specs.Places.{place_of, columns_at, argument_misused, aggregate_misused};
 
 use crate::columns::Scope;
-use crate::names::{Sought, first_name, is_group};
+use crate::names::{Sought, first_name, is_group_column};
 use gql_ast::{Expr, Step};
 use gql_values3::Text;
 
@@ -73,11 +73,11 @@ fn bars_rows(place: &Place) -> bool
 
 /// Whether the name stands for a group there.
 fn is_group_at(scope: &Scope, place: &Place, name: &Text) -> bool
-    ensures { result ≡ is_group (columns_at scope.now place.now) name.now }
+    ensures { result ≡ is_group_column (columns_at scope.now place.now) name.now }
 {
     match place {
         Place::Within(Some(item)) if name.as_str() == item.as_str() => false,
-        _ => is_group(scope, name),
+        _ => is_group_column(scope, name),
     }
 }
 
@@ -120,7 +120,7 @@ fn argument_is_misused(scope: &Scope, bars_rows: bool, argument: &Expr) -> bool
 
 /// Whether the expression names a group other than this one.
 fn names_other_group(scope: &Scope, group: &Text, expr: &Expr) -> bool
-    ensures { result ≡ is_some (find (λ x. is_group scope.now x && not (same_text group.now x)) (names_in (tree_of expr.now))) }
+    ensures { result ≡ is_some (find (λ x. is_group_column scope.now x && not (same_text group.now x)) (names_in (tree_of expr.now))) }
 {
     match first_name(scope, &Sought::OtherGroup(group), expr) {
         Some(_) => true,

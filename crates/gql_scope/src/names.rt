@@ -4,7 +4,7 @@ ghost use Rattle.std.specs.Prelude.{◌≡◌, [], ◌∷◌, map, find};
 ghost use Rattle.std.specs.Option.{option_copied};
 ghost use Rattle.gql_ast.specs.Tree.{trees_of, links_of};
 ghost use Rattle.gql_ast.specs.Meaning.{tree_of, link_of};
-ghost use Rattle.gql_ast.specs.Misuses.{is_group};
+ghost use Rattle.gql_scope.specs.Misuses.{is_group_column};
 ghost use Rattle.gql_ast.specs.Scope.{names_in, names_in_trees, names_in_links};
 ghost use Rattle.gql_scope.specs.Sought.{is_sought};
 
@@ -82,14 +82,14 @@ fn is_sought(scope: &Scope, sought: &Sought, name: &Text) -> bool
     match sought {
         Sought::Any => true,
         Sought::Unknown => !scope.contains(name),
-        Sought::Group => is_group(scope, name),
-        Sought::OtherGroup(group) => is_group(scope, name) && group.as_str() != name.as_str(),
+        Sought::Group => is_group_column(scope, name),
+        Sought::OtherGroup(group) => is_group_column(scope, name) && group.as_str() != name.as_str(),
     }
 }
 
 /// Whether the name is a column of lists of elements.
-pub fn is_group(scope: &Scope, name: &Text) -> bool
-    ensures { result ≡ is_group scope.now name.now }
+pub fn is_group_column(scope: &Scope, name: &Text) -> bool
+    ensures { result ≡ is_group_column scope.now name.now }
 {
     matches!(scope.kind(name), ColumnKind::Nodes | ColumnKind::Edges)
 }

@@ -9,7 +9,7 @@ ghost use Rattle.gql_ast.specs.Projections.{output_columns, output_trees, is_key
 use crate::aggregates::has_aggregate;
 use crate::behind::{kind_of, push_copy};
 use crate::columns::Scope;
-use gql_ast::text::expr_text;
+use gql_ast::expr_text;
 use gql_ast::{Expr, Return, ReturnItem, ReturnItems, SetQuantifier};
 use gql_values3::{ColumnKind, OutOfMemory, Text};
 use std::alloc::Global;

@@ -4,7 +4,7 @@ ghost use Rattle.std.specs.Prelude.{◌≡◌, [], map, if◌then◌else◌};
 ghost use Rattle.std.specs.Option.{option_copied};
 ghost use Rattle.gql_ast.specs.Tree.{trees_of, links_of};
 ghost use Rattle.gql_ast.specs.Meaning.{tree_of, link_of};
-ghost use Rattle.gql_ast.specs.ColumnFaults.{names_outside, names_outside_each, names_outside_sides};
+ghost use Rattle.gql_scope.specs.ColumnFaults.{names_outside, names_outside_each, names_outside_sides};
 ghost use Rattle.gql_ast.specs.RowAggregates.{is_over_group};
 ghost use Rattle.gql_ast.specs.Scope.{names_in};
 ghost use Rattle.gql_scope.specs.First.{first};

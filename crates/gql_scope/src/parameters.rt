@@ -4,7 +4,7 @@ ghost use Rattle.std.specs.Prelude.{◌≡◌, [], ◌∷◌, map, not};
 ghost use Rattle.std.specs.Option.{option_copied};
 ghost use Rattle.gql_ast.specs.Tree.{trees_of, links_of};
 ghost use Rattle.gql_ast.specs.Meaning.{tree_of, link_of};
-ghost use Rattle.gql_ast.specs.UnsetParameters.{parameters_in, parameters_in_each, parameters_in_sides, unset, is_set};
+ghost use Rattle.gql_scope.specs.UnsetParameters.{parameters_in, parameters_in_each, parameters_in_sides, unset, is_set};
 ghost use Rattle.gql_scope.specs.First.{first};
 
 use gql_ast::{Expr, Step};

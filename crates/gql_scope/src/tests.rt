@@ -64,6 +64,7 @@ pub fn match_clause(alloc: Global, chars: &str) -> Result<Clause, OutOfMemory> {
     Ok(Clause::Match(Match {
         optional: false,
         pattern: GraphPattern {
+            different: false,
             paths,
             condition: None,
         },

@@ -3,8 +3,8 @@
 ghost use Rattle.std.specs.Prelude.{◌≡◌, [], OnOk};
 ghost use Rattle.std.specs.Option.{option_copied};
 ghost use Rattle.gql_ast.specs.Projections.{columns_behind};
-ghost use Rattle.gql_ast.specs.StaticRefusals.{first_of};
-ghost use Rattle.gql_ast.specs.WrongKinds.{holds_nodes, wrong_variable, wrong_in_node, wrong_in_clause, wrong_in_clauses};
+ghost use Rattle.gql_scope.specs.StaticRefusals.{refusal_of_first};
+ghost use Rattle.gql_scope.specs.WrongKinds.{holds_nodes, wrong_variable, wrong_in_node, wrong_in_clause, wrong_in_clauses};
 ghost use Rattle.gql_scope.specs.Answers.{Answers};
 
 use crate::behind::{node_of, step};
@@ -24,7 +24,7 @@ fn holds_nodes(kind: ColumnKind) -> bool
 
 /// Checks the variable of a node.
 fn check_variable(alloc: Global, scope: &Scope, variable: &Option<Text>) -> Result<(), ScopeFault>
-    ensures { Answers result (first_of Refusal.Kind (wrong_variable scope.now variable.now)) }
+    ensures { Answers result (refusal_of_first Refusal.Kind (wrong_variable scope.now variable.now)) }
 {
     match variable {
         Some(name) if scope.contains(name) && !holds_nodes(scope.kind(name)) => {
@@ -36,7 +36,7 @@ fn check_variable(alloc: Global, scope: &Scope, variable: &Option<Text>) -> Resu
 
 /// Checks the variable of a pattern's node.
 fn check_node(alloc: Global, scope: &Scope, node: Option<&Filler>) -> Result<(), ScopeFault>
-    ensures { Answers result (first_of Refusal.Kind (wrong_in_node scope.now (option_copied node.entry))) }
+    ensures { Answers result (refusal_of_first Refusal.Kind (wrong_in_node scope.now (option_copied node.entry))) }
 {
     match node {
         None => Ok(()),
@@ -46,7 +46,7 @@ fn check_node(alloc: Global, scope: &Scope, node: Option<&Filler>) -> Result<(),
 
 /// Checks a clause.
 fn check_clause(alloc: Global, scope: &Scope, clause: &Clause) -> Result<(), ScopeFault>
-    ensures { Answers result (first_of Refusal.Kind (wrong_in_clause scope.now clause.now)) }
+    ensures { Answers result (refusal_of_first Refusal.Kind (wrong_in_clause scope.now clause.now)) }
 {
     match clause {
         Clause::Match(m) => check_node(alloc, scope, node_of(&m.pattern)),
@@ -57,7 +57,7 @@ fn check_clause(alloc: Global, scope: &Scope, clause: &Clause) -> Result<(), Sco
 
 /// Checks a clause, and changes the columns to those behind it.
 fn pass_clause(alloc: Global, scope: &mut Scope, clause: &Clause) -> Result<(), ScopeFault>
-    ensures kinds { Answers result (first_of Refusal.Kind (wrong_in_clause scope.old clause.now)) }
+    ensures kinds { Answers result (refusal_of_first Refusal.Kind (wrong_in_clause scope.old clause.now)) }
     ensures columns { OnOk result (scope.new ≡ columns_behind scope.old clause.now) }
 {
     check_clause(alloc, scope, clause)?;
@@ -68,7 +68,7 @@ fn pass_clause(alloc: Global, scope: &mut Scope, clause: &Clause) -> Result<(), 
 /// Checks a query's clauses.
 #[tactic(auto, using(crate::proofs::RefusalLemmas::first_of_in_two))]
 pub fn wrong_kinds(alloc: Global, clauses: &[Clause]) -> Result<(), ScopeFault>
-    ensures { Answers result (first_of Refusal.Kind (wrong_in_clauses [] clauses.now)) }
+    ensures { Answers result (refusal_of_first Refusal.Kind (wrong_in_clauses [] clauses.now)) }
 {
     let mut scope = Scope::new(alloc);
     for clause in clauses {

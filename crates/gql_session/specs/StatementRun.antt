@@ -9,7 +9,7 @@ use Rattle.gql_values3.specs.PropertyGraph.{PropertyGraph}
 use Rattle.gql_ast.specs.Meaning.{tree_of}
 use Rattle.gql_ast.specs.Evaluation.{value_of}
 use Rattle.gql_ast.specs.NumberLiterals.{wide_number}
-use Rattle.gql_ast.specs.StaticRefusals.{static_refusal}
+use Rattle.gql_scope.specs.StaticRefusals.{static_refusal}
 use Rattle.gql_values3.specs.declared.table.Table.{Table}
 use Rattle.gql_ast.specs.declared.clause.Query.{Query}
 use Rattle.gql_ast.specs.declared.fault.DataFault.{DataFault}

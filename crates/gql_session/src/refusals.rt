@@ -1,7 +1,7 @@
 //! The first refusal of a statement that stands before it runs.
 ghost use Rattle.std.specs.Prelude.{◌≡◌, IfOk, codes};
 ghost use Rattle.gql_graph.specs.Catalog.{CatalogData, graph_of};
-ghost use Rattle.gql_ast.specs.StaticRefusals.{static_refusal};
+ghost use Rattle.gql_scope.specs.StaticRefusals.{static_refusal};
 ghost use Rattle.gql_session.specs.Meaning.{state_of};
 ghost use Rattle.gql_session.specs.StatementRun.{missing_graph, graph_refusal, first_refusal};
 

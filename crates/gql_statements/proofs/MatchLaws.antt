@@ -246,7 +246,7 @@ unfolding match_of
 match_sound ts m r e =
     bind_then (node_of ts) _ (m, r) e (λ f p e.
     bind_then (where_of f.1) _ (m, r) e (λ w q e.
-    finish (λ m r. Matched m ts r) (alone f.0 w.0) w.1 m r e (refl, (f.1, (refl, refl, node_sound ts f.0 f.1 p), where_sound f.1 w.0 w.1 q))))
+    finish (λ m r. Matched m ts r) (alone f.0 w.0) w.1 m r e (refl, (refl, f.1, (refl, refl, node_sound ts f.0 f.1 p), where_sound f.1 w.0 w.1 q))))
 
 -- a pattern that is derived is one node alone
 record Alone (m : Match) (ts r : List Lexeme) : Type 0 where
@@ -256,25 +256,26 @@ record Alone (m : Match) (ts r : List Lexeme) : Type 0 where
   is_node : IsNode filler ts behind
   is_where : IsOptional IsWhere m.pattern.condition behind r
 
-is_alone_of : (optional : Bool) (paths : List PathPattern) (w : Option Expr) (ts r : List Lexeme) → Matched (record { optional = optional; pattern = record { paths = paths; condition = w } }) ts r
-    → Alone (record { optional = optional; pattern = record { paths = paths; condition = w } }) ts r
-is_alone_of optional [] w ts r h = absurd h.1.1
-is_alone_of optional (p ∷ q ∷ ps) w ts r h = absurd h.1.1
-is_alone_of optional (p ∷ []) w ts r h = go p.name p.prefix p.expr h.1.1.0 h.1.1.1 h.1.1.2
+is_alone_of : (optional different : Bool) (paths : List PathPattern) (w : Option Expr) (ts r : List Lexeme)
+    → Matched (record { optional = optional; pattern = record { different = different; paths = paths; condition = w } }) ts r
+    → Alone (record { optional = optional; pattern = record { different = different; paths = paths; condition = w } }) ts r
+is_alone_of optional different [] w ts r h = absurd h.1.2
+is_alone_of optional different (p ∷ q ∷ ps) w ts r h = absurd h.1.2
+is_alone_of optional different (p ∷ []) w ts r h = go p.name p.prefix p.expr h.1.2.0 h.1.2.1 h.1.2.2
   where
-    go : (x : Option (List ℕ)) (f : Option Prefix) (e : PathExpr) → x ≡ None → f ≡ None → IsPathExpr e ts h.1.0
-        → Alone (record { optional = optional; pattern = record { paths = record { name = x; prefix = f; expr = e } ∷ []; condition = w } }) ts r
+    go : (x : Option (List ℕ)) (f : Option Prefix) (e : PathExpr) → x ≡ None → f ≡ None → IsPathExpr e ts h.1.1
+        → Alone (record { optional = optional; pattern = record { different = different; paths = record { name = x; prefix = f; expr = e } ∷ []; condition = w } }) ts r
     go x f (path.Node n) no_name no_prefix k = record {
       filler = n;
-      behind = h.1.0;
-      is_alone = λ i. record { optional = h.0 i; pattern = record { paths = record { name = no_name i; prefix = no_prefix i; expr = path.Node n } ∷ []; condition = w } };
+      behind = h.1.1;
+      is_alone = λ i. record { optional = h.0 i; pattern = record { different = h.1.0 i; paths = record { name = no_name i; prefix = no_prefix i; expr = path.Node n } ∷ []; condition = w } };
       is_node = k;
-      is_where = h.1.2;
+      is_where = h.1.3;
     }
     go x f _ no_name no_prefix k = absurd k
 
 alone_of : (m : Match) (ts r : List Lexeme) → Matched m ts r → Alone m ts r
-alone_of m ts r h = is_alone_of m.optional m.pattern.paths m.pattern.condition ts r h
+alone_of m ts r h = is_alone_of m.optional m.pattern.different m.pattern.paths m.pattern.condition ts r h
 
 pub match_exact : (m : Match) (ts s : List Lexeme) → Matched m ts s → Stops (is_word WHERE) s → Stops goes_or s → match_of ts ≡ Some (m, s)
 unfolding match_of

@@ -6,13 +6,16 @@ use Rattle.gql_values3.specs.Datum.{Datum, data_of, items_of, Data, no_data, mor
 use Rattle.gql_values3.specs.Meaning.{datum_of}
 use Rattle.gql_ast.specs.Tree.{Tree}
 use Rattle.gql_ast.specs.Tree as tree
-use Rattle.gql_ast.specs.Label.{Label, Labels, labels_of, items_of_labels, name, wildcard, paren, negation, conjunction, disjunction, no_labels, more_labels}
+use Rattle.gql_ast.specs.Label.{Label, Labels, labels_listed, items_of_labels, name, wildcard, paren, negation, conjunction, disjunction, no_labels, more_labels}
 use Rattle.gql_ast.specs.LabelMeaning.{label_of}
 use Rattle.gql_ast.specs.Meaning.{tree_of}
 use Rattle.gql_ast.specs.declared.expr.Expr.{Expr}
 use Rattle.gql_ast.specs.declared.label.LabelExpr.{LabelExpr}
-use Rattle.gql_ast.proofs.LabelLemmas.{label_expr_of, label_expr_of-label_of}
-use Rattle.gql_ast.proofs.MeaningLemmas.{value_of, expr_of, expr_of-tree_of}
+use Rattle.gql_ast.proofs.LabelLemmas.{label_expr_of-label_of}
+use Rattle.gql_ast.specs.LabelMeaning.{label_expr_of}
+use Rattle.gql_ast.proofs.MeaningLemmas.{expr_of-tree_of}
+use Rattle.gql_ast.specs.Meaning.{expr_of}
+use Rattle.gql_values3.specs.Meaning.{as_value}
 use Rattle.gql_front.specs.SymbolPlaces.{star}
 use Rattle.gql_front.specs.WordPlaces.{ALL, DISTINCT, WHERE}
 use Rattle.gql_front.specs.Reading.{is_word, is_sign, sequence, prefix, suffix}
@@ -37,30 +40,30 @@ data_of-items_of : (ds : Data) → data_of (items_of ds) ≡ ds
 data_of-items_of no_data = refl
 data_of-items_of (more_data d ds) = ap (λ z. more_data d z) (data_of-items_of ds)
 
-datum_of-value_of : (d : Datum) → datum_of (value_of d) ≡ d
-datum_of-value_of null = refl
-datum_of-value_of (boolean b) = refl
-datum_of-value_of (integer z) = refl
-datum_of-value_of (text t) = refl
-datum_of-value_of (list ds) = ap list (data_of-items_of ds)
-datum_of-value_of (node n) = refl
-datum_of-value_of (edge n) = refl
-datum_of-value_of (path w) = refl
+datum_of-as_value : (d : Datum) → datum_of (as_value d) ≡ d
+datum_of-as_value null = refl
+datum_of-as_value (boolean b) = refl
+datum_of-as_value (integer z) = refl
+datum_of-as_value (text t) = refl
+datum_of-as_value (list ds) = ap list (data_of-items_of ds)
+datum_of-as_value (node n) = refl
+datum_of-as_value (edge n) = refl
+datum_of-as_value (path w) = refl
 
-labels_of-items : (es : Labels) → labels_of (items_of_labels es) ≡ es
-labels_of-items no_labels = refl
-labels_of-items (more_labels e es) = ap (λ z. more_labels e z) (labels_of-items es)
+labels_listed-items : (es : Labels) → labels_listed (items_of_labels es) ≡ es
+labels_listed-items no_labels = refl
+labels_listed-items (more_labels e es) = ap (λ z. more_labels e z) (labels_listed-items es)
 
 label_of-label_expr_of : (l : Label) → label_of (label_expr_of l) ≡ l
 label_of-label_expr_of (name x) = refl
 label_of-label_expr_of wildcard = refl
 label_of-label_expr_of (paren e) = refl
 label_of-label_expr_of (negation e) = refl
-label_of-label_expr_of (conjunction e es) = ap (λ z. conjunction e z) (labels_of-items es)
-label_of-label_expr_of (disjunction e es) = ap (λ z. disjunction e z) (labels_of-items es)
+label_of-label_expr_of (conjunction e es) = ap (λ z. conjunction e z) (labels_listed-items es)
+label_of-label_expr_of (disjunction e es) = ap (λ z. disjunction e z) (labels_listed-items es)
 
 tree_of-expr_of : (e : Tree) → tree_of (expr_of e) ≡ e
-tree_of-expr_of (tree.constant d) = ap tree.constant (datum_of-value_of d)
+tree_of-expr_of (tree.constant d) = ap tree.constant (datum_of-as_value d)
 tree_of-expr_of (tree.listing es) = ap tree.listing (trees_of-items_of_trees es)
 tree_of-expr_of (tree.coalesce e es) = ap (λ z. tree.coalesce e z) (trees_of-items_of_trees es)
 tree_of-expr_of (tree.product e ls) = ap (λ z. tree.product e z) (links_of-items_of_links ls)

@@ -69,8 +69,9 @@ ArePaths [] ts r = ⊥
 ArePaths (p ∷ []) ts r = IsPath p ts r
 ArePaths (p ∷ q ∷ ps) ts r = ⊥
 
+-- DIFFERENT EDGES comes at a later stage
 abbrev pub IsPattern : GraphPattern → List Lexeme → List Lexeme → Type 0
-IsPattern g ts r = (a : List Lexeme) × ArePaths g.paths ts a × IsOptional IsWhere g.condition a r
+IsPattern g ts r = (g.different ≡ false) × (a : List Lexeme) × ArePaths g.paths ts a × IsOptional IsWhere g.condition a r
 
 -- OPTIONAL comes at a later stage
 abbrev pub IsMatch : Match → List Lexeme → List Lexeme → Type 0

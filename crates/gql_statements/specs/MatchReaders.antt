@@ -77,7 +77,7 @@ node_of ts = do
 abbrev pub alone : Filler → Option Expr → Match
 alone f e = record {
   optional = false;
-  pattern = record { paths = record { name = None; prefix = None; expr = path.Node f } ∷ []; condition = e };
+  pattern = record { different = false; paths = record { name = None; prefix = None; expr = path.Node f } ∷ []; condition = e };
 }
 
 -- behind MATCH

@@ -1,8 +1,8 @@
 -- PartReaders: reading what productions are made of.
 use Rattle.std.specs.Prelude.{List, ◌∷◌, Bool, Option, Some, None}
 use Rattle.gql_lexer.specs.declared.lexeme.Lexeme.{Lexeme}
-use Rattle.gql_ast.proofs.LabelLemmas.{label_expr_of}
-use Rattle.gql_ast.proofs.MeaningLemmas.{expr_of}
+use Rattle.gql_ast.specs.LabelMeaning.{label_expr_of}
+use Rattle.gql_ast.specs.Meaning.{expr_of}
 use Rattle.gql_ast.specs.declared.expr.Expr.{Expr}
 use Rattle.gql_ast.specs.declared.label.LabelExpr.{LabelExpr}
 use Rattle.gql_front.specs.Reading.{◌>>=◌, Reader, after, step, sequence}

@@ -50,6 +50,10 @@ fn alone(alloc: Global, filler: Filler, condition: Option<Expr>) -> Result<Match
     })?;
     Ok(Match {
         optional: false,
-        pattern: GraphPattern { paths, condition },
+        pattern: GraphPattern {
+            different: false,
+            paths,
+            condition,
+        },
     })
 }

@@ -11,7 +11,8 @@ use Rattle.gql_values3.specs.declared.truth.Truth.TheVariants as truth
 use Rattle.gql_ast.specs.Tree.{Tree}
 use Rattle.gql_ast.specs.Meaning.{tree_of}
 use Rattle.gql_ast.specs.Scope.{row_scope}
-use Rattle.gql_ast.specs.Operators.{counted, truth_in}
+use Rattle.gql_ast.specs.Operators.{counted}
+use Rattle.gql_ast.specs.TruthValues.{truth_in}
 use Rattle.gql_ast.specs.Evaluation.{value_of}
 use Rattle.gql_ast.specs.Outputs.{element_kind, kind_of}
 use Rattle.gql_ast.specs.declared.clause.Counting.{Counting}

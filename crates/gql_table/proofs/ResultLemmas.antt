@@ -5,7 +5,7 @@ use Rattle.std.specs.List.{list_any, AllByRecursion}
 use Rattle.std.proofs.lemmas.List.{get_or_append_left, get_or-drop}
 use Rattle.std.proofs.Common.{drop-drop}
 use Rattle.gql_values3.specs.Datum.{Datum, null}
-use Rattle.gql_values3.specs.Nesting.{is_null}
+use Rattle.gql_values3.specs.Datum.{is_null}
 use Rattle.gql_values3.specs.PropertyGraph.{PropertyGraph}
 use Rattle.gql_values3.specs.declared.table.ColumnKind.TheVariants as kind
 use Rattle.gql_ast.specs.Tree.{Tree}

@@ -6,7 +6,7 @@ use Rattle.gql_values3.specs.declared.truth.Truth.{Truth}
 use Rattle.gql_values3.specs.declared.truth.Truth.TheVariants as truth
 use Rattle.gql_ast.specs.Tree.{Tree}
 use Rattle.gql_ast.specs.Scope.{row_scope}
-use Rattle.gql_ast.specs.Operators.{truth_in}
+use Rattle.gql_ast.specs.TruthValues.{truth_in}
 use Rattle.gql_ast.specs.Faults.{◌>>=◌}
 use Rattle.gql_ast.specs.Evaluation.{value_of}
 use Rattle.gql_ast.specs.declared.fault.DataFault.{DataFault}

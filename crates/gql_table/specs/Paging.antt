@@ -2,7 +2,7 @@
 -- also over no rows.
 use Rattle.std.specs.Prelude.{ℕ, pos, List, map, take, drop, Option, Some, None, Result, Ok, Err}
 use Rattle.gql_values3.specs.Datum.{Datum, integer}
-use Rattle.gql_values3.specs.IntegerLiterals.{value_of_digits}
+use Rattle.gql_values3.specs.Integers.{value_of_digits}
 use Rattle.gql_values3.specs.PropertyGraph.{PropertyGraph}
 use Rattle.gql_ast.specs.Meaning.{tree_of}
 use Rattle.gql_ast.specs.Scope.{row_scope}

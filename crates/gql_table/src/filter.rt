@@ -5,7 +5,7 @@ ghost use Rattle.gql_values3.specs.Meaning.{datum_of};
 ghost use Rattle.gql_ast.specs.Meaning.{tree_of};
 ghost use Rattle.gql_ast.specs.Scope.{row_scope};
 ghost use Rattle.gql_ast.specs.Evaluation.{value_of};
-ghost use Rattle.gql_ast.specs.Operators.{truth_in};
+ghost use Rattle.gql_ast.specs.TruthValues.{truth_in};
 ghost use Rattle.gql_eval.specs.Gives.{Gives};
 ghost use Rattle.gql_eval.specs.Next.{next};
 ghost use Rattle.gql_table.specs.Filter.{filter_rows, kept_if};

@@ -2,7 +2,7 @@
 
 ghost use Rattle.std.specs.Prelude.{◌≡◌, [], ◌++◌, map, filter, not, length, slice_index_or, IfOk, Ok};
 ghost use Rattle.gql_values3.specs.Datum.{null};
-ghost use Rattle.gql_values3.specs.Nesting.{is_null};
+ghost use Rattle.gql_values3.specs.Datum.{is_null};
 ghost use Rattle.gql_values3.specs.Meaning.{datum_of};
 ghost use Rattle.gql_eval.specs.Gives.{Gives};
 ghost use Rattle.gql_eval.specs.Next.{next};

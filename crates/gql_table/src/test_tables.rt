@@ -1,7 +1,7 @@
 ghost use Rattle.std.specs.Prelude.{[]};
 
 use crate::clauses::apply;
-use gql_ast::text::push_value;
+use gql_ast::push_value;
 use gql_ast::{
     Aggregate, Clause, DataFault, Expr, Exprs, Operator, SetQuantifier, Step, Steps, Sub,
 };

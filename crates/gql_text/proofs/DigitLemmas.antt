@@ -2,7 +2,7 @@
 use Rattle.std.proofs.Common.{◌≡◌, true, ℕ, zero, suc, ◌+◌, ◌-◌, ◌*◌, ◌^◌, ◌<◌, ◌≤◌, nat_lt, List, ◌∷◌, length, drop, get_or, add-one, drop-cons, arith}
 use Rattle.std.proofs.lemmas.Bool.Decides.{nat_tests}
 use Rattle.std.proofs.Math.Nat.{mul-le-mul_left, pow-suc}
-use Rattle.gql_values3.specs.IntegerLiterals.{value_of_digits}
+use Rattle.gql_values3.specs.Integers.{value_of_digits}
 
 -- what the whole will be, if so much stands before the digits
 abbrev pub behind : ℕ → List ℕ → ℕ

@@ -7,7 +7,7 @@ ghost use Rattle.gql_text.specs.OutcomeText.{line, behind_tab, cells, row_text, 
 
 use crate::refusal::push_refusal;
 use gql_ast::Outcome;
-use gql_ast::text::{push_header, push_number, push_value};
+use gql_ast::{push_header, push_number, push_value};
 use gql_values3::{Bytes, OutOfMemory, Row, Table, Text, Value};
 use std::alloc::Global;
 

@@ -3,7 +3,7 @@ ghost use Rattle.gql_values3.specs.Meaning.{datum_of};
 ghost use Rattle.gql_ast.specs.ValueText.{value_text, name_text, any_name_text, node_text, edge_text};
 ghost use Rattle.gql_text.specs.OutcomeText.{elem_text, fault_text, column_text, elem_kind_text, refusal_text};
 
-use gql_ast::text::{push_any_name, push_digits, push_edge, push_name, push_node, push_value};
+use gql_ast::{push_any_name, push_digits, push_edge, push_name, push_node, push_value};
 use gql_ast::{ColumnRef, DataFault, ElemKind, Refusal};
 use gql_values3::{EdgeId, Elem, NodeId, OutOfMemory, Text, Value};
 

@@ -2,7 +2,7 @@ ghost use Rattle.std.specs.Prelude.{◌≡◌, ◌++◌, OnOk, OnErr};
 ghost use Rattle.gql_values3.specs.Meaning.{datum_of};
 ghost use Rattle.gql_ast.specs.ValueText.{value_text};
 
-use gql_ast::text::push_value;
+use gql_ast::push_value;
 use gql_values3::{Bytes, OutOfMemory, Text, Value};
 use std::alloc::Global;
 

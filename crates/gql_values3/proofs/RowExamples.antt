@@ -4,7 +4,8 @@ use Rattle.std.specs.Prelude.{codes, pos}
 use Rattle.gql_values3.specs.declared.table.ColumnKind.{ColumnKind}
 use Rattle.gql_values3.specs.declared.table.ColumnKind.TheVariants as kind
 use Rattle.gql_values3.specs.Datum.{null, integer, list, node, edge, data_of}
-use Rattle.gql_values3.specs.Rows.{fits_columns, fits_kind, is_shallow}
+use Rattle.gql_values3.specs.Rows.{fits_columns, fits_kind}
+use Rattle.gql_values3.specs.Nesting.{is_shallow}
 
 abbrev columns : List (List ℕ × ColumnKind)
 columns = (codes "a", kind.Node) ∷ (codes "es", kind.Edges) ∷ (codes "x", kind.Plain) ∷ []

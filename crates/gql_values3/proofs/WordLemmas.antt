@@ -13,7 +13,7 @@ use Rattle.std.proofs.lemmas.Map.Lookups.{exact_bytes}
 use Rattle.std.proofs.lemmas.List.Sums.{position_or_len_is}
 use Rattle.gql_values3.specs.Names.{ascii_upper}
 use Rattle.gql_values3.specs.Texts.{same_text}
-use Rattle.gql_values3.specs.WordSlots.{slot, placed}
+use Rattle.gql_values3.specs.Machinery.WordSlots.{slot, placed}
 
 -- the order of texts by bytes
 abbrev order : List ℕ → List ℕ → Ordering

@@ -11,9 +11,9 @@ use Rattle.gql_values3.specs.ValueOrder.{rank, datum_cmp}
 use Rattle.gql_values3.specs.Truth.{negated, both, truth_of}
 
 -- AND of two equalities; none where one is none
-abbrev pub conjunction : Option Truth → Option Truth → Option Truth
-conjunction (Some a) (Some b) = Some (both a b)
-conjunction _ _ = None
+abbrev pub both_equalities : Option Truth → Option Truth → Option Truth
+both_equalities (Some a) (Some b) = Some (both a b)
+both_equalities _ _ = None
 
 -- `=`: NULL gives Unknown, different kinds are not comparable, and lists of different lengths are unequal
 abbrev mutual
@@ -23,11 +23,12 @@ abbrev mutual
   equality (list a) (list b) = if (length (items_of a) == length (items_of b)) then items_equality a b else Some truth.False
   equality a b = if (rank a == rank b) then Some (truth_of (is_eq (datum_cmp a b))) else None
 
-  -- of lists of one length: not comparable where a pair of items is, else the AND of the items' equalities
+  -- of lists of one length: not comparable where a pair of items is, else the AND of the items' equalities. `equality` asks
+  -- of no lists of two lengths; there the items that one list has more count as equal, so that the definition is total.
   pub items_equality : Data → Data → Option Truth
   items_equality no_data bs = Some truth.True
   items_equality (more_data a more) no_data = Some truth.True
-  items_equality (more_data a more) (more_data b rest) = conjunction (equality a b) (items_equality more rest)
+  items_equality (more_data a more) (more_data b rest) = both_equalities (equality a b) (items_equality more rest)
 
 -- an order sign: NULL gives Unknown; both sides are booleans, or integers, or texts, else they are not comparable
 abbrev pub ordered : (Ordering → Bool) → Datum → Datum → Option Truth

@@ -1,5 +1,5 @@
 -- The values of the database as plain data.
-use Rattle.std.specs.Prelude.{◌≡◌, ◌≢◌, ℕ, ℤ, Bool, List, [], ◌∷◌, refl}
+use Rattle.std.specs.Prelude.{◌≡◌, ◌≢◌, ℕ, ℤ, Bool, true, false, Option, Some, None, List, [], ◌∷◌, refl}
 use Rattle.std.specs.Coded.{Coded, code_by, coded×, coded_ℕ, coded_ℤ, coded_bool, coded_list}
 use Rattle.std.proofs.Common.{ap}
 use base.Stored.{Gv, gnil, gnum, gcons}
@@ -32,6 +32,16 @@ items_of (more_data d ds) = d ∷ items_of ds
 abbrev pub data_of : List Datum → Data
 data_of [] = no_data
 data_of (d ∷ ds) = more_data d (data_of ds)
+
+-- NULL, the value that is missing
+abbrev pub is_null : Datum → Bool
+is_null null = true
+is_null _ = false
+
+-- what is missing is NULL
+abbrev pub or_null : Option Datum → Datum
+or_null None = null
+or_null (Some d) = d
 
 -- How the logic tells the data apart.
 abbrev pub coded_path : Coded PathData

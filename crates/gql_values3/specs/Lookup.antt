@@ -42,6 +42,10 @@ labels_of g (elem.Edge e) = labels_in (option_map (λ r. r.labels) (edge_of g e)
 abbrev pub has_label : PropertyGraph → Elem → List ℕ → Bool
 has_label g e label = list_any (same_text label) (labels_of g e)
 
+-- the nodes with a label, by ascending number
+abbrev pub labelled_nodes : PropertyGraph → List ℕ → List NodeId
+labelled_nodes g label = map (λ r. r.number) (filter (λ (r : NodeRecord). list_any (same_text label) r.labels) g.nodes)
+
 -- the properties, in order; an element that isn't there has none
 abbrev pub properties_in : Option (List (List ℕ × Datum)) → List (List ℕ × Datum)
 properties_in None = []

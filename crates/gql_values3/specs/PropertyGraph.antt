@@ -1,8 +1,9 @@
 -- The property graph of GQL: nodes and edges with numbers, labels and properties; which lists and numbers are one.
-use Rattle.std.specs.Prelude.{ℕ, ℤ, pos, negsuc, zero, suc, ◌^◌, Bool, true, false, ◌&&◌, nat_lt, nat_le, List, [], ◌∷◌, map, ◌==◌}
+use Rattle.std.specs.Prelude.{ℕ, zero, suc, ◌^◌, Bool, true, false, ◌&&◌, nat_lt, nat_le, List, [], ◌∷◌, map, ◌==◌}
 use Rattle.std.specs.List.{list_all, list_any}
 use Rattle.gql_values3.specs.Datum.{Datum, Data, null, boolean, integer, text, list, node, edge, path, no_data, more_data}
 use Rattle.gql_values3.specs.Texts.{texts_ascend}
+use Rattle.gql_values3.specs.Integers.{is_int64}
 use Rattle.gql_values3.specs.declared.element.NodeId.{NodeId}
 use Rattle.gql_values3.specs.declared.element.Ends.{Ends}
 use Rattle.gql_values3.specs.declared.element.Ends.TheVariants.{Directed, Undirected}
@@ -24,11 +25,6 @@ numbers_ascend low (n ∷ ns) high = nat_lt low n && numbers_ascend n ns high
 -- numbers from 1 on, each once, below the next one, which is at most 4,294,967,295
 abbrev pub are_numbers : List ℕ → ℕ → Bool
 are_numbers ns next = numbers_ascend 0 ns next && nat_lt next (2 ^ 32)
-
--- an integer of 64 bits
-abbrev pub is_int64 : ℤ → Bool
-is_int64 (pos n) = nat_lt n (2 ^ 63)
-is_int64 (negsuc n) = nat_lt n (2 ^ 63)
 
 -- what may stand in a property, nested at most so deep: booleans, integers, strings, NULL, and lists of these; no element and no path
 abbrev mutual

@@ -1,10 +1,9 @@
--- Rows of a table: which columns there may be, which data fit them, and how deep a datum may be nested.
-use Rattle.std.specs.Prelude.{ℕ, Bool, true, false, ◌&&◌, nat_le, List, [], ◌∷◌, map}
+-- Rows of a table: which columns there may be, and which data fit them.
+use Rattle.std.specs.Prelude.{ℕ, Bool, true, false, ◌&&◌, List, [], ◌∷◌, map}
 use Rattle.std.specs.List.{list_all}
 use Rattle.gql_values3.specs.declared.table.ColumnKind.{ColumnKind}
 use Rattle.gql_values3.specs.declared.table.ColumnKind.TheVariants as kind
 use Rattle.gql_values3.specs.Datum.{Datum, null, list, node, edge, path, items_of}
-use Rattle.gql_values3.specs.Nesting.{depth}
 use Rattle.gql_values3.specs.Texts.{texts_differ}
 
 -- the kinds of data that columns name
@@ -53,7 +52,3 @@ are_columns columns = texts_differ (map (λ c. c.0) columns)
 -- the row fits the columns, whose names differ
 abbrev pub fits_columns : List (List ℕ × ColumnKind) → List Datum → Bool
 fits_columns columns row = are_columns columns && fit_kinds (map (λ c. c.1) columns) row
-
--- lists in it are nested at most 64 deep
-abbrev pub is_shallow : Datum → Bool
-is_shallow d = nat_le (depth d) 64

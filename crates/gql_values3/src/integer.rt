@@ -1,6 +1,6 @@
 ghost use Rattle.std.specs.Prelude.{◌≡◌, ◌<◌, IsTrue, length, nat_le, pos, if◌then◌else◌};
 ghost use Rattle.std.specs.Str.{all_ascii_digits};
-ghost use Rattle.gql_values3.specs.IntegerLiterals.{value_of_digits};
+ghost use Rattle.gql_values3.specs.Integers.{value_of_digits};
 
 /// The number that one or more ASCII digits write, or None where it is above 9,223,372,036,854,775,807. Zeros may
 /// stand first. It takes no memory.

@@ -6,35 +6,37 @@
 //! which tells the characters of names.
 #![tactic(auto)]
 
-pub mod comparison;
-pub mod element;
-pub mod integer;
-pub mod memory;
-pub mod names;
-pub mod order;
-pub mod path;
-pub mod properties;
-pub mod property_kind;
-pub mod records;
-pub mod sequence;
+mod comparison;
+mod element;
+mod integer;
+mod keyed;
+mod memory;
+mod names;
+mod order;
+mod path;
+mod properties;
+mod prop_kind;
+mod records;
+mod sequence;
 mod short_text;
-pub mod table;
+mod table;
 #[cfg(test)]
 mod tests;
-pub mod text;
-pub mod truth;
-pub mod value;
-pub mod view;
+mod text;
+mod truth;
+mod value;
+mod view;
 
 pub use comparison::{Comparison, NotComparable, compare3};
 pub use element::{EdgeId, Elem, Ends, NodeId};
 pub use integer::int_of;
+pub use keyed::{Keyed, keys_ascend};
 pub use memory::OutOfMemory;
 pub use names::{plain_name, reserved_place, spells_name};
 pub use order::{items_cmp, total_cmp};
 pub use path::PathValue;
 pub use properties::Properties;
-pub use property_kind::{PropertyKind, Scalar};
+pub use prop_kind::{PropKind, Scalar};
 pub use records::{EdgeRecord, NodeRecord};
 pub use sequence::{Bytes, Names, Numbers, Sequence};
 pub use table::{Binding, Bound, ColumnKind, Columns, Elems, Params, Row, Rows, Table};

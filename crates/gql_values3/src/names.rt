@@ -6,7 +6,7 @@ ghost use Rattle.std.specs.Ordering.{nat_cmp};
 ghost use Rattle.std.specs.Cmp.Lexicographic.{slice_cmp};
 ghost use Rattle.unicode_ident.specs.Ident.{is_xid_start, is_xid_continue};
 ghost use Rattle.gql_values3.specs.Texts.{same_text};
-ghost use Rattle.gql_values3.specs.WordSlots.{slot, placed};
+ghost use Rattle.gql_values3.specs.Machinery.WordSlots.{slot, placed};
 ghost use Rattle.gql_values3.specs.Names.{ascii_upper, reserved_place, is_name, is_plain_name};
 
 use std::cmp::Ordering;

@@ -1,4 +1,4 @@
-ghost use Rattle.std.specs.Prelude.{◌≡◌, [], ◌++◌, ◌+◌, ◌≤◌, length, true, false};
+ghost use Rattle.std.specs.Prelude.{◌≡◌, [], ◌++◌, ◌+◌, ◌<◌, ◌≤◌, length, true, false};
 
 use std::marker::Model;
 use std::str;
@@ -43,7 +43,8 @@ impl ShortText {
     /// Adds at the end where there is room, and tells whether there was.
     pub(crate) fn push_str(&mut self, more: &str) -> bool
         ensures added { result ≡ true → self.new ≡ self.old ++ more.now }
-        ensures full { result ≡ false → self.new ≡ self.old }
+        ensures full { result ≡ false → 12 < length self.old + length more.now }
+        ensures kept { result ≡ false → self.new ≡ self.old }
     {
         let start = self.len as usize;
         if more.len() > ROOM - start {

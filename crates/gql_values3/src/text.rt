@@ -1,7 +1,7 @@
 ghost use Rattle.std.specs.Prelude.{◌≡◌, [], ◌++◌, IfOk, OnOk, OnErr, length, string_bytes, ◌==◌};
 ghost use Rattle.std.specs.Ordering.{nat_cmp};
 ghost use Rattle.std.specs.Cmp.Lexicographic.{slice_cmp};
-ghost use Rattle.gql_values3.specs.Stored.{stored_bytes};
+ghost use Rattle.gql_values3.specs.Machinery.Stored.{stored_bytes};
 
 use crate::memory::OutOfMemory;
 use crate::short_text::ShortText;
@@ -29,7 +29,7 @@ enum Stored {
 
 impl Model for Text {
     ghost use Rattle.std.specs.Prelude.{List, ℕ};
-    ghost use Rattle.gql_values3.specs.Stored.{stored_bytes};
+    ghost use Rattle.gql_values3.specs.Machinery.Stored.{stored_bytes};
 
     ghost Value = { List ℕ };
 

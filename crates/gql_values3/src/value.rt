@@ -1,6 +1,6 @@
 ghost use Rattle.std.specs.Prelude.{◌≡◌, [], ◌∷◌, ◌++◌, length, map, IfOk, OnOk, OnErr};
 ghost use Rattle.gql_values3.specs.Meaning.{datum_of};
-ghost use Rattle.gql_values3.specs.Nesting.{is_null};
+ghost use Rattle.gql_values3.specs.Datum.{is_null};
 
 use crate::element::{EdgeId, NodeId};
 use crate::memory::OutOfMemory;
@@ -50,7 +50,7 @@ impl Model for List {
     ghost size = { depth_all };
 
     ghost use Rattle.std.proofs.Common.{arith};
-    ghost use Rattle.gql_values3.specs.Falls.{most_le-depth_all};
+    ghost use Rattle.gql_values3.specs.Machinery.Falls.{most_le-depth_all};
 
     ghost size_decreases = { λ a h. omega (arith, most_le-depth_all a.items.items) };
 }

@@ -2,7 +2,7 @@ ghost use Rattle.std.specs.Prelude.{◌≡◌, ◌≢◌, [], IsTrue, ◌↔◌,
 ghost use Rattle.std.specs.Option.{option_copied};
 ghost use Rattle.gql_values3.specs.PropertyGraph.{PropertyGraph, is_graph};
 ghost use Rattle.gql_values3.specs.Meaning.{datum_of};
-ghost use Rattle.gql_values3.specs.Lookup.{has_node, ends_of, node_at, labels_of, has_label, property_of, names_of, touching_edges};
+ghost use Rattle.gql_values3.specs.Lookup.{has_node, ends_of, node_at, labels_of, has_label, labelled_nodes, property_of, names_of, touching_edges};
 
 use crate::element::{EdgeId, Elem, Ends, NodeId};
 use crate::text::Text;
@@ -32,6 +32,10 @@ pub trait View: Sync {
 
     fn has_label(&self, elem: Elem, label: &str) -> bool
         ensures { result ≡ has_label (graph self.now) elem label.now };
+
+    /// The node of that place, from 0, among the nodes with the label, by ascending number.
+    fn labelled(&self, label: &str, index: u32) -> Option<NodeId>
+        ensures { result ≡ slice_get (labelled_nodes (graph self.now) label.now) index };
 
     /// Whether the element is there and has a label.
     fn any_label(&self, elem: Elem) -> bool

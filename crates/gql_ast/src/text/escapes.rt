@@ -1,7 +1,7 @@
 ghost use Rattle.std.specs.Prelude.{◌≡◌, ◌<◌, ◌+◌, [], ◌∷◌, ◌++◌, OnOk, MatchOption, IsTrue, length, take, drop, slice_index};
 ghost use Rattle.std.specs.List.{flat_map, position};
 ghost use Rattle.gql_ast.specs.ValueText.{hex_digit, control};
-ghost use Rattle.gql_ast.specs.Escapes.{escaped, is_control, is_escaped};
+ghost use Rattle.gql_ast.specs.Machinery.Escapes.{escaped, is_control, is_escaped};
 ghost use Rattle.std.specs.Str.{IsUtf8};
 
 use gql_values3::{OutOfMemory, Text};

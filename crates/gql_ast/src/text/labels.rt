@@ -1,5 +1,5 @@
 ghost use Rattle.std.specs.Prelude.{◌≡◌, ◌++◌, OnOk, map};
-ghost use Rattle.gql_ast.specs.Label.{labels_of};
+ghost use Rattle.gql_ast.specs.Label.{labels_listed};
 ghost use Rattle.gql_ast.specs.LabelMeaning.{label_of};
 ghost use Rattle.gql_ast.specs.ExprText.{label_text, labels_text};
 
@@ -38,7 +38,7 @@ pub fn push_label(text: &mut Text, label: &LabelExpr) -> Result<(), OutOfMemory>
 /// Adds label expressions, each behind the sign.
 #[cycle(label_text)]
 fn push_more_labels(text: &mut Text, sign: &str, labels: &[LabelExpr]) -> Result<(), OutOfMemory>
-    ensures { OnOk result (text.new ≡ text.old ++ labels_text sign.now (labels_of (map label_of labels.now))) }
+    ensures { OnOk result (text.new ≡ text.old ++ labels_text sign.now (labels_listed (map label_of labels.now))) }
 {
     for i in 0..labels.len() {
         text.push_str(sign)?;

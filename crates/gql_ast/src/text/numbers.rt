@@ -2,7 +2,7 @@ ghost use Rattle.std.specs.Prelude.{◌≡◌, ◌<◌, ◌^◌, ◌++◌, ◌==
 ghost use Rattle.std.specs.List.{position};
 ghost use Rattle.std.specs.Fmt.{decimal, signed_decimal};
 ghost use Rattle.std.specs.Str.{all_ascii_digits};
-ghost use Rattle.gql_values3.specs.IntegerLiterals.{value_of_digits};
+ghost use Rattle.gql_values3.specs.Integers.{value_of_digits};
 ghost use Rattle.gql_ast.specs.ExprText.{number_text};
 
 use gql_values3::{OutOfMemory, Text};

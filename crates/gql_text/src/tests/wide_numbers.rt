@@ -168,6 +168,7 @@ fn matched(alloc: Global, count: &str, least: &str, most: &str) -> Result<Clause
     Ok(Clause::Match(Match {
         optional: false,
         pattern: GraphPattern {
+            different: false,
             paths: Sequence::from_vec(vec![in alloc; path]?),
             condition: None,
         },
@@ -207,6 +208,7 @@ fn filtered(alloc: Global, inner: &str, outer: &str) -> Result<Clause, OutOfMemo
     Ok(Clause::Match(Match {
         optional: true,
         pattern: GraphPattern {
+            different: false,
             paths: Sequence::from_vec(vec![in alloc; path]?),
             condition: Some(number(alloc, outer)?),
         },

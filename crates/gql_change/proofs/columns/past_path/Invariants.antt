@@ -1,7 +1,7 @@
 use Rattle.std.proofs.Common.{◌≡◌, ◌&&◌, drop}
 use Rattle.std.specs.List.{flat_map}
 use Rattle.gql_ast.specs.InsertColumns.{path_spots, step_spots, spot_columns}
-use Rattle.gql_ast.specs.WrongKinds.{wrong_in_spots}
+use Rattle.gql_ast.specs.Endpoints.{wrong_in_spots}
 use Rattle.gql_change.specs.Changing.{is_empty}
 use Rattle.gql_change.proofs.columns.past_path.Given as goal
 

@@ -1,6 +1,6 @@
 use Rattle.std.proofs.Common.{◌≡◌, ◌&&◌, drop}
 use Rattle.gql_ast.specs.InsertColumns.{insert_spots, spot_columns}
-use Rattle.gql_ast.specs.WrongKinds.{wrong_in_spots}
+use Rattle.gql_ast.specs.Endpoints.{wrong_in_spots}
 use Rattle.gql_change.specs.Changing.{is_empty}
 use Rattle.gql_change.proofs.columns.past_paths.Given as goal
 

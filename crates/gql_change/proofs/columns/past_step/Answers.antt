@@ -2,7 +2,7 @@ use Rattle.std.proofs.Common.{◌∙◌, ◌&&◌, ap}
 use Rattle.gql_values3.specs.declared.table.ColumnKind.TheVariants as kind
 use Rattle.gql_ast.specs.ClauseColumns.{ColumnList}
 use Rattle.gql_ast.specs.InsertColumns.{with_variable}
-use Rattle.gql_ast.specs.WrongKinds.{wrong_endpoint}
+use Rattle.gql_ast.specs.Endpoints.{wrong_endpoint}
 use Rattle.gql_change.specs.Changing.{is_empty}
 use Rattle.gql_change.proofs.EndpointLemmas.{right_step}
 use Rattle.gql_change.proofs.columns.past_step.Goals as goal

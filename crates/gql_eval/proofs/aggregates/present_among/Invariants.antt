@@ -2,7 +2,7 @@ use Rattle.std.proofs.Common.{◌≡◌, map, drop, not, ◌++◌}
 use Rattle.std.specs.Prelude.{filter}
 use Rattle.std.specs.Borrow.{Bor}
 use Rattle.gql_values3.specs.Meaning.{datum_of}
-use Rattle.gql_values3.specs.Nesting.{is_null}
+use Rattle.gql_values3.specs.Datum.{is_null}
 use Rattle.gql_values3.specs.declared.value.Value.{Value}
 use Rattle.gql_eval.proofs.aggregates.present_among.Given as goal
 

@@ -2,7 +2,7 @@ use Rattle.std.proofs.Common.{arith, rules, refl, ◌≡◌, ◌<◌, ◌+◌, �
 use Rattle.gql_values3.specs.Datum.{Datum}
 use Rattle.gql_values3.specs.Meaning.{datum_of}
 use Rattle.gql_ast.specs.Tree.{Trees, Links}
-use Rattle.gql_ast.specs.Operators.{datum_of_truth}
+use Rattle.gql_ast.specs.TruthValues.{datum_of_truth}
 use Rattle.gql_values3.specs.declared.truth.Truth.{Truth}
 use Rattle.gql_values3.specs.declared.truth.Truth.TheVariants as truth
 use Rattle.gql_eval.specs.Gives.{Fails}

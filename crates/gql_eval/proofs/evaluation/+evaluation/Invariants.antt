@@ -2,12 +2,12 @@ use Rattle.std.proofs.Common.{◌≡◌, ◌+◌, ◌*◌, max, map, nat_le, tru
 use Rattle.gql_values3.specs.Datum.{Datum}
 use Rattle.gql_ast.specs.declared.fault.DataFault.{DataFault}
 use Rattle.gql_values3.specs.Nesting.{depth}
-use Rattle.gql_ast.specs.Height.{height_of, highest, highest_link}
+use Rattle.gql_ast.specs.Machinery.Height.{height_of, highest, highest_link}
 use Rattle.gql_ast.specs.Meaning.{tree_of, link_of}
 use Rattle.gql_ast.specs.Scope.{with_item}
 use Rattle.gql_ast.specs.Tree.{trees_of, links_of, coalesce, sum, conjunction, disjunction}
-use Rattle.gql_ast.specs.Operators.{datum_of_truth}
-use Rattle.gql_ast.specs.Evaluation.{value_of, values_of, first_of, chained, all_of, any_of}
+use Rattle.gql_ast.specs.TruthValues.{datum_of_truth}
+use Rattle.gql_ast.specs.Evaluation.{value_of, values_of, first_value, chained, all_of, any_of}
 use Rattle.gql_eval.specs.Held.{held_datum}
 use Rattle.gql_eval.specs.Next.{next}
 use Rattle.gql_eval.specs.ScopeMeaning.{scope_of}
@@ -55,7 +55,7 @@ invariant-values_in-loop-i g l =
 
 abbrev pub invariant-coalesce-loop-i : goal.invariant-coalesce-loop-i
 invariant-coalesce-loop-i g l =
-    first_of (g.V.View.graph l.view) l.params (scope_of l.scope) (parts_from l.rest l.i)
+    first_value (g.V.View.graph l.view) l.params (scope_of l.scope) (parts_from l.rest l.i)
     ≡ value_of (g.V.View.graph l.view) l.params (scope_of l.scope) (coalesce (tree_of l.first) (trees_of (map tree_of l.rest)))
 
 abbrev pub invariant-chain-loop-i : goal.invariant-chain-loop-i

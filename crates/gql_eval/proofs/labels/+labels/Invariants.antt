@@ -1,7 +1,7 @@
 use Rattle.std.proofs.Common.{◌≡◌, map, ◌+◌, ◌*◌}
 use Rattle.gql_values3.specs.Lookup.{labels_of}
 use Rattle.gql_ast.specs.LabelMeaning.{label_of}
-use Rattle.gql_ast.specs.LabelHeight.{label_height_of, highest_label}
+use Rattle.gql_ast.specs.Machinery.LabelHeight.{label_height_of, highest_label}
 use Rattle.gql_eval.proofs.LabelLemmas.{all_from, some_from}
 use Rattle.gql_eval.proofs.labels.+labels.Given as goal
 

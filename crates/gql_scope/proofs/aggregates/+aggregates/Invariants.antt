@@ -2,7 +2,7 @@ use Rattle.std.proofs.Common.{◌≡◌, map, not, ◌+◌, ◌*◌}
 use Rattle.gql_ast.specs.Projections.{has_none}
 use Rattle.gql_ast.specs.RowAggregates.{row_aggregates_of, row_aggregates_in}
 use Rattle.gql_ast.specs.Meaning.{tree_of, link_of}
-use Rattle.gql_ast.specs.Height.{height_of, highest, highest_link}
+use Rattle.gql_ast.specs.Machinery.Height.{height_of, highest, highest_link}
 use Rattle.gql_scope.proofs.PartLemmas.{parts_from, sides_from}
 use Rattle.gql_scope.proofs.aggregates.+aggregates.Given as goal
 

@@ -1,8 +1,8 @@
 use Rattle.std.proofs.Common.{◌<◌, ◌+◌, ◌∷◌, ◌++◌, [], ◌∙◌, ap, sym, length, drop, arith}
-use Rattle.gql_ast.specs.ColumnFaults.{columns_outside, repeated_name, faults_in_list}
+use Rattle.gql_scope.specs.ColumnFaults.{columns_outside, repeated_name, faults_in_list}
 use Rattle.gql_ast.specs.Meaning.{tree_of}
 use Rattle.gql_ast.specs.Outputs.{item_name}
-use Rattle.gql_ast.specs.StaticRefusals.{first_of}
+use Rattle.gql_scope.specs.StaticRefusals.{refusal_of_first}
 use Rattle.gql_ast.specs.declared.refusal.Refusal.TheVariants as refusal
 use Rattle.gql_scope.specs.Seen.{seen_names}
 use Rattle.gql_scope.proofs.RefusalLemmas.{answers_fault, drop_step, stops, goes_on}
@@ -16,11 +16,11 @@ returns-in_err-check_item c =
     let i = c.item-item.result in
     let rest = drop (c.loop-item.item-index + 1) c.args.items.now in
     let below : c.loop-item.item-index < length c.args.items.now = omega arith in
-    let here = first_of refusal.Column (columns_outside s (tree_of i.value) ++ repeated_name s seen (item_name i)) in
-    let behind = first_of refusal.Column (faults_in_list s (item_name i ∷ seen) rest) in
-    let whole = first_of refusal.Column (faults_in_list s [] c.args.items.now) in
+    let here = refusal_of_first refusal.Column (columns_outside s (tree_of i.value) ++ repeated_name s seen (item_name i)) in
+    let behind = refusal_of_first refusal.Column (faults_in_list s (item_name i ∷ seen) rest) in
+    let whole = refusal_of_first refusal.Column (faults_in_list s [] c.args.items.now) in
     let cut = sym c.loop-item.invariant
-    ∙ ap (λ is. first_of refusal.Column (faults_in_list s seen is)) (drop_step c.args.items.now c.loop-item.item-index i below c.item-item.is) ∙ item_step s seen i rest in
+    ∙ ap (λ is. refusal_of_first refusal.Column (faults_in_list s seen is)) (drop_step c.args.items.now c.loop-item.item-index i below c.item-item.is) ∙ item_step s seen i rest in
     answers_fault c.from_residual.result c.in_err-check_item.field-0.0 whole c.from_residual.ensures.0 c.from_residual.ensures.1
     (stops c.in_err-check_item.field-0.0 here behind whole c.in_err-check_item.ensures.faults cut)
 
@@ -31,9 +31,9 @@ loop-item-preserved c =
     let i = c.item-item.result in
     let rest = drop (c.loop-item.item-index + 1) c.args.items.now in
     let below : c.loop-item.item-index < length c.args.items.now = omega arith in
-    let here = first_of refusal.Column (columns_outside s (tree_of i.value) ++ repeated_name s seen (item_name i)) in
-    let behind = first_of refusal.Column (faults_in_list s (item_name i ∷ seen) rest) in
-    let whole = first_of refusal.Column (faults_in_list s [] c.args.items.now) in
+    let here = refusal_of_first refusal.Column (columns_outside s (tree_of i.value) ++ repeated_name s seen (item_name i)) in
+    let behind = refusal_of_first refusal.Column (faults_in_list s (item_name i ∷ seen) rest) in
+    let whole = refusal_of_first refusal.Column (faults_in_list s [] c.args.items.now) in
     let cut = sym c.loop-item.invariant
-    ∙ ap (λ is. first_of refusal.Column (faults_in_list s seen is)) (drop_step c.args.items.now c.loop-item.item-index i below c.item-item.is) ∙ item_step s seen i rest in
-    ap (λ ns. first_of refusal.Column (faults_in_list s ns rest)) c.in_ok-check_item.ensures.noted ∙ sym (goes_on here behind whole c.in_ok-check_item.ensures.faults cut)
+    ∙ ap (λ is. refusal_of_first refusal.Column (faults_in_list s seen is)) (drop_step c.args.items.now c.loop-item.item-index i below c.item-item.is) ∙ item_step s seen i rest in
+    ap (λ ns. refusal_of_first refusal.Column (faults_in_list s ns rest)) c.in_ok-check_item.ensures.noted ∙ sym (goes_on here behind whole c.in_ok-check_item.ensures.faults cut)

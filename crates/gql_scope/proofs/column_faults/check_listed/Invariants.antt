@@ -1,10 +1,10 @@
 use Rattle.std.proofs.Common.{◌≡◌, [], drop}
-use Rattle.gql_ast.specs.ColumnFaults.{faults_in_list}
-use Rattle.gql_ast.specs.StaticRefusals.{first_of}
+use Rattle.gql_scope.specs.ColumnFaults.{faults_in_list}
+use Rattle.gql_scope.specs.StaticRefusals.{refusal_of_first}
 use Rattle.gql_ast.specs.declared.refusal.Refusal.TheVariants as refusal
 use Rattle.gql_scope.specs.Seen.{seen_names}
 use Rattle.gql_scope.proofs.column_faults.check_listed.Given as goal
 
 abbrev pub invariant-loop-item : goal.invariant-loop-item
 invariant-loop-item l =
-    first_of refusal.Column (faults_in_list l.scope (seen_names l.seen) (drop l.item-index l.items)) ≡ first_of refusal.Column (faults_in_list l.scope [] l.items)
+    refusal_of_first refusal.Column (faults_in_list l.scope (seen_names l.seen) (drop l.item-index l.items)) ≡ refusal_of_first refusal.Column (faults_in_list l.scope [] l.items)

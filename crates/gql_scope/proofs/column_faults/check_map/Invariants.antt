@@ -1,6 +1,6 @@
 use Rattle.std.proofs.Common.{◌≡◌, [], map, drop}
-use Rattle.gql_ast.specs.ColumnFaults.{repeated}
-use Rattle.gql_ast.specs.StaticRefusals.{first_of}
+use Rattle.gql_scope.specs.ColumnFaults.{repeated}
+use Rattle.gql_scope.specs.StaticRefusals.{refusal_of_first}
 use Rattle.gql_ast.specs.declared.filler.MapItem.{MapItem}
 use Rattle.gql_ast.specs.declared.refusal.ColumnRef.TheVariants as column
 use Rattle.gql_ast.specs.declared.refusal.Refusal.TheVariants as refusal
@@ -9,5 +9,5 @@ use Rattle.gql_scope.proofs.column_faults.check_map.Given as goal
 
 abbrev pub invariant-loop-item : goal.invariant-loop-item
 invariant-loop-item l =
-    first_of refusal.Column (map column.Property (repeated (seen_names l.seen) (map (λ (i : MapItem). i.name) (drop l.item-index l.items))))
-    ≡ first_of refusal.Column (map column.Property (repeated [] (map (λ (i : MapItem). i.name) l.items)))
+    refusal_of_first refusal.Column (map column.Property (repeated (seen_names l.seen) (map (λ (i : MapItem). i.name) (drop l.item-index l.items))))
+    ≡ refusal_of_first refusal.Column (map column.Property (repeated [] (map (λ (i : MapItem). i.name) l.items)))

@@ -1,7 +1,7 @@
 use Rattle.std.proofs.Common.{◌<◌, ◌+◌, ◌∙◌, ap, sym, length, drop, arith}
 use Rattle.std.specs.List.{list_any}
-use Rattle.gql_ast.specs.Misuses.{misused_expr, elsewhere}
-use Rattle.gql_ast.specs.StaticRefusals.{misuse_if}
+use Rattle.gql_scope.specs.Misuses.{misused_expr, elsewhere}
+use Rattle.gql_scope.specs.StaticRefusals.{misuse_if}
 use Rattle.gql_ast.specs.declared.page.SortItem.{SortItem}
 use Rattle.gql_scope.proofs.RefusalLemmas.{answers_fault, drop_step, stops, misuse_in_two}
 use Rattle.gql_scope.proofs.misused_clauses.check_keys.Goals as goal

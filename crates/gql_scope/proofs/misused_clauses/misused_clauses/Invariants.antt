@@ -1,6 +1,6 @@
 use Rattle.std.proofs.Common.{◌≡◌, [], drop}
-use Rattle.gql_ast.specs.Misuses.{misused_clauses}
-use Rattle.gql_ast.specs.StaticRefusals.{misuse_if}
+use Rattle.gql_scope.specs.Misuses.{misused_clauses}
+use Rattle.gql_scope.specs.StaticRefusals.{misuse_if}
 use Rattle.gql_scope.proofs.misused_clauses.misused_clauses.Given as goal
 
 abbrev pub invariant-loop-clause : goal.invariant-loop-clause

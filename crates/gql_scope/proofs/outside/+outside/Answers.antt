@@ -1,6 +1,6 @@
 use Rattle.std.proofs.Common.{arith, ◌<◌, ◌+◌, ◌∙◌, length, ap, sym}
 use Rattle.std.specs.Option.{option_or}
-use Rattle.gql_ast.specs.ColumnFaults.{names_outside, names_outside_each, names_outside_sides}
+use Rattle.gql_scope.specs.ColumnFaults.{names_outside, names_outside_each, names_outside_sides}
 use Rattle.gql_scope.proofs.FirstLemmas.{first_in_two}
 use Rattle.gql_ast.specs.Meaning.{tree_of, link_of}
 use Rattle.gql_ast.proofs.HeightLemmas.{height_of_le-highest, link_height_of_le-highest_link}

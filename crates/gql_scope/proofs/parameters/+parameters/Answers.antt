@@ -1,6 +1,6 @@
 use Rattle.std.proofs.Common.{arith, ◌<◌, ◌+◌, ◌∙◌, length, ap, sym}
 use Rattle.std.specs.Option.{option_or}
-use Rattle.gql_ast.specs.UnsetParameters.{unset, parameters_in, parameters_in_each, parameters_in_sides}
+use Rattle.gql_scope.specs.UnsetParameters.{unset, parameters_in, parameters_in_each, parameters_in_sides}
 use Rattle.gql_scope.proofs.FirstLemmas.{unset_in_two}
 use Rattle.gql_ast.specs.Meaning.{tree_of, link_of}
 use Rattle.gql_ast.proofs.HeightLemmas.{height_of_le-highest, link_height_of_le-highest_link}

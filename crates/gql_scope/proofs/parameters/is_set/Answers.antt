@@ -1,5 +1,5 @@
 use Rattle.std.proofs.Common.{◌∙◌, ap, is_some}
-use Rattle.gql_ast.specs.UnsetParameters.{is_set}
+use Rattle.gql_scope.specs.UnsetParameters.{is_set}
 use Rattle.gql_scope.proofs.FirstLemmas.{is_some-value}
 use Rattle.gql_scope.proofs.parameters.is_set.Goals as goal
 

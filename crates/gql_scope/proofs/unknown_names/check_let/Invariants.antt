@@ -1,12 +1,12 @@
 use Rattle.std.proofs.Common.{◌≡◌, drop}
 use Rattle.gql_ast.specs.ClauseColumns.{let_columns}
-use Rattle.gql_ast.specs.StaticRefusals.{first_of}
-use Rattle.gql_ast.specs.UnknownNames.{unknown_in_let}
+use Rattle.gql_scope.specs.StaticRefusals.{refusal_of_first}
+use Rattle.gql_scope.specs.UnknownNames.{unknown_in_let}
 use Rattle.gql_ast.specs.declared.refusal.Refusal.TheVariants as refusal
 use Rattle.gql_scope.proofs.unknown_names.check_let.Given as goal
 
 abbrev pub invariant-loop-item : goal.invariant-loop-item
 invariant-loop-item l = record {
-  names : first_of refusal.Variable (unknown_in_let l.scope (drop l.item-index l.items)) ≡ first_of refusal.Variable (unknown_in_let l.initial.scope l.items);
+  names : refusal_of_first refusal.Variable (unknown_in_let l.scope (drop l.item-index l.items)) ≡ refusal_of_first refusal.Variable (unknown_in_let l.initial.scope l.items);
   columns : let_columns l.scope (drop l.item-index l.items) ≡ let_columns l.initial.scope l.items;
 }

@@ -1,9 +1,9 @@
 use Rattle.std.proofs.Common.{◌≡◌, [], drop}
-use Rattle.gql_ast.specs.StaticRefusals.{first_of}
-use Rattle.gql_ast.specs.UnknownNames.{unknown_in_clauses}
+use Rattle.gql_scope.specs.StaticRefusals.{refusal_of_first}
+use Rattle.gql_scope.specs.UnknownNames.{unknown_in_clauses}
 use Rattle.gql_ast.specs.declared.refusal.Refusal.TheVariants as refusal
 use Rattle.gql_scope.proofs.unknown_names.unknown_names.Given as goal
 
 abbrev pub invariant-loop-clause : goal.invariant-loop-clause
 invariant-loop-clause l =
-    first_of refusal.Variable (unknown_in_clauses l.scope (drop l.clause-index l.clauses)) ≡ first_of refusal.Variable (unknown_in_clauses [] l.clauses)
+    refusal_of_first refusal.Variable (unknown_in_clauses l.scope (drop l.clause-index l.clauses)) ≡ refusal_of_first refusal.Variable (unknown_in_clauses [] l.clauses)

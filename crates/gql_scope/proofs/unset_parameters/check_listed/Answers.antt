@@ -1,7 +1,7 @@
 use Rattle.std.proofs.Common.{◌<◌, ◌+◌, ◌∙◌, ap, sym, length, drop, arith}
 use Rattle.std.specs.List.{flat_map}
-use Rattle.gql_ast.specs.StaticRefusals.{first_of}
-use Rattle.gql_ast.specs.UnsetParameters.{unset, parameters_of}
+use Rattle.gql_scope.specs.StaticRefusals.{refusal_of_first}
+use Rattle.gql_scope.specs.UnsetParameters.{unset, parameters_of}
 use Rattle.gql_ast.specs.declared.projection.ReturnItem.{ReturnItem}
 use Rattle.gql_ast.specs.declared.refusal.Refusal.TheVariants as refusal
 use Rattle.gql_scope.proofs.RefusalLemmas.{answers_fault, drop_step, stops, goes_on, unset_of_two}
@@ -14,11 +14,11 @@ returns-in_err-check_expr c =
     let i = c.item-item.result in
     let rest = drop (c.loop-item.item-index + 1) c.args.items.now in
     let below : c.loop-item.item-index < length c.args.items.now = omega arith in
-    let here = first_of refusal.Parameter (unset params (f i)) in
-    let behind = first_of refusal.Parameter (unset params (flat_map f rest)) in
-    let whole = first_of refusal.Parameter (unset params (flat_map f c.args.items.now)) in
+    let here = refusal_of_first refusal.Parameter (unset params (f i)) in
+    let behind = refusal_of_first refusal.Parameter (unset params (flat_map f rest)) in
+    let whole = refusal_of_first refusal.Parameter (unset params (flat_map f c.args.items.now)) in
     let cut = sym c.loop-item.invariant
-    ∙ ap (λ is. first_of refusal.Parameter (unset params (flat_map f is))) (drop_step c.args.items.now c.loop-item.item-index i below c.item-item.is)
+    ∙ ap (λ is. refusal_of_first refusal.Parameter (unset params (flat_map f is))) (drop_step c.args.items.now c.loop-item.item-index i below c.item-item.is)
     ∙ unset_of_two params (f i) (flat_map f rest) in
     answers_fault c.from_residual.result c.in_err-check_expr.field-0.0 whole c.from_residual.ensures.0 c.from_residual.ensures.1
     (stops c.in_err-check_expr.field-0.0 here behind whole c.in_err-check_expr.ensures cut)
@@ -30,10 +30,10 @@ loop-item-preserved c =
     let i = c.item-item.result in
     let rest = drop (c.loop-item.item-index + 1) c.args.items.now in
     let below : c.loop-item.item-index < length c.args.items.now = omega arith in
-    let here = first_of refusal.Parameter (unset params (f i)) in
-    let behind = first_of refusal.Parameter (unset params (flat_map f rest)) in
-    let whole = first_of refusal.Parameter (unset params (flat_map f c.args.items.now)) in
+    let here = refusal_of_first refusal.Parameter (unset params (f i)) in
+    let behind = refusal_of_first refusal.Parameter (unset params (flat_map f rest)) in
+    let whole = refusal_of_first refusal.Parameter (unset params (flat_map f c.args.items.now)) in
     let cut = sym c.loop-item.invariant
-    ∙ ap (λ is. first_of refusal.Parameter (unset params (flat_map f is))) (drop_step c.args.items.now c.loop-item.item-index i below c.item-item.is)
+    ∙ ap (λ is. refusal_of_first refusal.Parameter (unset params (flat_map f is))) (drop_step c.args.items.now c.loop-item.item-index i below c.item-item.is)
     ∙ unset_of_two params (f i) (flat_map f rest) in
     sym (goes_on here behind whole c.in_ok-check_expr.ensures cut)

@@ -1,6 +1,6 @@
 use Rattle.std.proofs.Common.{◌≡◌, map, ◌+◌, ◌*◌}
 use Rattle.gql_ast.specs.Meaning.{tree_of, link_of}
-use Rattle.gql_ast.specs.Height.{height_of, highest, highest_link}
+use Rattle.gql_ast.specs.Machinery.Height.{height_of, highest, highest_link}
 use Rattle.gql_table.proofs.AggregationLemmas.{some_in_parts, some_in_sides}
 use Rattle.gql_table.proofs.aggregation.+aggregation.Given as goal
 

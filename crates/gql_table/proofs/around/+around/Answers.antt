@@ -1,6 +1,6 @@
 use Rattle.std.proofs.Common.{arith, ◌<◌, ◌≤◌, ◌+◌, ◌∙◌, length, ap, sym}
 use Rattle.gql_ast.specs.Tree.{trees_of, links_of}
-use Rattle.gql_ast.specs.Height.{highest, highest_link}
+use Rattle.gql_ast.specs.Machinery.Height.{highest, highest_link}
 use Rattle.gql_ast.specs.RowAggregates.{around_all, around_links}
 use Rattle.gql_eval.proofs.PartLemmas.{height_le-highest, height_lt-highest_link}
 use Rattle.gql_table.proofs.AroundLemmas.{around_parts, around_sides, replaced_part, replaced_side, counted_part, counted_side, replaced_parts, replaced_sides}

@@ -1,6 +1,6 @@
 use Rattle.std.proofs.Common.{◌≡◌, [], ◌+◌, ◌*◌}
 use Rattle.gql_ast.specs.Meaning.{tree_of}
-use Rattle.gql_ast.specs.Height.{height_of, highest, highest_link}
+use Rattle.gql_ast.specs.Machinery.Height.{height_of, highest, highest_link}
 use Rattle.gql_table.proofs.AroundLemmas.{around_parts, around_sides, number_behind_parts, number_behind_sides}
 use Rattle.gql_table.proofs.around.+around.Given as goal
 

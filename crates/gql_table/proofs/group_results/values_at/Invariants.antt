@@ -3,7 +3,7 @@ use Rattle.std.specs.Borrow.{Bor}
 use Rattle.std.specs.Prelude.{slice_index_or, filter}
 use Rattle.gql_values3.specs.Datum.{Datum, null}
 use Rattle.gql_values3.specs.Meaning.{datum_of}
-use Rattle.gql_values3.specs.Nesting.{is_null}
+use Rattle.gql_values3.specs.Datum.{is_null}
 use Rattle.gql_values3.specs.declared.value.Value.{Value}
 use Rattle.gql_table.proofs.group_results.values_at.Given as goal
 

@@ -3,7 +3,7 @@ use Rattle.std.specs.Prelude.{find}
 use Rattle.gql_values3.specs.Datum.{Datum}
 use Rattle.gql_values3.specs.Meaning.{datum_of}
 use Rattle.gql_values3.specs.Texts.{same_text}
-use Rattle.gql_ast.specs.ElementTests.{or_null}
+use Rattle.gql_values3.specs.Datum.{or_null}
 use Rattle.gql_ast.specs.Evaluation.{parameter_value}
 use Rattle.gql_table.specs.Paging.{count_in, count_of}
 use Rattle.gql_table.proofs.paging.row_count.Goals as goal

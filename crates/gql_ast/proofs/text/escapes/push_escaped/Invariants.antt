@@ -1,7 +1,7 @@
 use Rattle.std.proofs.Common.{◌≡◌, ◌++◌, length}
 use Rattle.std.specs.List.{flat_map}
 use Rattle.std.specs.Str.{IsUtf8}
-use Rattle.gql_ast.specs.Escapes.{escaped}
+use Rattle.gql_ast.specs.Machinery.Escapes.{escaped}
 use Rattle.gql_ast.proofs.text.escapes.push_escaped.Given as goal
 
 abbrev pub invariant-loop-cut : goal.invariant-loop-cut

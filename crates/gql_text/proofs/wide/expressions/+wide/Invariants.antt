@@ -1,5 +1,5 @@
 use Rattle.std.proofs.Common.{◌≡◌, ◌+◌, ◌*◌, map}
-use Rattle.gql_ast.specs.Height.{height_of, highest, highest_link}
+use Rattle.gql_ast.specs.Machinery.Height.{height_of, highest, highest_link}
 use Rattle.gql_ast.specs.Meaning.{tree_of, link_of}
 use Rattle.gql_text.proofs.FindLemmas.{found_in_trees, found_in_links}
 use Rattle.gql_text.proofs.wide.expressions.+wide.Given as goal

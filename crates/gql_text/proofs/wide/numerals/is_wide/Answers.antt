@@ -1,5 +1,5 @@
 use Rattle.std.proofs.Common.{◌≡◌, ◌+◌, ◌-◌, ◌*◌, ◌<◌, ◌∙◌, ap, sym, drop, get_or, length, arith}
-use Rattle.gql_values3.specs.IntegerLiterals.{value_of_digits}
+use Rattle.gql_values3.specs.Integers.{value_of_digits}
 use Rattle.gql_text.proofs.DigitLemmas.{behind, step, at_least, wide}
 use Rattle.gql_text.proofs.wide.numerals.is_wide.Goals as goal
 

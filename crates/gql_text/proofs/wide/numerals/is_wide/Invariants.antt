@@ -1,5 +1,5 @@
 use Rattle.std.proofs.Common.{◌≡◌, ◌+◌, ◌*◌, ◌^◌, ◌≤◌, length, drop}
-use Rattle.gql_values3.specs.IntegerLiterals.{value_of_digits}
+use Rattle.gql_values3.specs.Integers.{value_of_digits}
 use Rattle.gql_text.proofs.wide.numerals.is_wide.Given as goal
 
 abbrev pub invariant-loop-digit : goal.invariant-loop-digit

@@ -1,5 +1,5 @@
 use Rattle.std.proofs.Common.{◌≡◌, ◌+◌, ◌*◌, map}
-use Rattle.gql_ast.specs.PatternHeight.{pattern_height_of, highest_pattern}
+use Rattle.gql_ast.specs.Machinery.PatternHeight.{pattern_height_of, highest_pattern}
 use Rattle.gql_ast.specs.PatternMeaning.{pattern_of}
 use Rattle.gql_text.proofs.FindLemmas.{found_in_patterns}
 use Rattle.gql_text.proofs.wide.patterns.+wide_pattern.Given as goal

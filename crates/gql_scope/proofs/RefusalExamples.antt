@@ -9,10 +9,10 @@ use Rattle.ucd_derived.specs.XidContinueRanges.{xid_continue_ranges}
 use Rattle.gql_values3.specs.Names.{reserved_words}
 use Rattle.gql_values3.specs.Datum.{integer}
 use Rattle.gql_values3.specs.declared.table.ColumnKind.TheVariants as kind
-use Rattle.gql_ast.specs.Misuses.{misused, elsewhere, item}
+use Rattle.gql_scope.specs.Misuses.{misused, elsewhere, item}
 use Rattle.gql_ast.specs.ExprText.{expr_text}
 use Rattle.gql_ast.specs.RowAggregates.{row_aggregates}
-use Rattle.gql_ast.specs.StaticRefusals.{static_refusal}
+use Rattle.gql_scope.specs.StaticRefusals.{static_refusal}
 use Rattle.gql_ast.specs.Tree.{Tree, number, name, property, paren, listing, count_all, aggregate, sum, test, end_test, link, links_of, trees_of}
 use Rattle.gql_ast.specs.declared.clause.Clause.{Clause}
 use Rattle.gql_ast.specs.declared.clause.Clause.TheVariants as clause
@@ -63,7 +63,7 @@ plus_count e = expr.Sum e (link operators.Add count_all ∷ [])
 abbrev node : List ℕ → Option Condition → Option Expr → Clause
 node x c w = clause.Match (record {
   optional = false;
-  pattern = record { paths = record { name = None; prefix = None; expr = path.Node (record { variable = Some x; labels = None; condition = c }) } ∷ []; condition = w };
+  pattern = record { different = false; paths = record { name = None; prefix = None; expr = path.Node (record { variable = Some x; labels = None; condition = c }) } ∷ []; condition = w };
 })
 
 abbrev match : List ℕ → Clause

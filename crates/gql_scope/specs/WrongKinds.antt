@@ -6,7 +6,8 @@ use Rattle.gql_values3.specs.declared.table.ColumnKind.{ColumnKind}
 use Rattle.gql_values3.specs.declared.table.ColumnKind.TheVariants as kind
 use Rattle.gql_ast.specs.Outputs.{kind_of_name}
 use Rattle.gql_ast.specs.ClauseColumns.{ColumnList, is_column, node_of_pattern}
-use Rattle.gql_ast.specs.InsertColumns.{Spots, insert_spots, with_variable}
+use Rattle.gql_ast.specs.Endpoints.{wrong_in_spots}
+use Rattle.gql_ast.specs.InsertColumns.{insert_spots}
 use Rattle.gql_ast.specs.Projections.{columns_behind}
 use Rattle.gql_ast.specs.declared.change.ChangeClause.{ChangeClause}
 use Rattle.gql_ast.specs.declared.change.ChangeClause.TheVariants as change
@@ -32,24 +33,11 @@ abbrev pub wrong_in_node : ColumnList → Option Filler → List (List ℕ)
 wrong_in_node columns None = []
 wrong_in_node columns (Some f) = wrong_variable columns f.variable
 
-abbrev pub is_node : ColumnKind → Bool
-is_node kind.Node = true
-is_node _ = false
-
 -- what SET, REMOVE and DELETE act on; a group is no element
 abbrev pub is_element : ColumnKind → Bool
 is_element kind.Node = true
 is_element kind.Edge = true
 is_element _ = false
-
--- an endpoint that stands already is a node
-abbrev pub wrong_endpoint : ColumnList → ColumnKind → Option (List ℕ) → List (List ℕ)
-wrong_endpoint columns kind.Node (Some x) = if is_column columns x && not (is_node (kind_of_name columns x)) then x ∷ [] else []
-wrong_endpoint columns _ _ = []
-
-abbrev pub wrong_in_spots : ColumnList → Spots → List (List ℕ)
-wrong_in_spots columns [] = []
-wrong_in_spots columns (s ∷ ss) = wrong_endpoint columns s.0 s.1.variable ++ wrong_in_spots (with_variable columns s.0 s.1.variable) ss
 
 abbrev pub wrong_target : ColumnList → List ℕ → List (List ℕ)
 wrong_target columns x = if is_column columns x && not (is_element (kind_of_name columns x)) then x ∷ [] else []

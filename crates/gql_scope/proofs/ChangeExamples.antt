@@ -1,9 +1,9 @@
 -- Examples of static refusals of clauses that change data, computed: each was worked out by hand from the rules.
 use Rattle.std.proofs.Common.{◌≡◌, ℕ, false, List, [], ◌∷◌, codes, Option, Some, None, refl}
-use Rattle.gql_ast.specs.Misuses.{misused}
+use Rattle.gql_scope.specs.Misuses.{misused}
 use Rattle.gql_ast.specs.ExprText.{expr_text}
 use Rattle.gql_ast.specs.RowAggregates.{row_aggregates}
-use Rattle.gql_ast.specs.StaticRefusals.{static_refusal}
+use Rattle.gql_scope.specs.StaticRefusals.{static_refusal}
 use Rattle.gql_ast.specs.declared.change.Arrow.TheVariants as arrow
 use Rattle.gql_ast.specs.declared.change.ChangeClause.TheVariants as change
 use Rattle.gql_ast.specs.declared.change.Detachment.TheVariants as detachment
@@ -59,7 +59,7 @@ insert ps = clause.Change (change.Insert ps)
 abbrev match : List ℕ → Clause
 match x = clause.Match (record {
   optional = false;
-  pattern = record { paths = record { name = None; prefix = None; expr = path.Node (record { variable = Some x; labels = None; condition = None }) } ∷ []; condition = None };
+  pattern = record { different = false; paths = record { name = None; prefix = None; expr = path.Node (record { variable = Some x; labels = None; condition = None }) } ∷ []; condition = None };
 })
 
 -- LET x = 1

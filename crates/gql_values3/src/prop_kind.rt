@@ -8,7 +8,7 @@ pub enum Scalar {
 
 /// What a property may hold by its type.
 #[derive(Clone, Copy, Debug, PartialEq, Eq)]
-pub enum PropertyKind {
+pub enum PropKind {
     /// A value.
     One(Scalar),
     /// A list of such values, and NULL among them unless `required`, which NOT NULL behind the item says.

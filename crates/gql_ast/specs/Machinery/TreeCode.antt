@@ -5,8 +5,8 @@ use Rattle.std.proofs.Common.{ap}
 use base.Stored.{Gv, gnil, gnum, gcons}
 use Rattle.gql_values3.specs.Datum.{coded_datum}
 use Rattle.gql_values3.specs.contracts.comparison.Comparison as comparison
-use Rattle.gql_ast.specs.CodeParts.{coded_bytes, head, tail, tag, shape, apart}
-use Rattle.gql_ast.specs.LabelCode.{coded_label}
+use Rattle.gql_ast.specs.Machinery.CodeParts.{coded_bytes, head, tail, tag, shape, apart}
+use Rattle.gql_ast.specs.Machinery.LabelCode.{coded_label}
 use Rattle.gql_ast.specs.Tree.{Tree, Trees, Link, Links, constant, unknown, number, parameter, name, property, paren, listing, count_all, aggregate, call, modulo, coalesce, signed, product, sum, comparing, test, label_test, end_test, negation, conjunction, disjunction, link, no_trees, more_trees, no_links, more_links}
 use Rattle.gql_ast.specs.contracts.words.Aggregate as aggregates
 use Rattle.gql_ast.specs.contracts.words.EdgeEnd as ends

@@ -2,7 +2,7 @@
 use Rattle.std.specs.Prelude.{◌≤◌, List, [], ◌∷◌, map}
 use Rattle.std.proofs.Common.{arith}
 use denote.Param.Weighed.{most}
-use Rattle.gql_ast.specs.PatternHeight.{pattern_height_of, highest_pattern}
+use Rattle.gql_ast.specs.Machinery.PatternHeight.{pattern_height_of, highest_pattern}
 use Rattle.gql_ast.specs.PatternMeaning.{pattern_of}
 use Rattle.gql_ast.specs.declared.pattern.PathExpr.{PathExpr}
 use Rattle.gql_ast.specs.declared.pattern.PathExpr.TheVariants as path

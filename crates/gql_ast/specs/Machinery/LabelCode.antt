@@ -3,7 +3,7 @@ use Rattle.std.specs.Prelude.{◌≡◌, refl}
 use Rattle.std.specs.Coded.{Coded}
 use Rattle.std.proofs.Common.{ap}
 use base.Stored.{Gv, gnil, gnum, gcons}
-use Rattle.gql_ast.specs.CodeParts.{coded_bytes, head, tail, tag, shape, apart}
+use Rattle.gql_ast.specs.Machinery.CodeParts.{coded_bytes, head, tail, tag, shape, apart}
 use Rattle.gql_ast.specs.Label.{Label, Labels, name, wildcard, paren, negation, conjunction, disjunction, no_labels, more_labels}
 
 abbrev mutual

@@ -1,6 +1,6 @@
 -- How high a label expression is: one more than its highest part.
 use Rattle.std.specs.Prelude.{ℕ, ◌+◌, max, List}
-use Rattle.gql_ast.specs.Label.{Label, Labels, labels_of, name, wildcard, paren, negation, conjunction, disjunction, no_labels, more_labels}
+use Rattle.gql_ast.specs.Label.{Label, Labels, labels_listed, name, wildcard, paren, negation, conjunction, disjunction, no_labels, more_labels}
 
 abbrev mutual
   pub label_height_of : Label → ℕ
@@ -18,4 +18,4 @@ abbrev mutual
 
 -- the same of a list
 abbrev pub highest_label : List Label → ℕ
-highest_label es = labels_height_of (labels_of es)
+highest_label es = labels_height_of (labels_listed es)

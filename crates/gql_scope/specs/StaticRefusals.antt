@@ -5,11 +5,11 @@ use Rattle.std.specs.List.{flat_map}
 use Rattle.std.specs.Option.{option_or}
 use Rattle.gql_values3.specs.Datum.{Datum}
 use Rattle.gql_ast.specs.Meaning.{tree_of}
-use Rattle.gql_ast.specs.UnknownNames.{unknown_in, unknown_in_clauses}
-use Rattle.gql_ast.specs.WrongKinds.{wrong_in_clauses}
-use Rattle.gql_ast.specs.Misuses.{misused, misused_clauses, elsewhere}
-use Rattle.gql_ast.specs.ColumnFaults.{faults_in_clauses}
-use Rattle.gql_ast.specs.UnsetParameters.{parameters_in, parameters_of_clause, unset}
+use Rattle.gql_scope.specs.UnknownNames.{unknown_in, unknown_in_clauses}
+use Rattle.gql_scope.specs.WrongKinds.{wrong_in_clauses}
+use Rattle.gql_scope.specs.Misuses.{misused, misused_clauses, elsewhere}
+use Rattle.gql_scope.specs.ColumnFaults.{faults_in_clauses}
+use Rattle.gql_scope.specs.UnsetParameters.{parameters_in, parameters_of_clause, unset}
 use Rattle.gql_ast.specs.declared.clause.Clause.{Clause}
 use Rattle.gql_ast.specs.declared.refusal.ColumnRef.{ColumnRef}
 use Rattle.gql_ast.specs.declared.refusal.Refusal.{Refusal}
@@ -20,9 +20,9 @@ use Rattle.gql_ast.specs.declared.statement.Statement.{Statement}
 use Rattle.gql_ast.specs.declared.statement.Statement.TheVariants as statement
 
 -- the refusal of the first of what is at fault
-abbrev pub first_of : {A : Type 0} → (A → Refusal) → List A → Option Refusal
-first_of refuse [] = None
-first_of refuse (x ∷ xs) = Some (refuse x)
+abbrev pub refusal_of_first : {A : Type 0} → (A → Refusal) → List A → Option Refusal
+refusal_of_first refuse [] = None
+refusal_of_first refuse (x ∷ xs) = Some (refuse x)
 
 abbrev pub misuse_if : Bool → Option Refusal
 misuse_if true = Some refusal.Misuse
@@ -31,10 +31,10 @@ misuse_if false = None
 -- the first in the order of the codes
 abbrev pub first_by_code : List (List ℕ) → List (List ℕ) → Bool → List ColumnRef → List (List ℕ) → Option Refusal
 first_by_code unknown kinds misuse columns parameters =
-    option_or (first_of refusal.Variable unknown)
-    (option_or (first_of refusal.Kind kinds)
+    option_or (refusal_of_first refusal.Variable unknown)
+    (option_or (refusal_of_first refusal.Kind kinds)
     (option_or (misuse_if misuse)
-    (option_or (first_of refusal.Column columns) (first_of refusal.Parameter parameters))))
+    (option_or (refusal_of_first refusal.Column columns) (refusal_of_first refusal.Parameter parameters))))
 
 module _ (params : List (List ℕ × Datum)) where
   -- of a query, which begins without columns

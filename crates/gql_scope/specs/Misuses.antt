@@ -48,18 +48,18 @@ abbrev pub bars_aggregates : Place → Bool
 bars_aggregates within = true
 bars_aggregates _ = false
 
-abbrev pub is_group : ColumnList → List ℕ → Bool
-is_group columns x = holds_group (kind_of_name columns x)
+abbrev pub is_group_column : ColumnList → List ℕ → Bool
+is_group_column columns x = holds_group (kind_of_name columns x)
 
 -- a bare variable that is a group, also in parentheses
 abbrev pub is_bare_group : ColumnList → Tree → Bool
-is_bare_group columns (name x) = is_group columns x
+is_bare_group columns (name x) = is_group_column columns x
 is_bare_group columns (paren e) = is_bare_group columns e
 is_bare_group columns _ = false
 
 -- the groups that an argument names
 abbrev pub groups_in : ColumnList → Tree → List (List ℕ)
-groups_in columns e = filter (is_group columns) (names_in e)
+groups_in columns e = filter (is_group_column columns) (names_in e)
 
 -- two of them differ
 abbrev pub are_two : List (List ℕ) → Bool
@@ -84,7 +84,7 @@ unfoldable mutual
   misused columns p (number n) = false
   misused columns p (parameter x) = false
   misused columns p (name x) = false
-  misused columns p (property x k) = is_group columns x
+  misused columns p (property x k) = is_group_column columns x
   misused columns p (paren e) = misused columns p e
   misused columns p (listing es) = misused_any columns p es
   misused columns p count_all = bars_rows p
@@ -99,7 +99,7 @@ unfoldable mutual
   misused columns p (comparing op a b) = misused columns p a || misused columns p b
   misused columns p (test e s q) = is_bare_group columns e || misused columns p e
   misused columns p (label_test e s l) = is_bare_group columns e || misused columns p e
-  misused columns p (end_test e s which x) = is_bare_group columns e || is_group columns x || misused columns p e
+  misused columns p (end_test e s which x) = is_bare_group columns e || is_group_column columns x || misused columns p e
   misused columns p (negation e) = misused columns p e
   misused columns p (conjunction e ls) = misused columns p e || misused_side columns p ls
   misused columns p (disjunction e ls) = misused columns p e || misused_side columns p ls

@@ -2,7 +2,7 @@
 use Rattle.std.specs.Prelude.{◌≤◌, List, [], ◌∷◌, map}
 use Rattle.std.proofs.Common.{arith}
 use denote.Param.Weighed.{most}
-use Rattle.gql_ast.specs.LabelHeight.{label_height_of, highest_label}
+use Rattle.gql_ast.specs.Machinery.LabelHeight.{label_height_of, highest_label}
 use Rattle.gql_ast.specs.LabelMeaning.{label_of}
 use Rattle.gql_ast.specs.declared.label.LabelExpr.{LabelExpr}
 use Rattle.gql_ast.specs.declared.label.LabelExpr.TheVariants as label

@@ -3,11 +3,11 @@ use Rattle.std.specs.Prelude.{◌≡◌, ℕ, List, Option, refl}
 use Rattle.std.specs.Coded.{Coded, code_by, coded×, coded_list, coded_option}
 use Rattle.std.proofs.Common.{ap}
 use base.Stored.{Gv, gnil, gnum, gcons}
-use Rattle.gql_ast.specs.CodeParts.{coded_bytes, head, tail, tag, shape, apart}
+use Rattle.gql_ast.specs.Machinery.CodeParts.{coded_bytes, head, tail, tag, shape, apart}
 use Rattle.gql_ast.specs.Label.{Label}
-use Rattle.gql_ast.specs.LabelCode.{coded_label}
+use Rattle.gql_ast.specs.Machinery.LabelCode.{coded_label}
 use Rattle.gql_ast.specs.Tree.{Tree}
-use Rattle.gql_ast.specs.TreeCode.{coded_tree}
+use Rattle.gql_ast.specs.Machinery.TreeCode.{coded_tree}
 use Rattle.gql_ast.specs.Filler.{ConditionTree, FillerTree, properties, holds}
 use Rattle.gql_ast.specs.Pattern.{Pattern, Patterns, node, edge, paren, repeated, optional, sequence, alternation, multiset_alternation, no_patterns, more_patterns}
 use Rattle.gql_ast.specs.declared.mode.Mode.{Mode}

@@ -1,0 +1,4 @@
+-- What mirrors the code for its proofs; a reader of the promises may skip it.
+pub mod WordSlots
+pub mod Stored
+pub mod Falls
