@@ -1,18 +1,15 @@
 //! The columns behind each clause.
 
 ghost use Rattle.std.specs.Prelude.{◌≡◌, [], ◌∷◌, ◌++◌, OnOk};
-ghost use Rattle.std.specs.Option.{option_copied};
 ghost use Rattle.gql_ast.specs.Meaning.{tree_of};
 ghost use Rattle.gql_ast.specs.Outputs.{kind_of, element_kind};
-ghost use Rattle.gql_ast.specs.ClauseColumns.{let_columns, counter_column, for_columns, node_of_pattern, node_among, with_node, match_columns};
+ghost use Rattle.gql_ast.specs.ClauseColumns.{let_columns, counter_column, for_columns, with_node, match_columns};
 ghost use Rattle.gql_ast.specs.Projections.{columns_behind, output_columns};
 
 use crate::columns::KnownColumns;
 use crate::insert_columns::push_change;
 use crate::outputs::output_scope;
-use gql_ast::{
-    Clause, Counting, Expr, Filler, For, GraphPattern, LetItem, PathExpr, PathPattern, ReturnItems,
-};
+use gql_ast::{Clause, Counting, Expr, For, GraphPattern, LetItem, ReturnItems, node_of_pattern};
 use gql_values3::{ColumnKind, OutOfMemory, Text};
 use std::alloc::Global;
 
@@ -50,7 +47,11 @@ pub fn push_copy(
 }
 
 /// Adds the column of an item of LET.
-pub fn push_let_item(alloc: Global, scope: &mut KnownColumns, item: &LetItem) -> Result<(), OutOfMemory>
+pub fn push_let_item(
+    alloc: Global,
+    scope: &mut KnownColumns,
+    item: &LetItem,
+) -> Result<(), OutOfMemory>
     ensures { OnOk result (scope.new ≡ scope.old ++ (item.now.name, kind_of scope.old (tree_of item.now.value)) ∷ []) }
 {
     let kind = kind_of(scope, &item.value);
@@ -58,7 +59,11 @@ pub fn push_let_item(alloc: Global, scope: &mut KnownColumns, item: &LetItem) ->
 }
 
 /// Adds the columns of LET.
-pub fn push_let(alloc: Global, scope: &mut KnownColumns, items: &[LetItem]) -> Result<(), OutOfMemory>
+pub fn push_let(
+    alloc: Global,
+    scope: &mut KnownColumns,
+    items: &[LetItem],
+) -> Result<(), OutOfMemory>
     ensures { OnOk result (scope.new ≡ let_columns scope.old items.now) }
 {
     for item in items {
@@ -68,7 +73,11 @@ pub fn push_let(alloc: Global, scope: &mut KnownColumns, items: &[LetItem]) -> R
 }
 
 /// Adds the column of the item of FOR.
-pub fn push_for_item(alloc: Global, scope: &mut KnownColumns, clause: &For) -> Result<(), OutOfMemory>
+pub fn push_for_item(
+    alloc: Global,
+    scope: &mut KnownColumns,
+    clause: &For,
+) -> Result<(), OutOfMemory>
     ensures { OnOk result (scope.new ≡ scope.old ++ (clause.now.name, element_kind (kind_of scope.old (tree_of clause.now.list))) ∷ []) }
 {
     let kind = element_kind(kind_of(scope, &clause.list));
@@ -97,28 +106,6 @@ pub fn push_for(alloc: Global, scope: &mut KnownColumns, clause: &For) -> Result
     push_counter(alloc, scope, &clause.counter)
 }
 
-/// The node of a pattern that is one node alone, without a name and a prefix.
-pub fn node_of(pattern: &GraphPattern) -> Option<&Filler>
-    ensures { option_copied result ≡ node_of_pattern pattern.now }
-{
-    node_among(pattern.paths.as_slice())
-}
-
-fn node_among(paths: &[PathPattern]) -> Option<&Filler>
-    ensures { option_copied result ≡ node_among paths.now }
-{
-    match paths {
-        [
-            PathPattern {
-                name: None,
-                prefix: None,
-                expr: PathExpr::Node(filler),
-            },
-        ] => Some(filler),
-        _ => None,
-    }
-}
-
 /// Adds the column of a node's variable, where that is no column yet.
 pub fn push_node(
     alloc: Global,
@@ -141,7 +128,7 @@ pub fn push_pattern(
 ) -> Result<(), OutOfMemory>
     ensures { OnOk result (scope.new ≡ match_columns scope.old pattern.now) }
 {
-    match node_of(pattern) {
+    match node_of_pattern(pattern) {
         Some(filler) => push_node(alloc, scope, &filler.variable),
         None => Ok(()),
     }

@@ -103,7 +103,11 @@ fn check_set(alloc: Global, scope: &KnownColumns, items: &[SetItem]) -> Result<(
 }
 
 /// Checks the target of an item of REMOVE.
-fn check_remove_item(alloc: Global, scope: &KnownColumns, item: &RemoveItem) -> Result<(), ScopeFault>
+fn check_remove_item(
+    alloc: Global,
+    scope: &KnownColumns,
+    item: &RemoveItem,
+) -> Result<(), ScopeFault>
     ensures { Gives result (refusal_of_first Refusal.Kind (wrong_target scope.now (remove_target item.now))) }
 {
     match item {
@@ -136,7 +140,11 @@ fn check_delete(alloc: Global, scope: &KnownColumns, names: &[Text]) -> Result<(
 }
 
 /// Checks the kinds of a clause that changes data.
-pub fn check_change(alloc: Global, scope: &KnownColumns, change: &ChangeClause) -> Result<(), ScopeFault>
+pub fn check_change(
+    alloc: Global,
+    scope: &KnownColumns,
+    change: &ChangeClause,
+) -> Result<(), ScopeFault>
     ensures { Gives result (refusal_of_first Refusal.Kind (wrong_in_change scope.now change.now)) }
 {
     match change {

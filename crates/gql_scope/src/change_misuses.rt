@@ -43,7 +43,11 @@ fn check_set(scope: &KnownColumns, items: &[SetItem]) -> Result<(), ScopeFault>
 }
 
 /// Checks the expressions of a clause that changes data.
-pub fn check_change(alloc: Global, scope: &KnownColumns, change: &ChangeClause) -> Result<(), ScopeFault>
+pub fn check_change(
+    alloc: Global,
+    scope: &KnownColumns,
+    change: &ChangeClause,
+) -> Result<(), ScopeFault>
     ensures { Gives result (misuse_if (misused_change scope.now change.now)) }
 {
     match change {

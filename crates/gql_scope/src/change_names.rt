@@ -123,7 +123,11 @@ fn check_set(alloc: Global, scope: &KnownColumns, items: &[SetItem]) -> Result<(
 }
 
 /// Checks the name of an item of REMOVE.
-fn check_remove_item(alloc: Global, scope: &KnownColumns, item: &RemoveItem) -> Result<(), ScopeFault>
+fn check_remove_item(
+    alloc: Global,
+    scope: &KnownColumns,
+    item: &RemoveItem,
+) -> Result<(), ScopeFault>
     ensures { Gives result (refusal_of_first Refusal.Variable (unknown_in_remove scope.now item.now)) }
 {
     match item {
@@ -156,7 +160,11 @@ fn check_delete(alloc: Global, scope: &KnownColumns, names: &[Text]) -> Result<(
 }
 
 /// Checks the names of a clause that changes data.
-pub fn check_change(alloc: Global, scope: &KnownColumns, change: &ChangeClause) -> Result<(), ScopeFault>
+pub fn check_change(
+    alloc: Global,
+    scope: &KnownColumns,
+    change: &ChangeClause,
+) -> Result<(), ScopeFault>
     ensures { Gives result (refusal_of_first Refusal.Variable (unknown_in_change scope.now change.now)) }
 {
     match change {

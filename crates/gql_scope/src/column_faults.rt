@@ -12,7 +12,7 @@ ghost use Rattle.gql_scope.specs.Gives.{Gives, Fails};
 ghost use Rattle.gql_scope.specs.Machinery.Seen.{seen_names};
 
 use crate::aggregates::has_aggregate;
-use crate::behind::{node_of, push_copy, step};
+use crate::behind::{push_copy, step};
 use crate::change_maps::check_change;
 use crate::columns::KnownColumns;
 use crate::fault::ScopeFault;
@@ -21,6 +21,7 @@ use crate::outputs::text_name;
 use crate::outside::name_outside;
 use gql_ast::{
     Clause, ColumnRef, Condition, Expr, Filler, MapItem, Refusal, Return, ReturnItem, ReturnItems,
+    node_of_pattern,
 };
 use gql_values3::{ColumnKind, Text};
 use std::alloc::Global;
@@ -201,7 +202,7 @@ fn check_clause(alloc: Global, scope: &KnownColumns, clause: &Clause) -> Result<
     ensures { Gives result (refusal_of_first Refusal.Column (faults_in_clause scope.now clause.now)) }
 {
     match clause {
-        Clause::Match(m) => check_node(alloc, node_of(&m.pattern)),
+        Clause::Match(m) => check_node(alloc, node_of_pattern(&m.pattern)),
         Clause::Change(change) => check_change(alloc, change),
         Clause::Return(clause) => check_return(alloc, scope, clause),
         _ => Ok(()),

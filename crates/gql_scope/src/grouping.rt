@@ -54,7 +54,11 @@ fn push_keys(
 }
 
 /// The output names of the keys.
-fn key_scope(alloc: Global, scope: &KnownColumns, items: &ReturnItems) -> Result<KnownColumns, OutOfMemory>
+fn key_scope(
+    alloc: Global,
+    scope: &KnownColumns,
+    items: &ReturnItems,
+) -> Result<KnownColumns, OutOfMemory>
     ensures { IfOk result (λ keys. names_of keys ≡ key_names scope.now items.now) }
 {
     let mut keys = KnownColumns::new(alloc);
@@ -79,7 +83,12 @@ fn name_scope(alloc: Global, names: &[Text]) -> Result<KnownColumns, OutOfMemory
 
 /// Checks that a name of GROUP BY is a key that was not seen before, and notes it.
 #[tactic(auto, using(crate::proofs::SeenLemmas::seen))]
-fn check_name(alloc: Global, keys: &KnownColumns, seen: &mut KnownColumns, name: &Text) -> Result<(), ScopeFault>
+fn check_name(
+    alloc: Global,
+    keys: &KnownColumns,
+    seen: &mut KnownColumns,
+    name: &Text,
+) -> Result<(), ScopeFault>
     ensures key { Gives result (refusal_of_first refusal.Column (if is_among (names_of keys.now) name.now && not (is_among (seen_names seen.old) name.now) then [] else column.Name name.now ∷ [])) }
     ensures noted { OnOk result (seen_names seen.new ≡ name.now ∷ seen_names seen.old) }
 {
@@ -91,7 +100,12 @@ fn check_name(alloc: Global, keys: &KnownColumns, seen: &mut KnownColumns, name:
 
 /// Checks the names of GROUP BY in order.
 #[tactic(auto, using(crate::proofs::SeenLemmas::name_step))]
-fn check_names(alloc: Global, scope: &KnownColumns, keys: &KnownColumns, names: &[Text]) -> Result<(), ScopeFault>
+fn check_names(
+    alloc: Global,
+    scope: &KnownColumns,
+    keys: &KnownColumns,
+    names: &[Text],
+) -> Result<(), ScopeFault>
     ensures { Gives result (refusal_of_first refusal.Column (faults_in_names scope.now (names_of keys.now) [] names.now)) }
 {
     let mut seen = KnownColumns::new(alloc);
@@ -130,7 +144,12 @@ fn check_omitted(
 
 /// Checks the names of GROUP BY against the keys.
 #[tactic(auto, using(crate::proofs::RefusalLemmas::first_of_in_two))]
-fn check_keys(alloc: Global, scope: &KnownColumns, keys: &KnownColumns, names: &[Text]) -> Result<(), ScopeFault>
+fn check_keys(
+    alloc: Global,
+    scope: &KnownColumns,
+    keys: &KnownColumns,
+    names: &[Text],
+) -> Result<(), ScopeFault>
     ensures { Gives result (refusal_of_first refusal.Column (faults_in_names scope.now (names_of keys.now) [] names.now ++ omitted scope.now (names_of keys.now) names.now)) }
 {
     check_names(alloc, scope, keys, names)?;
@@ -139,7 +158,11 @@ fn check_keys(alloc: Global, scope: &KnownColumns, keys: &KnownColumns, names: &
 }
 
 /// Checks GROUP BY, where it stands.
-pub fn check_grouping(alloc: Global, scope: &KnownColumns, clause: &Return) -> Result<(), ScopeFault>
+pub fn check_grouping(
+    alloc: Global,
+    scope: &KnownColumns,
+    clause: &Return,
+) -> Result<(), ScopeFault>
     ensures { Gives result (refusal_of_first refusal.Column (faults_in_grouping scope.now (key_names scope.now clause.now.items) clause.now.grouping)) }
 {
     match &clause.grouping {

@@ -35,7 +35,11 @@ fn push_step(alloc: Global, scope: &mut KnownColumns, step: &InsertStep) -> Resu
 
 /// Adds the columns of a path's steps.
 #[tactic(auto, using(crate::proofs::SpotLemmas::columns_of_two))]
-fn push_steps(alloc: Global, scope: &mut KnownColumns, steps: &[InsertStep]) -> Result<(), OutOfMemory>
+fn push_steps(
+    alloc: Global,
+    scope: &mut KnownColumns,
+    steps: &[InsertStep],
+) -> Result<(), OutOfMemory>
     ensures { OnOk result (scope.new ≡ spot_columns scope.old (flat_map step_spots steps.now)) }
 {
     for step in steps {
@@ -54,7 +58,11 @@ fn push_path(alloc: Global, scope: &mut KnownColumns, path: &InsertPath) -> Resu
 
 /// Adds the columns of INSERT.
 #[tactic(auto, using(crate::proofs::SpotLemmas::columns_of_two))]
-fn push_paths(alloc: Global, scope: &mut KnownColumns, paths: &[InsertPath]) -> Result<(), OutOfMemory>
+fn push_paths(
+    alloc: Global,
+    scope: &mut KnownColumns,
+    paths: &[InsertPath],
+) -> Result<(), OutOfMemory>
     ensures { OnOk result (scope.new ≡ spot_columns scope.old (insert_spots paths.now)) }
 {
     for path in paths {

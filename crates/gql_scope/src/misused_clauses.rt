@@ -13,7 +13,7 @@ ghost use Rattle.gql_scope.specs.StaticRefusals.{misuse_if};
 ghost use Rattle.gql_scope.specs.Gives.{Gives};
 ghost use Rattle.gql_scope.specs.Machinery.Places.{place_of, columns_at};
 
-use crate::behind::{keep_outputs, node_of, push_for, push_let_item, push_node};
+use crate::behind::{keep_outputs, push_for, push_let_item, push_node};
 use crate::change_misuses::check_change;
 use crate::columns::KnownColumns;
 use crate::fault::ScopeFault;
@@ -22,7 +22,7 @@ use crate::misuses::{Place, is_misused};
 use crate::outputs::sort_scope;
 use gql_ast::{
     ChangeClause, Clause, Condition, Expr, Filler, For, GraphPattern, LetItem, MapItem, Page,
-    Refusal, Return, ReturnItem, ReturnItems, SortItem,
+    Refusal, Return, ReturnItem, ReturnItems, SortItem, node_of_pattern,
 };
 use std::alloc::Global;
 
@@ -76,7 +76,11 @@ fn check_condition(scope: &KnownColumns, condition: &Option<Condition>) -> Resul
 }
 
 /// Checks a node, and adds its variable.
-fn check_node(alloc: Global, scope: &mut KnownColumns, node: Option<&Filler>) -> Result<(), ScopeFault>
+fn check_node(
+    alloc: Global,
+    scope: &mut KnownColumns,
+    node: Option<&Filler>,
+) -> Result<(), ScopeFault>
     ensures misuses { Gives result (misuse_if (misused_node scope.old (option_copied node.entry))) }
     ensures columns { OnOk result (scope.new ≡ with_filler scope.old (option_copied node.entry)) }
 {
@@ -91,11 +95,15 @@ fn check_node(alloc: Global, scope: &mut KnownColumns, node: Option<&Filler>) ->
 
 /// Checks a pattern, and adds its variables.
 #[tactic(auto, using(crate::proofs::RefusalLemmas::misuse_in_two))]
-fn check_pattern(alloc: Global, scope: &mut KnownColumns, pattern: &GraphPattern) -> Result<(), ScopeFault>
+fn check_pattern(
+    alloc: Global,
+    scope: &mut KnownColumns,
+    pattern: &GraphPattern,
+) -> Result<(), ScopeFault>
     ensures misuses { Gives result (misuse_if (misused_pattern scope.old pattern.now)) }
     ensures columns { OnOk result (scope.new ≡ match_columns scope.old pattern.now) }
 {
-    check_node(alloc, scope, node_of(pattern))?;
+    check_node(alloc, scope, node_of_pattern(pattern))?;
     check_if(scope, &pattern.condition)
 }
 
@@ -198,7 +206,11 @@ fn check_return(alloc: Global, scope: &mut KnownColumns, clause: &Return) -> Res
 }
 
 /// Checks a clause that changes data, and adds its columns.
-fn pass_change(alloc: Global, scope: &mut KnownColumns, change: &ChangeClause) -> Result<(), ScopeFault>
+fn pass_change(
+    alloc: Global,
+    scope: &mut KnownColumns,
+    change: &ChangeClause,
+) -> Result<(), ScopeFault>
     ensures misuses { Gives result (misuse_if (misused_change scope.old change.now)) }
     ensures columns { OnOk result (scope.new ≡ change_columns scope.old change.now) }
 {

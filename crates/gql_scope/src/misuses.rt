@@ -26,7 +26,7 @@ pub enum Place<'a> {
 
 /// Whether something in the expression is misused.
 #[cycle(misuses)]
-#[tactic(auto, unfolding(gql_ast::specs::Misuses::misused))]
+#[tactic(auto, unfolding(crate::specs::Misuses::misused))]
 pub fn is_misused(scope: &KnownColumns, place: &Place, expr: &Expr) -> bool
     ensures { result ≡ misused (columns_at scope.now place.now) (place_of place.now) (tree_of expr.now) }
 {
@@ -94,7 +94,7 @@ fn is_bare_group(scope: &KnownColumns, place: &Place, expr: &Expr) -> bool
 
 /// Whether an aggregate of the argument is misused.
 #[cycle(misuses)]
-#[tactic(auto, unfolding(gql_ast::specs::Misuses::misused))]
+#[tactic(auto, unfolding(crate::specs::Misuses::misused))]
 fn aggregate_is_misused(scope: &KnownColumns, place: &Place, argument: &Expr) -> bool
     ensures { result ≡ aggregate_misused (columns_at scope.now place.now) (place_of place.now) (tree_of argument.now) }
 {
@@ -129,7 +129,7 @@ fn names_other_group(scope: &KnownColumns, group: &Text, expr: &Expr) -> bool
 }
 
 #[cycle(misuses)]
-#[tactic(auto, unfolding(gql_ast::specs::Misuses::misused))]
+#[tactic(auto, unfolding(crate::specs::Misuses::misused))]
 fn any_is_misused(scope: &KnownColumns, place: &Place, parts: &[Expr]) -> bool
     ensures { result ≡ misused_any (columns_at scope.now place.now) (place_of place.now) (trees_of (map tree_of parts.now)) }
 {
@@ -143,7 +143,7 @@ fn any_is_misused(scope: &KnownColumns, place: &Place, parts: &[Expr]) -> bool
 }
 
 #[cycle(misuses)]
-#[tactic(auto, unfolding(gql_ast::specs::Misuses::misused))]
+#[tactic(auto, unfolding(crate::specs::Misuses::misused))]
 fn side_is_misused(scope: &KnownColumns, place: &Place, steps: &[Step]) -> bool
     ensures { result ≡ misused_side (columns_at scope.now place.now) (place_of place.now) (links_of (map link_of steps.now)) }
 {

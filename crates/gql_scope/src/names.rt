@@ -83,7 +83,8 @@ fn is_sought(scope: &KnownColumns, sought: &Sought, name: &Text) -> bool
         Sought::Any => true,
         Sought::Unknown => !scope.contains(name),
         Sought::Group => is_group_column(scope, name),
-        Sought::OtherGroup(group) => is_group_column(scope, name) && group.as_str() != name.as_str(),
+        Sought::OtherGroup(group) => is_group_column(scope, name)
+            && group.as_str() != name.as_str(),
     }
 }
 

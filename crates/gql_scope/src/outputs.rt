@@ -9,8 +9,7 @@ ghost use Rattle.gql_ast.specs.Projections.{output_columns, output_trees, is_key
 use crate::aggregates::has_aggregate;
 use crate::behind::{kind_of, push_copy};
 use crate::columns::KnownColumns;
-use gql_ast::expr_text;
-use gql_ast::{Expr, Return, ReturnItem, ReturnItems, SetQuantifier};
+use gql_ast::{Expr, Return, ReturnItem, ReturnItems, SetQuantifier, expr_text};
 use gql_values3::{ColumnKind, OutOfMemory, Text};
 use std::alloc::Global;
 
@@ -76,7 +75,11 @@ pub fn push_columns(
 }
 
 /// The columns that RETURN gives.
-pub fn output_scope(alloc: Global, scope: &KnownColumns, items: &ReturnItems) -> Result<KnownColumns, OutOfMemory>
+pub fn output_scope(
+    alloc: Global,
+    scope: &KnownColumns,
+    items: &ReturnItems,
+) -> Result<KnownColumns, OutOfMemory>
     ensures { IfOk result (λ outputs. outputs ≡ output_columns scope.now items.now) }
 {
     let mut outputs = KnownColumns::new(alloc);
@@ -116,7 +119,11 @@ pub fn is_grouped(scope: &KnownColumns, clause: &Return) -> bool
 }
 
 /// The columns that sort keys of RETURN see.
-pub fn sort_scope(alloc: Global, scope: &KnownColumns, clause: &Return) -> Result<KnownColumns, OutOfMemory>
+pub fn sort_scope(
+    alloc: Global,
+    scope: &KnownColumns,
+    clause: &Return,
+) -> Result<KnownColumns, OutOfMemory>
     ensures { IfOk result (λ keys. keys ≡ sort_columns scope.now clause.now) }
 {
     let mut keys = output_scope(alloc, scope, &clause.items)?;

@@ -12,7 +12,7 @@ ghost use Rattle.gql_scope.specs.StaticRefusals.{refusal_of_first};
 ghost use Rattle.gql_scope.specs.UnknownNames.{unknown_in_expr, unknown_if, taken, unknown_in_condition, unknown_in_node, unknown_in_pattern, unknown_in_let, unknown_in_counter, unknown_in_for, unknown_in_keys, unknown_in_order, unknown_in_page, unknown_in_items, unknown_in_return, unknown_in_change, unknown_in_clause, unknown_in_clauses};
 ghost use Rattle.gql_scope.specs.Gives.{Gives};
 
-use crate::behind::{keep_outputs, node_of, push_counter, push_for_item, push_let_item, push_node};
+use crate::behind::{keep_outputs, push_counter, push_for_item, push_let_item, push_node};
 use crate::change_names::check_change;
 use crate::columns::KnownColumns;
 use crate::fault::ScopeFault;
@@ -21,7 +21,7 @@ use crate::names::{Sought, first_name};
 use crate::outputs::sort_scope;
 use gql_ast::{
     ChangeClause, Clause, Condition, Counting, Expr, Filler, For, GraphPattern, LetItem, MapItem,
-    Page, Refusal, Return, ReturnItem, ReturnItems, SortItem,
+    Page, Refusal, Return, ReturnItem, ReturnItems, SortItem, node_of_pattern,
 };
 use gql_values3::Text;
 use std::alloc::Global;
@@ -83,7 +83,11 @@ fn check_condition(
 }
 
 /// Checks the names of a node, and adds its variable.
-fn check_node(alloc: Global, scope: &mut KnownColumns, node: Option<&Filler>) -> Result<(), ScopeFault>
+fn check_node(
+    alloc: Global,
+    scope: &mut KnownColumns,
+    node: Option<&Filler>,
+) -> Result<(), ScopeFault>
     ensures names { Gives result (refusal_of_first Refusal.Variable (unknown_in_node scope.old (option_copied node.entry))) }
     ensures columns { OnOk result (scope.new ≡ with_filler scope.old (option_copied node.entry)) }
 {
@@ -98,11 +102,15 @@ fn check_node(alloc: Global, scope: &mut KnownColumns, node: Option<&Filler>) ->
 
 /// Checks the names of a pattern, and adds its variables.
 #[tactic(auto, using(crate::proofs::RefusalLemmas::first_of_in_two))]
-fn check_pattern(alloc: Global, scope: &mut KnownColumns, pattern: &GraphPattern) -> Result<(), ScopeFault>
+fn check_pattern(
+    alloc: Global,
+    scope: &mut KnownColumns,
+    pattern: &GraphPattern,
+) -> Result<(), ScopeFault>
     ensures names { Gives result (refusal_of_first Refusal.Variable (unknown_in_pattern scope.old pattern.now)) }
     ensures columns { OnOk result (scope.new ≡ match_columns scope.old pattern.now) }
 {
-    check_node(alloc, scope, node_of(pattern))?;
+    check_node(alloc, scope, node_of_pattern(pattern))?;
     check_if(alloc, scope, &pattern.condition)
 }
 
@@ -235,7 +243,11 @@ fn check_return(alloc: Global, scope: &mut KnownColumns, clause: &Return) -> Res
 }
 
 /// Checks the names of a clause that changes data, and adds its columns.
-fn pass_change(alloc: Global, scope: &mut KnownColumns, change: &ChangeClause) -> Result<(), ScopeFault>
+fn pass_change(
+    alloc: Global,
+    scope: &mut KnownColumns,
+    change: &ChangeClause,
+) -> Result<(), ScopeFault>
     ensures names { Gives result (refusal_of_first Refusal.Variable (unknown_in_change scope.old change.now)) }
     ensures columns { OnOk result (scope.new ≡ change_columns scope.old change.now) }
 {

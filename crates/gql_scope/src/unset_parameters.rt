@@ -7,13 +7,12 @@ ghost use Rattle.gql_scope.specs.StaticRefusals.{refusal_of_first};
 ghost use Rattle.gql_scope.specs.UnsetParameters.{unset, parameters_of, parameters_if, parameters_of_condition, parameters_of_node, parameters_of_pattern, parameters_of_keys, parameters_of_order, parameters_of_count, parameters_of_count_if, parameters_of_page, parameters_of_items, parameters_of_return, parameters_of_clause};
 ghost use Rattle.gql_scope.specs.Gives.{Gives};
 
-use crate::behind::node_of;
 use crate::change_parameters::check_change;
 use crate::fault::ScopeFault;
 use crate::parameters::{if_unset, unset_parameter};
 use gql_ast::{
     Clause, Condition, Expr, Filler, GraphPattern, LetItem, MapItem, Page, Refusal, Return,
-    ReturnItem, ReturnItems, RowCount, SortItem, SortItems,
+    ReturnItem, ReturnItems, RowCount, SortItem, SortItems, node_of_pattern,
 };
 use gql_values3::{Params, Text};
 use std::alloc::Global;
@@ -85,7 +84,7 @@ fn check_node(alloc: Global, params: &Params, node: Option<&Filler>) -> Result<(
 fn check_pattern(alloc: Global, params: &Params, pattern: &GraphPattern) -> Result<(), ScopeFault>
     ensures { Gives result (refusal_of_first Refusal.Parameter (unset params.now (parameters_of_pattern pattern.now))) }
 {
-    check_node(alloc, params, node_of(pattern))?;
+    check_node(alloc, params, node_of_pattern(pattern))?;
     check_if(alloc, params, &pattern.condition)
 }
 

@@ -7,11 +7,11 @@ ghost use Rattle.gql_scope.specs.StaticRefusals.{refusal_of_first};
 ghost use Rattle.gql_scope.specs.WrongKinds.{holds_nodes, wrong_variable, wrong_in_node, wrong_in_clause, wrong_in_clauses};
 ghost use Rattle.gql_scope.specs.Gives.{Gives};
 
-use crate::behind::{node_of, step};
+use crate::behind::step;
 use crate::change_kinds::check_change;
 use crate::columns::KnownColumns;
 use crate::fault::ScopeFault;
-use gql_ast::{Clause, Filler, Refusal};
+use gql_ast::{Clause, Filler, Refusal, node_of_pattern};
 use gql_values3::{ColumnKind, Text};
 use std::alloc::Global;
 
@@ -23,7 +23,11 @@ fn holds_nodes(kind: ColumnKind) -> bool
 }
 
 /// Checks the variable of a node.
-fn check_variable(alloc: Global, scope: &KnownColumns, variable: &Option<Text>) -> Result<(), ScopeFault>
+fn check_variable(
+    alloc: Global,
+    scope: &KnownColumns,
+    variable: &Option<Text>,
+) -> Result<(), ScopeFault>
     ensures { Gives result (refusal_of_first Refusal.Kind (wrong_variable scope.now variable.now)) }
 {
     match variable {
@@ -49,7 +53,7 @@ fn check_clause(alloc: Global, scope: &KnownColumns, clause: &Clause) -> Result<
     ensures { Gives result (refusal_of_first Refusal.Kind (wrong_in_clause scope.now clause.now)) }
 {
     match clause {
-        Clause::Match(m) => check_node(alloc, scope, node_of(&m.pattern)),
+        Clause::Match(m) => check_node(alloc, scope, node_of_pattern(&m.pattern)),
         Clause::Change(change) => check_change(alloc, scope, change),
         _ => Ok(()),
     }

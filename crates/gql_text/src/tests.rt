@@ -1,2 +1,0 @@
-mod outcomes;
-mod wide_numbers;
