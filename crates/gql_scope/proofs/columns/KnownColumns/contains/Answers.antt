@@ -1,7 +1,7 @@
 use Rattle.std.proofs.Common.{◌∙◌, ap, is_some}
 use Rattle.gql_ast.specs.ClauseColumns.{is_column}
 use Rattle.gql_scope.proofs.KnowingLemmas.{is_some-first_kind}
-use Rattle.gql_scope.proofs.columns.Scope.contains.Goals as goal
+use Rattle.gql_scope.proofs.columns.KnownColumns.contains.Goals as goal
 
 pub returns : goal.returns
 returns c =

@@ -4,7 +4,7 @@ use Rattle.std.specs.Prelude.{Bool, ◌||◌, ◌&&◌, ◌∷◌, Some, None}
 use Rattle.gql_ast.specs.Tree.{Tree}
 use Rattle.gql_ast.specs.ClauseColumns.{ColumnList}
 use Rattle.gql_ast.specs.Outputs.{kind_of_name, element_kind}
-use Rattle.gql_ast.specs.Misuses as misuses
+use Rattle.gql_scope.specs.Misuses as misuses
 use Rattle.gql_scope.specs.declared.misuses.Place.{Place}
 use Rattle.gql_scope.specs.declared.misuses.Place.TheVariants as place
 

@@ -2,7 +2,7 @@ use Rattle.std.proofs.Common.{◌∙◌, ap, sym}
 use Rattle.std.specs.Option.{option_copied}
 use Rattle.gql_ast.specs.Outputs.{kind_of_name}
 use Rattle.gql_scope.proofs.KnowingLemmas.{kind_when_known, kind_when_unknown}
-use Rattle.gql_scope.proofs.columns.Scope.kind.Goals as goal
+use Rattle.gql_scope.proofs.columns.KnownColumns.kind.Goals as goal
 
 pub returns-in-Some : goal.returns-in-Some
 returns-in-Some c =
