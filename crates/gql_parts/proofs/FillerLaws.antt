@@ -24,10 +24,8 @@ use Rattle.gql_exprs.proofs.LabelLevels.{goes_label}
 use Rattle.gql_parts.specs.Parts.{Passes, IsOptional, IsListOf}
 use Rattle.gql_parts.specs.Values.{IsValue, IsLabels}
 use Rattle.gql_parts.specs.PartWords.{is_colon}
-use Rattle.gql_parts.specs.MatchGrammar.{IsPathExpr, IsPattern}
 use Rattle.gql_parts.specs.FillerGrammar.{IsWhere, IsMapItem, AreMapItems, IsCondition, AsksLabels, IsFiller}
 use Rattle.gql_parts.specs.Machinery.PartReaders.{read_value, read_labels, listed}
-use Rattle.gql_parts.specs.Machinery.MatchReaders.{node_of, alone, match_of}
 use Rattle.gql_parts.specs.Machinery.FillerReaders.{where_of, map_item_of, map_items_of, empty_or_items, map_of, as_condition, map_or_where, condition_of, variable_of, filler_labels_of, filler_of}
 use Rattle.gql_parts.proofs.PartLaws.{Stops, Apart, bind_then, finish, passes_after, after_passes, passes_shorter, stops_after, stops_op, word_apart, sign_apart, passes_stops, begins_stops, optional_stops, optional_shorter, led_sound, led_exact}
 use Rattle.gql_parts.proofs.ListLaws.{listed_sound, listed_exact, list_shorter}

@@ -5,3 +5,4 @@ pub mod ListLaws
 pub mod ListLoops
 pub mod ValueLaws
 pub mod FillerLaws
+pub mod LongestLaws

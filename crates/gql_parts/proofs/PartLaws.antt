@@ -124,10 +124,10 @@ module _ {A : Type 0} (test : Lexeme → Bool) (item : Reader A) (P Q : A → Li
 
   pub led_exact : (o : Option A) (ts s : List Lexeme) → ((x : A) (a : List Lexeme) → Q x a s → item a ≡ Some (x, s)) → IsOptional P o ts s → Stops test s
       → led test item ts ≡ Some (o, s)
-  led_exact None ts s exact h stop = subst (λ z. led test item z ≡ Some (None, s)) (sym h) (led_none s stop)
-  led_exact (Some x) ts s exact h stop =
+  led_exact None ts s reads h stop = subst (λ z. led test item z ≡ Some (None, s)) (sym h) (led_none s stop)
+  led_exact (Some x) ts s reads h stop =
       let k = forth x ts s h in
-      ap (λ (o : Option (List Lexeme)). Some (opted ts (o >>= item))) (passes_after test ts k.0 k.1) ∙ ap (λ (o : Option (A × List Lexeme)). Some (opted ts o)) (exact x k.0 k.2)
+      ap (λ (o : Option (List Lexeme)). Some (opted ts (o >>= item))) (passes_after test ts k.0 k.1) ∙ ap (λ (o : Option (A × List Lexeme)). Some (opted ts o)) (reads x k.0 k.2)
 
   -- what is derived is read, or more is: behind a part that is there stands what its item goes on with, g, and behind one
   -- that is missing the lexeme that announces it

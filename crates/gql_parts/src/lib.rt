@@ -6,12 +6,14 @@
 //! expressions and label expressions, on `gql_front`, on the lexemes of `gql_lexer` and on the trees of `gql_ast`.
 #![tactic(auto)]
 
-mod filler;
+mod fillers;
 mod item;
+mod laws;
 #[cfg(test)]
 mod tests;
-mod value;
+mod values;
 
-pub use filler::{after_colon, filler, map, variable, where_value};
+pub use fillers::{after_colon, filler, map, variable, where_value};
 pub use item::{Item, item_or_nothing, list};
-pub use value::{Parts, labels, value};
+pub use laws::the_longest_part_is_read;
+pub use values::{Parts, labels, value};

@@ -5,7 +5,7 @@ ghost use Rattle.gql_parts.specs.PartWords.{is_colon};
 ghost use Rattle.gql_parts.specs.Machinery.FillerReaders.{where_of, map_of, condition_of, variable_of, filler_labels_of, filler_of};
 
 use crate::item::{Item, item_or_nothing, list};
-use crate::value::{Parts, value};
+use crate::values::{Parts, value};
 use gql_ast::{Condition, Expr, Filler, LabelExpr, Map, MapItem, ParseFault};
 use gql_front::{NoFront, ParseResult, after_sign, after_word, any_name, plain_name};
 use gql_lexer::Lexeme;
