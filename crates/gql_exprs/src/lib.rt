@@ -19,8 +19,6 @@ mod levels;
 mod nodes;
 mod parse;
 mod test_word;
-#[cfg(test)]
-mod tests;
 
 pub use depth::too_deep;
 pub use labels::label_expression;

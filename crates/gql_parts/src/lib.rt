@@ -9,8 +9,6 @@
 mod fillers;
 mod item;
 mod laws;
-#[cfg(test)]
-mod tests;
 mod values;
 
 pub use fillers::{after_colon, filler, map, variable, where_value};

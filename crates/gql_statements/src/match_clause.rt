@@ -33,7 +33,7 @@ fn node<'a>(alloc: Global, rest: &'a [Lexeme]) -> ParseResult<'a, Filler>
     Ok((filler, rest))
 }
 
-/// A node match_of_one_node as the pattern of a MATCH.
+/// A node alone as the pattern of a MATCH.
 fn match_of_one_node(
     alloc: Global,
     filler: Filler,
