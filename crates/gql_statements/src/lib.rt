@@ -27,8 +27,6 @@ mod session_word;
 mod set_clause;
 mod sort;
 mod statement;
-#[cfg(test)]
-mod tests;
 
 pub use laws::statements_derive_once;
 pub use parser::parse;

@@ -53,7 +53,7 @@ fn clauses<'a>(
 }
 
 /// The clauses with RETURN as the last one; without it, the last one is a change.
-#[tactic(auto, unfolding(crate::specs::Machinery::QueryReaders::ended_of))]
+#[tactic(auto, unfolding(crate::specs::Machinery::QueryReaders::with_last_clause_of))]
 fn with_last_clause<'a>(
     alloc: Global,
     mut clauses: Sequence<Clause>,
