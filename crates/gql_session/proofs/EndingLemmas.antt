@@ -1,5 +1,5 @@
 -- How a run ends, from how the run of its text did.
-use Rattle.std.proofs.Common.{◌≡◌, ◌⊎◌, ℕ, ◌≤◌, ◌<◌, Bool, true, false, List, length, Option, Some, Result, Ok, Err, refl, sym, ap, ◌∙◌, subst, inl, inr, IsTrue, arith}
+use Rattle.std.proofs.Common.{◌≡◌, ◌⊎◌, ℕ, ◌≤◌, ◌<◌, Bool, true, false, List, length, Option, Some, None, Result, Ok, Err, refl, sym, ap, ◌∙◌, subst, inl, inr, IsTrue, arith}
 use Rattle.gql_ports.specs.declared.stored.Record.{Record}
 use Rattle.gql_graph.specs.Catalog.{CatalogData}
 use Rattle.gql_rowcode.specs.StandFor.{StandFor}
@@ -59,6 +59,10 @@ content_of {text = text} t = record { name = t.name; ready = t.ready; left = tex
 
 pub named : {words : List (List ℕ)} {source : Option Content} {text : List ℕ} (t : SourceTells words source text) (name : List ℕ) → session_of words ≡ Some name → t.name ≡ name
 named t name p = let e = t.command in cc
+
+-- words are a command or none
+pub not_both : {command : Option (List ℕ)} {name : List ℕ} → command ≡ Some name → command ≡ None → ⊥
+not_both p q = cc
 
 -- a run of a text doesn't end before it writes, nor at a text that is too long
 pub is_past_reading : (r : Result Bool RunFault) → is_before_writing (status_of r) ≡ false

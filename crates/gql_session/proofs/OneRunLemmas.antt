@@ -63,14 +63,14 @@ record OpenRun (start : SessionState) (pieces : List (List ℕ)) : Type 0 where
 -- before each of its pieces a run was open
 open_before : {start end : SessionState} {ps : List (List ℕ)} {os : List Outcome} → RunsSession start ps os end → (n : ℕ) → n < length ps → OpenRun start (take n ps)
 open_before no_pieces n h = absurd (omega arith)
-open_before {start = start} (one_more {pieces = ps} {outcomes = os} {middle = m} {piece = x} runs step) n h = go (cases_order n (length ps))
+open_before {start = start} (one_more {pieces = ps} {outcomes = os} {middle = m} {piece = x} runs step) n h = go (λ less. open_before runs n less) (cases_order n (length ps))
   where
-    P : List (List ℕ) → Type 0
-    P = λ qs. OpenRun start qs
-    go : (n ≡ length ps) ⊎ ((n < length ps) ⊎ (length ps < n)) → OpenRun start (take n (ps ++ x ∷ []))
-    go (inl e) = subst P (sym (ap (λ k. take k (ps ++ x ∷ [])) e ∙ take-append_seam ps (x ∷ []))) (record { outcomes = os; end = m; runs = runs; is_open = step.goes_on })
-    go (inr (inl less)) = subst P (sym (take-append-le n ps (x ∷ []) (omega arith))) (open_before runs n less)
-    go (inr (inr more)) = absurd (omega (arith, h, length-append ps (x ∷ [])))
+    go : (n < length ps → OpenRun start (take n ps)) → (n ≡ length ps) ⊎ ((n < length ps) ⊎ (length ps < n)) → OpenRun start (take n (ps ++ x ∷ []))
+    go before (inl e) =
+        let P : List (List ℕ) → Type 0 = λ qs. OpenRun start qs in
+        subst P (sym (ap (λ k. take k (ps ++ x ∷ [])) e ∙ take-append_seam ps (x ∷ []))) (record { outcomes = os; end = m; runs = runs; is_open = step.goes_on })
+    go before (inr (inl less)) = let P : List (List ℕ) → Type 0 = λ qs. OpenRun start qs in subst P (sym (take-append-le n ps (x ∷ []) (omega arith))) (before less)
+    go before (inr (inr more)) = absurd (omega (arith, h, more, length-append ps (x ∷ [])))
 
 take-length : (n : ℕ) (xs : List (List ℕ)) → take (length (take n xs)) xs ≡ take n xs
 take-length zero xs = refl
@@ -97,17 +97,17 @@ not_longer : (start end other : SessionState) (ps : List (List ℕ)) (n m : ℕ)
 not_longer start end other ps n m os us run longer (inl all) h = omega (arith, all, h, length-take n ps, length-take m ps)
 not_longer start end other ps n m os us run longer (inr closed) h = let e = open_end start end other ps n m os us run longer h in cc
 
+same_whole : (start end other : SessionState) (ps : List (List ℕ)) (n m : ℕ) (os us : List Outcome) → RunsSession start (take n ps) os end → RunsSession start (take m ps) us other
+    → (n ≡ length ps) ⊎ (end.is_closed ≡ true) → (m ≡ length ps) ⊎ (other.is_closed ≡ true) → os ≡ us
+same_whole start end other ps n m os us run other_run whole other_whole = go (cases_order (length (take n ps)) (length (take m ps)))
+  where
+    go : (length (take n ps) ≡ length (take m ps)) ⊎ ((length (take n ps) < length (take m ps)) ⊎ (length (take m ps) < length (take n ps))) → os ≡ us
+    go (inl e) = (same_runs run other_run (sym (take-length n ps) ∙ ap (λ k. take k ps) e ∙ take-length m ps)).0
+    go (inr (inl less)) = absurd (not_longer start end other ps n m os us run other_run whole less)
+    go (inr (inr more)) = absurd (not_longer start other end ps m n us os other_run run other_whole more)
+
 pub one_whole_run : (start : SessionState) (text before : List ℕ) (refused other_refused : Bool) (after other_after : Option (List ℕ)) → RanWhole start text before refused after
     → RanWhole start text before other_refused other_after → (after ≡ other_after) × (refused ≡ other_refused)
-one_whole_run start text before refused other_refused after other_after a b = go (cases_order (length (take a.count ps)) (length (take b.count ps)))
-  where
-    ps : List (List ℕ)
-    ps = session_pieces text
-    go : (length (take a.count ps) ≡ length (take b.count ps)) ⊎ ((length (take a.count ps) < length (take b.count ps)) ⊎ (length (take b.count ps) < length (take a.count ps)))
-        → (after ≡ other_after) × (refused ≡ other_refused)
-    go (inl e) =
-        let pieces : take a.count ps ≡ take b.count ps = sym (take-length a.count ps) ∙ ap (λ k. take k ps) e ∙ take-length b.count ps in
-        let same = same_runs a.runs b.runs pieces in
-        (a.written ∙ ap (λ os. Some (before ++ outcome_texts os)) same.0 ∙ sym b.written, sym a.refused ∙ ap (list_any is_refusal) same.0 ∙ b.refused)
-    go (inr (inl less)) = absurd (not_longer start a.end b.end ps a.count b.count a.outcomes b.outcomes a.runs b.runs a.whole less)
-    go (inr (inr more)) = absurd (not_longer start b.end a.end ps b.count a.count b.outcomes a.outcomes b.runs a.runs b.whole more)
+one_whole_run start text before refused other_refused after other_after a b =
+    let same : a.outcomes ≡ b.outcomes = same_whole start a.end b.end (session_pieces text) a.count b.count a.outcomes b.outcomes a.runs b.runs a.whole b.whole in
+    (a.written ∙ ap (λ os. Some (before ++ outcome_texts os)) same ∙ sym b.written, sym a.refused ∙ ap (list_any is_refusal) same ∙ b.refused)

@@ -1,11 +1,11 @@
-use Rattle.gql_session.proofs.EndingLemmas.{content_of, named, completed}
+use Rattle.gql_session.proofs.EndingLemmas.{content_of, named, not_both, completed}
 use Rattle.gql_session.proofs.top_call.run.Goals as goal
 
 pub returns-in-None-clause-ends : goal.returns-in-None-clause-ends
-returns-in-None-clause-ends g c = λ text before records t. let e = t.text_is.command in cc
+returns-in-None-clause-ends g c = λ text before records t. absurd (not_both t.text_is.command c.in-None.ensures.none)
 
 pub returns-in-None-clause-complete : goal.returns-in-None-clause-complete
-returns-in-None-clause-complete g c = λ text records d s k stands within no_source no_sink no_store. let e = s.command in cc
+returns-in-None-clause-complete g c = λ text records d s k stands within no_source no_sink no_store. absurd (not_both s.command c.in-None.ensures.none)
 
 pub returns-in-Some-clause-ends : goal.returns-in-Some-clause-ends
 returns-in-Some-clause-ends g c = λ text before records t.
