@@ -9,21 +9,21 @@ use Rattle.gql_ast.specs.declared.page.SortItem.{SortItem}
 use Rattle.gql_ast.specs.declared.page.RowCount.{RowCount}
 use Rattle.gql_ast.specs.declared.page.Page.{Page}
 use Rattle.gql_ast.specs.declared.page.Page.TheVariants as page
-use Rattle.gql_front.specs.SymbolPlaces.{comma}
-use Rattle.gql_front.specs.WordPlaces.{BY, LIMIT, NULLS, OFFSET, SKIP}
+use Rattle.gql_lexer.specs.SymbolPlaces.{comma}
+use Rattle.gql_lexer.specs.WordPlaces.{BY, LIMIT, NULLS, OFFSET, SKIP}
 use Rattle.gql_front.specs.Tables.{Begins}
 use Rattle.gql_front.specs.Reading.{is_sign, is_word, after, op_at}
 use Rattle.gql_front.proofs.Found.{Sound, is_there}
 use Rattle.gql_front.proofs.TableLemmas.{begins_read, read_begins, begins_shorter, word_row}
 use Rattle.gql_exprs.proofs.ExprLists.{goes_or}
-use Rattle.gql_statements.specs.Parts.{Passes, IsOptional, IsListOf}
+use Rattle.gql_parts.specs.Parts.{Passes, IsOptional, IsListOf}
 use Rattle.gql_statements.specs.PartWords.{direction_words, direction_word, null_word, count_in, is_skip}
 use Rattle.gql_statements.specs.PageGrammar.{IsDirection, IsNullOrder, IsSortItem, IsSkip, IsLimit}
-use Rattle.gql_statements.specs.PartReaders.{read_value, led}
-use Rattle.gql_statements.specs.PageReaders.{or_ascending, direction_of, sort_item_of, sort_items_of, order_of, skip_of, limit_of, order_page_of, skip_page_of, limit_page_of}
-use Rattle.gql_statements.proofs.PartLaws.{Stops, left_stops, right_stops, Apart, bind_then, finish, passes_after, after_passes, passes_shorter, word_apart, passes_stops, begins_stops, optional_stops, optional_shorter, led_sound, led_exact}
-use Rattle.gql_statements.proofs.ListLaws.{listed_sound, listed_exact, list_shorter}
-use Rattle.gql_statements.proofs.ValueLaws.{value_sound, value_exact, value_shorter}
+use Rattle.gql_parts.specs.Machinery.PartReaders.{read_value, led}
+use Rattle.gql_statements.specs.Machinery.PageReaders.{or_ascending, direction_of, sort_item_of, sort_items_of, order_of, skip_of, limit_of, order_page_of, skip_page_of, limit_page_of}
+use Rattle.gql_parts.proofs.PartLaws.{Stops, left_stops, right_stops, Apart, bind_then, finish, passes_after, after_passes, passes_shorter, word_apart, passes_stops, begins_stops, optional_stops, optional_shorter, led_sound, led_exact}
+use Rattle.gql_parts.proofs.ListLaws.{listed_sound, listed_exact, list_shorter}
+use Rattle.gql_parts.proofs.ValueLaws.{value_sound, value_exact, value_shorter}
 
 -- Directions
 
