@@ -11,7 +11,7 @@ use crate::current::{copy_statement_graph, statement_graph};
 use crate::state::Session;
 use gql_ast::{Outcome, Query};
 use gql_graph::{Catalog, Graph};
-use gql_linear::{Answer, RunFault, changes_data, read_query, run_query};
+use gql_linear::{Answer, RunFault, changes_data, run_query, run_reading_query};
 use gql_values3::{OutOfMemory, Params};
 use std::alloc::Global;
 
@@ -78,7 +78,7 @@ fn read_on(
     requires { changes_data query.now ≡ false }
     ensures { Runs query.now result graph.now.graph (query_run graph.now.graph parameters.now query.now) }
 {
-    read_query(alloc, graph, parameters, query)
+    run_reading_query(alloc, graph, parameters, query)
 }
 
 /// Runs a query over a graph in memory, which becomes the one behind it.

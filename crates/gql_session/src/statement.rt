@@ -28,7 +28,11 @@ pub fn run_statement(
 }
 
 /// What a statement does that nothing refuses before. Statements about transactions and catalogs come at a later stage.
-fn execute(alloc: Global, session: &mut Session, statement: &Statement) -> Result<Outcome, OutOfMemory>
+fn execute(
+    alloc: Global,
+    session: &mut Session,
+    statement: &Statement,
+) -> Result<Outcome, OutOfMemory>
     ensures outcome { (kept : CatalogData) → IfOk result (λ made. made ≡ (execution_end (session_state kept session.old) statement.now).outcome) }
     ensures after { (kept : CatalogData) → OnOk result (session_state kept session.new ≡ (execution_end (session_state kept session.old) statement.now).after) }
 {

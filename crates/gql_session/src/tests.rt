@@ -241,7 +241,12 @@ fn words_and_records_have_their_statuses(rt: HostRuntime) -> Result<(), Fail> {
         over("no records", &[], 0, "x\nrows 0\n"),
         Case {
             records: &FULL,
-            ..plain("no number is left", "INSERT (:A);", 1, "refused E24 FULL NODE\n")
+            ..plain(
+                "no number is left",
+                "INSERT (:A);",
+                1,
+                "refused E24 FULL NODE\n",
+            )
         },
     ];
     check_all(&rt, rt.alloc(), &cases)
