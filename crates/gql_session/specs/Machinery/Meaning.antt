@@ -7,8 +7,8 @@ use Rattle.gql_session.specs.declared.reading.Read.TheVariants as found
 use Rattle.gql_session.specs.declared.state.Session.{Session}
 
 -- nothing changes the catalog that is kept in this stage
-abbrev pub state_of : CatalogData → Session → SessionState
-state_of kept s = record { catalog = s.catalog; kept = kept; parameters = s.parameters; is_closed = s.is_closed }
+abbrev pub session_state : CatalogData → Session → SessionState
+session_state kept s = record { catalog = s.catalog; kept = kept; parameters = s.parameters; is_closed = s.is_closed }
 
 abbrev pub reading_of : Read → Reading
 reading_of found.Blank = blank
