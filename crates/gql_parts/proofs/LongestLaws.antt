@@ -1,10 +1,9 @@
 -- Each reader gives the longest front that derives its part. What is derived is read, or more is, and then the next lexeme
 -- is one with which the part may go on.
-use Rattle.std.proofs.Common.{◌≡◌, ◌<◌, ◌≤◌, Bool, true, false, ◌||◌, ℕ, List, [], ◌∷◌, length, Option, Some, None, option_map, refl, sym, ap, subst, ◌∙◌, arith}
+use Rattle.std.proofs.Common.{◌≡◌, ◌≤◌, Bool, ◌||◌, ℕ, List, length, Option, Some, None, option_map, refl, ap, subst, ◌∙◌, arith}
 use Rattle.gql_lexer.specs.declared.lexeme.Lexeme.{Lexeme}
-use Rattle.gql_lexer.specs.declared.lexeme.Lexeme.TheVariants as lex
-use Rattle.gql_lexer.specs.SymbolPlaces.{opening_brace, colon}
-use Rattle.gql_lexer.specs.WordPlaces.{IS, WHERE}
+use Rattle.gql_lexer.specs.SymbolPlaces.{opening_brace}
+use Rattle.gql_lexer.specs.WordPlaces.{WHERE}
 use Rattle.gql_ast.specs.LabelMeaning.{label_of, label_expr_of}
 use Rattle.gql_ast.specs.Meaning.{tree_of, expr_of}
 use Rattle.gql_ast.specs.declared.expr.Expr.{Expr}
@@ -15,9 +14,9 @@ use Rattle.gql_ast.specs.declared.filler.Filler.{Filler}
 use Rattle.gql_ast.specs.declared.filler.MapItem.{MapItem}
 use Rattle.gql_front.specs.Longest.{Longest}
 use Rattle.gql_front.specs.Tables.{Begins}
-use Rattle.gql_front.specs.Reading.{◌>>=◌, Reader, is_sign, is_word, name_in, after, op_at, maybe, opted}
+use Rattle.gql_front.specs.Reading.{◌>>=◌, is_sign, is_word, name_in, after, op_at, maybe, opted}
 use Rattle.gql_front.proofs.Agree.{is_longest}
-use Rattle.gql_front.proofs.Found.{Goes, Goes-left, Goes-right, Found, exact, longer, Sound, Shrinks}
+use Rattle.gql_front.proofs.Found.{Goes, Goes-left, Goes-right, Found, exact, longer, Shrinks}
 use Rattle.gql_front.proofs.TableLemmas.{begins_read, read_begins, begins_shorter, begins_goes}
 use Rattle.gql_exprs.specs.Machinery.LabelReaders.{read_label}
 use Rattle.gql_exprs.specs.Machinery.Readers.{read_expr}
@@ -30,9 +29,9 @@ use Rattle.gql_parts.specs.PartWords.{is_colon}
 use Rattle.gql_parts.specs.FillerGrammar.{IsWhere, IsCondition, AsksLabels, IsFiller}
 use Rattle.gql_parts.specs.Machinery.PartReaders.{read_value, read_labels}
 use Rattle.gql_parts.specs.Machinery.FillerReaders.{where_of, map_of, as_condition, map_or_where, condition_of, variable_of, filler_labels_of, filler_of}
-use Rattle.gql_parts.proofs.PartLaws.{Stops, Apart, passes_after, after_passes, passes_shorter, passes_goes, stops_after, word_apart, sign_apart, passes_stops, optional_shorter, led_found}
+use Rattle.gql_parts.proofs.PartLaws.{Apart, passes_after, after_passes, passes_shorter, passes_goes, stops_after, word_apart, sign_apart, passes_stops, led_found}
 use Rattle.gql_parts.proofs.ValueLaws.{value_sound, value_is, value_shorter, labels_sound, labels_are, labels_shorter}
-use Rattle.gql_parts.proofs.FillerLaws.{where_sound, where_shorter, map_sound, map_exact, map_shorter, condition_sound, condition_shorter, is_name, variable_sound, colon_apart, filler_labels_sound, filler_labels_shorter, filler_sound}
+use Rattle.gql_parts.proofs.FillerLaws.{where_sound, map_sound, map_exact, map_shorter, is_name, colon_apart, filler_labels_sound, filler_labels_shorter, filler_sound}
 
 -- Expressions and label expressions
 

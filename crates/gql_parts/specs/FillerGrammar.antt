@@ -3,21 +3,16 @@
 --   Where  = WHERE Expr
 --   Filler = [Name] [(":" or IS) LabelExpr] [Map; Where]
 --   Map    = "{" [list(a name or a reserved word ":" Expr)] "}"
-use Rattle.std.specs.Prelude.{◌≡◌, false, List, [], ◌∷◌, None}
+use Rattle.std.specs.Prelude.{◌≡◌, List, [], ◌∷◌}
 use Rattle.gql_lexer.specs.declared.lexeme.Lexeme.{Lexeme}
-use Rattle.gql_ast.specs.declared.clause.Match.{Match}
 use Rattle.gql_ast.specs.declared.expr.Expr.{Expr}
 use Rattle.gql_ast.specs.declared.label.LabelExpr.{LabelExpr}
 use Rattle.gql_ast.specs.declared.filler.Condition.{Condition}
 use Rattle.gql_ast.specs.declared.filler.Condition.TheVariants as condition
 use Rattle.gql_ast.specs.declared.filler.Filler.{Filler}
 use Rattle.gql_ast.specs.declared.filler.MapItem.{MapItem}
-use Rattle.gql_ast.specs.declared.path.GraphPattern.{GraphPattern}
-use Rattle.gql_ast.specs.declared.path.PathPattern.{PathPattern}
-use Rattle.gql_ast.specs.declared.pattern.PathExpr.{PathExpr}
-use Rattle.gql_ast.specs.declared.pattern.PathExpr.TheVariants as path
-use Rattle.gql_lexer.specs.SymbolPlaces.{opening, closing, opening_brace, closing_brace, colon}
-use Rattle.gql_lexer.specs.WordPlaces.{MATCH, WHERE}
+use Rattle.gql_lexer.specs.SymbolPlaces.{opening_brace, closing_brace, colon}
+use Rattle.gql_lexer.specs.WordPlaces.{WHERE}
 use Rattle.gql_front.specs.Tables.{Begins}
 use Rattle.gql_front.specs.Reading.{is_sign, is_word, name_in, any_name_in}
 use Rattle.gql_parts.specs.Parts.{Passes, IsOptional, IsListOf}

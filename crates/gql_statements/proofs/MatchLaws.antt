@@ -1,37 +1,24 @@
 -- The laws of MATCH of one node.
-use Rattle.std.proofs.Common.{◌≡◌, ◌<◌, ◌≤◌, Bool, true, false, ◌||◌, ℕ, List, [], ◌∷◌, length, Option, Some, None, option_map, refl, sym, ap, subst, ◌∙◌, arith}
+use Rattle.std.proofs.Common.{◌≡◌, ◌<◌, Bool, false, ℕ, List, [], ◌∷◌, length, Option, Some, None, refl, sym, ap, arith}
 use Rattle.gql_lexer.specs.declared.lexeme.Lexeme.{Lexeme}
-use Rattle.gql_lexer.specs.declared.lexeme.Lexeme.TheVariants as lex
 use Rattle.gql_ast.specs.declared.clause.Match.{Match}
 use Rattle.gql_ast.specs.declared.expr.Expr.{Expr}
-use Rattle.gql_ast.specs.declared.label.LabelExpr.{LabelExpr}
-use Rattle.gql_ast.specs.declared.filler.Condition.{Condition}
-use Rattle.gql_ast.specs.declared.filler.Condition.TheVariants as condition
 use Rattle.gql_ast.specs.declared.filler.Filler.{Filler}
-use Rattle.gql_ast.specs.declared.filler.MapItem.{MapItem}
 use Rattle.gql_ast.specs.declared.path.PathPattern.{PathPattern}
 use Rattle.gql_ast.specs.declared.path.Prefix.{Prefix}
 use Rattle.gql_ast.specs.declared.pattern.PathExpr.{PathExpr}
 use Rattle.gql_ast.specs.declared.pattern.PathExpr.TheVariants as path
-use Rattle.gql_lexer.specs.SymbolPlaces.{opening, closing, opening_brace, closing_brace, colon, comma}
-use Rattle.gql_lexer.specs.WordPlaces.{IS, WHERE}
-use Rattle.gql_front.specs.Tables.{Begins}
-use Rattle.gql_front.specs.Reading.{is_sign, is_word, name_in, any_name_in, after, op_at, maybe, opted}
-use Rattle.gql_front.proofs.Found.{Sound, is_there}
-use Rattle.gql_front.proofs.TableLemmas.{begins_read, read_begins, begins_shorter}
+use Rattle.gql_lexer.specs.SymbolPlaces.{opening, closing}
+use Rattle.gql_lexer.specs.WordPlaces.{WHERE}
+use Rattle.gql_front.specs.Reading.{is_sign, is_word, after}
+use Rattle.gql_front.proofs.Found.{Sound}
 use Rattle.gql_exprs.proofs.ExprLists.{goes_or}
-use Rattle.gql_exprs.proofs.LabelLevels.{goes_label}
-use Rattle.gql_parts.specs.Parts.{Passes, IsOptional, IsListOf}
-use Rattle.gql_parts.specs.Values.{IsValue, IsLabels}
-use Rattle.gql_parts.specs.PartWords.{is_colon}
+use Rattle.gql_parts.specs.Parts.{IsOptional}
 use Rattle.gql_statements.specs.MatchGrammar.{IsPathExpr, IsPattern}
-use Rattle.gql_parts.specs.FillerGrammar.{IsWhere, IsMapItem, AreMapItems, IsCondition, AsksLabels, IsFiller}
-use Rattle.gql_parts.specs.Machinery.PartReaders.{read_value, read_labels, listed}
+use Rattle.gql_parts.specs.FillerGrammar.{IsWhere}
 use Rattle.gql_statements.specs.Machinery.MatchReaders.{node_of, match_of_one_node, match_of}
-use Rattle.gql_parts.specs.Machinery.FillerReaders.{where_of, map_item_of, map_items_of, empty_or_items, map_of, map_or_where, condition_of, variable_of, filler_labels_of, filler_of}
-use Rattle.gql_parts.proofs.PartLaws.{Stops, Apart, bind_then, finish, passes_after, after_passes, passes_shorter, stops_after, stops_op, word_apart, sign_apart, passes_stops, begins_stops, optional_stops, optional_shorter, led_sound, led_exact}
-use Rattle.gql_parts.proofs.ListLaws.{listed_sound, listed_exact, list_shorter}
-use Rattle.gql_parts.proofs.ValueLaws.{value_sound, value_exact, value_shorter, labels_sound, labels_exact, labels_shorter}
+use Rattle.gql_parts.specs.Machinery.FillerReaders.{where_of, filler_of}
+use Rattle.gql_parts.proofs.PartLaws.{Stops, bind_then, finish, passes_after, after_passes, passes_shorter}
 use Rattle.gql_parts.proofs.FillerLaws.{where_sound, where_exact, where_shorter, filler_sound, filler_exact, filler_shorter}
 
 -- A node

@@ -4,24 +4,15 @@
 use Rattle.std.specs.Prelude.{◌≡◌, false, List, [], ◌∷◌, None}
 use Rattle.gql_lexer.specs.declared.lexeme.Lexeme.{Lexeme}
 use Rattle.gql_ast.specs.declared.clause.Match.{Match}
-use Rattle.gql_ast.specs.declared.expr.Expr.{Expr}
-use Rattle.gql_ast.specs.declared.label.LabelExpr.{LabelExpr}
-use Rattle.gql_ast.specs.declared.filler.Condition.{Condition}
-use Rattle.gql_ast.specs.declared.filler.Condition.TheVariants as condition
-use Rattle.gql_ast.specs.declared.filler.Filler.{Filler}
-use Rattle.gql_ast.specs.declared.filler.MapItem.{MapItem}
 use Rattle.gql_ast.specs.declared.path.GraphPattern.{GraphPattern}
 use Rattle.gql_ast.specs.declared.path.PathPattern.{PathPattern}
 use Rattle.gql_ast.specs.declared.pattern.PathExpr.{PathExpr}
 use Rattle.gql_ast.specs.declared.pattern.PathExpr.TheVariants as path
-use Rattle.gql_lexer.specs.SymbolPlaces.{opening, closing, opening_brace, closing_brace, colon}
-use Rattle.gql_lexer.specs.WordPlaces.{MATCH, WHERE}
-use Rattle.gql_front.specs.Tables.{Begins}
-use Rattle.gql_front.specs.Reading.{is_sign, is_word, name_in, any_name_in}
+use Rattle.gql_lexer.specs.SymbolPlaces.{opening, closing}
+use Rattle.gql_lexer.specs.WordPlaces.{MATCH}
+use Rattle.gql_front.specs.Reading.{is_sign, is_word}
 use Rattle.gql_parts.specs.FillerGrammar.{IsWhere, IsFiller}
-use Rattle.gql_parts.specs.Parts.{Passes, IsOptional, IsListOf}
-use Rattle.gql_parts.specs.Values.{IsValue, IsLabels}
-use Rattle.gql_parts.specs.PartWords.{is_colon}
+use Rattle.gql_parts.specs.Parts.{Passes, IsOptional}
 
 -- one node; longer path expressions come at a later stage
 abbrev pub IsPathExpr : PathExpr → List Lexeme → List Lexeme → Type 0

@@ -1,19 +1,11 @@
 -- MatchReaders: reading MATCH of one node.
-use Rattle.std.specs.Prelude.{ℕ, false, List, [], ◌∷◌, Option, Some, None, option_map}
-use Rattle.gql_lexer.specs.declared.lexeme.Lexeme.{Lexeme}
+use Rattle.std.specs.Prelude.{false, [], ◌∷◌, Option, Some, None}
 use Rattle.gql_ast.specs.declared.clause.Match.{Match}
 use Rattle.gql_ast.specs.declared.expr.Expr.{Expr}
-use Rattle.gql_ast.specs.declared.label.LabelExpr.{LabelExpr}
-use Rattle.gql_ast.specs.declared.filler.Condition.{Condition}
-use Rattle.gql_ast.specs.declared.filler.Condition.TheVariants as condition
 use Rattle.gql_ast.specs.declared.filler.Filler.{Filler}
-use Rattle.gql_ast.specs.declared.filler.MapItem.{MapItem}
 use Rattle.gql_ast.specs.declared.pattern.PathExpr.TheVariants as path
-use Rattle.gql_lexer.specs.SymbolPlaces.{opening, closing, opening_brace, closing_brace, colon}
-use Rattle.gql_lexer.specs.WordPlaces.{WHERE}
-use Rattle.gql_front.specs.Reading.{◌>>=◌, Reader, is_sign, is_word, name_in, any_name_in, after, op_at, maybe}
-use Rattle.gql_parts.specs.PartWords.{is_colon}
-use Rattle.gql_parts.specs.Machinery.PartReaders.{read_value, read_labels, led, listed}
+use Rattle.gql_lexer.specs.SymbolPlaces.{opening, closing}
+use Rattle.gql_front.specs.Reading.{◌>>=◌, Reader, is_sign, after}
 use Rattle.gql_parts.specs.Machinery.FillerReaders.{where_of, filler_of}
 
 -- "(" Filler ")"
