@@ -11,7 +11,7 @@ use Rattle.gql_values3.specs.declared.value.Value.{Value}
 use Rattle.gql_values3.specs.declared.value.Value.TheVariants as v
 use Rattle.gql_ast.specs.declared.fault.DataFault.{DataFault}
 use Rattle.gql_ast.specs.Faults.{each}
-use Rattle.gql_eval.specs.Next.{next}
+use Rattle.gql_eval.specs.Machinery.Next.{next}
 use Rattle.gql_eval.specs.Gives.{Fails}
 use Rattle.gql_eval.specs.declared.error.EvalError.{EvalError}
 use Rattle.gql_eval.specs.declared.error.EvalError.TheVariants as error

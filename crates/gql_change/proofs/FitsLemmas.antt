@@ -20,7 +20,7 @@ use Rattle.gql_ast.specs.declared.change.SetItem.{SetItem}
 use Rattle.gql_ast.specs.declared.change.SetItem.TheVariants as set_item
 use Rattle.gql_ast.specs.declared.fault.DataFault.{DataFault}
 use Rattle.gql_ast.specs.declared.fault.DataFault.TheVariants as fault
-use Rattle.gql_eval.specs.Next.{next}
+use Rattle.gql_eval.specs.Machinery.Next.{next}
 use Rattle.gql_change.specs.RowSteps.{RowList, each_some}
 use Rattle.gql_change.specs.Storing.{stored}
 use Rattle.gql_change.specs.Assignments.{on, target_in, set_property, set_by, removed_by, set_assignments, remove_assignments}

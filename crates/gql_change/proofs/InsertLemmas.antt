@@ -20,7 +20,7 @@ use Rattle.gql_ast.specs.declared.change.Fill.{Fill}
 use Rattle.gql_ast.specs.declared.filler.MapItem.{MapItem}
 use Rattle.gql_ast.specs.declared.refusal.ElemKind.{ElemKind}
 use Rattle.gql_ast.specs.declared.refusal.ElemKind.TheVariants as sort
-use Rattle.gql_eval.specs.Places.{place_among}
+use Rattle.gql_eval.specs.Machinery.Places.{place_among}
 use Rattle.gql_eval.proofs.ScopeLemmas.{place_below}
 use Rattle.gql_graph.specs.Edits.{with_nodes, can_act}
 use Rattle.gql_graph.specs.declared.change.Change.{Change}

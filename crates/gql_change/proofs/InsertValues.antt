@@ -22,7 +22,7 @@ use Rattle.gql_ast.specs.declared.change.Fill.{Fill}
 use Rattle.gql_ast.specs.declared.filler.MapItem.{MapItem}
 use Rattle.gql_ast.specs.declared.fault.DataFault.{DataFault}
 use Rattle.gql_ast.specs.declared.fault.DataFault.TheVariants as fault
-use Rattle.gql_eval.specs.Places.{place_among}
+use Rattle.gql_eval.specs.Machinery.Places.{place_among}
 use Rattle.gql_eval.proofs.ScopeLemmas.{place_below}
 use Rattle.gql_change.specs.Noting.{earlier}
 use Rattle.gql_change.specs.Storing.{PropertyList, stored}

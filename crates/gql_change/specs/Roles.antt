@@ -16,7 +16,7 @@ use Rattle.gql_ast.specs.ClauseColumns.{ColumnList}
 use Rattle.gql_ast.specs.InsertColumns.{Spots, with_variable}
 use Rattle.gql_ast.specs.declared.filler.MapItem.{MapItem}
 use Rattle.gql_ast.specs.declared.fault.DataFault.{DataFault}
-use Rattle.gql_eval.specs.Places.{place_among}
+use Rattle.gql_eval.specs.Machinery.Places.{place_among}
 use Rattle.gql_change.specs.RowSteps.{RowList}
 use Rattle.gql_change.specs.Storing.{PropertyList, stored}
 use Rattle.gql_change.specs.Insertion.{items_in, map_values, node_there}

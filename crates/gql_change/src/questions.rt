@@ -2,7 +2,7 @@
 
 ghost use Rattle.std.specs.Prelude.{◌≡◌, [], ◌∷◌, ◌++◌, map, IfOk, OnOk};
 ghost use Rattle.gql_ast.specs.InsertColumns.{insert_spots, path_spots, spot_columns, with_variable};
-ghost use Rattle.gql_eval.specs.Places.{place_among};
+ghost use Rattle.gql_eval.specs.Machinery.Places.{place_among};
 ghost use Rattle.gql_change.specs.Insertion.{items_in};
 ghost use Rattle.gql_change.specs.Roles.{question_of, questions, role_of, role_there};
 

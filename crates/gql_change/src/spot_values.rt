@@ -5,7 +5,7 @@ ghost use Rattle.gql_values3.specs.Meaning.{datum_of};
 ghost use Rattle.gql_ast.specs.ElementTests.{element_in};
 ghost use Rattle.gql_ast.specs.Faults.{each};
 ghost use Rattle.gql_eval.specs.Gives.{Gives};
-ghost use Rattle.gql_eval.specs.Next.{next};
+ghost use Rattle.gql_eval.specs.Machinery.Next.{next};
 ghost use Rattle.gql_change.specs.Insertion.{node_there};
 ghost use Rattle.gql_change.specs.Roles.{datum_at, line_of, lines_of, looked_at, question_of, spot_of};
 

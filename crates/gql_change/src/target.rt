@@ -13,7 +13,7 @@ use gql_values3::{Columns, Elem, Row, Text, Value, View};
 use std::alloc::Global;
 
 /// The element that a name of a row stands for, or its fault: it is no element, or was deleted. None is NULL.
-#[tactic(auto, using(gql_eval::proofs::ScopeLemmas::append_none), unfolding(gql_eval::specs::ScopeMeaning::scope_of, gql_eval::specs::ScopeMeaning::rest_of))]
+#[tactic(auto, using(gql_eval::proofs::ScopeLemmas::append_none), unfolding(gql_eval::specs::Machinery::ScopeMeaning::scope_of, gql_eval::specs::Machinery::ScopeMeaning::rest_of))]
 pub fn target_in<V: View>(
     alloc: Global,
     view: &V,

@@ -3,7 +3,7 @@ use Rattle.std.proofs.Common.{◌≡◌, ℕ, suc, ◌<◌, ◌+◌, List, [], �
 use Rattle.std.proofs.Math.Seq.{drop-cons}
 use Rattle.gql_ast.specs.declared.fault.DataFault.{DataFault}
 use Rattle.gql_ast.specs.Faults.{each}
-use Rattle.gql_eval.specs.Next.{next}
+use Rattle.gql_eval.specs.Machinery.Next.{next}
 use Rattle.gql_eval.specs.Gives.{Gives, Fails}
 use Rattle.gql_eval.specs.declared.error.EvalError.{EvalError}
 use Rattle.gql_eval.specs.declared.error.EvalError.TheVariants as error

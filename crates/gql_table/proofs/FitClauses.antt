@@ -21,7 +21,7 @@ use Rattle.gql_ast.specs.declared.clause.LetItem.{LetItem}
 use Rattle.gql_ast.specs.declared.page.Page.{Page}
 use Rattle.gql_ast.specs.declared.page.Page.TheVariants as page
 use Rattle.gql_ast.specs.ClauseColumns.{ColumnList, let_columns, counter_column, for_columns}
-use Rattle.gql_eval.specs.Next.{next}
+use Rattle.gql_eval.specs.Machinery.Next.{next}
 use Rattle.gql_table.specs.Tables.{RowList}
 use Rattle.gql_table.specs.Let.{let_row, let_rows}
 use Rattle.gql_table.specs.Filter.{filter_row, filter_rows, kept_if}

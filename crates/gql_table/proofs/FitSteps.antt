@@ -13,7 +13,7 @@ use Rattle.gql_ast.specs.declared.fault.DataFault.{DataFault}
 use Rattle.gql_ast.specs.declared.page.SortItem.{SortItem}
 use Rattle.gql_ast.specs.declared.page.RowCount.{RowCount}
 use Rattle.gql_ast.specs.ClauseColumns.{ColumnList}
-use Rattle.gql_eval.specs.Next.{next}
+use Rattle.gql_eval.specs.Machinery.Next.{next}
 use Rattle.gql_table.specs.Tables.{RowList, each_some, joined_lists}
 use Rattle.gql_table.specs.Distinct.{same_row, distinct_rows}
 use Rattle.gql_table.specs.Sorting.{inserted, sorted, sorted_by_keys, keys_cmp}

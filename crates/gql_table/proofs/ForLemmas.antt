@@ -5,7 +5,7 @@ use Rattle.gql_ast.specs.declared.fault.DataFault.{DataFault}
 use Rattle.gql_ast.specs.declared.clause.Counting.{Counting}
 use Rattle.gql_ast.specs.Operators.{counted}
 use Rattle.gql_eval.specs.Gives.{Fails}
-use Rattle.gql_eval.specs.Next.{next}
+use Rattle.gql_eval.specs.Machinery.Next.{next}
 use Rattle.gql_eval.specs.declared.error.EvalError.{EvalError}
 use Rattle.gql_table.specs.Tables.{RowList}
 use Rattle.gql_table.specs.For.{item_rows}

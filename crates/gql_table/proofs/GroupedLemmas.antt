@@ -9,7 +9,7 @@ use Rattle.gql_ast.specs.Faults.{each}
 use Rattle.gql_ast.specs.ClauseColumns.{ColumnList}
 use Rattle.gql_ast.specs.Projections.{is_key}
 use Rattle.gql_ast.specs.declared.fault.DataFault.{DataFault}
-use Rattle.gql_eval.specs.Next.{next}
+use Rattle.gql_eval.specs.Machinery.Next.{next}
 use Rattle.gql_table.specs.Tables.{RowList}
 use Rattle.gql_table.specs.Distinct.{same_row, distinct_rows}
 use Rattle.gql_table.specs.Places.{among}

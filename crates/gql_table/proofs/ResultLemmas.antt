@@ -18,7 +18,7 @@ use Rattle.gql_ast.specs.ClauseColumns.{ColumnList}
 use Rattle.gql_ast.specs.Projections.{has_none, is_key}
 use Rattle.gql_ast.specs.RowAggregates.{RowAggregate, row_aggregates, around, result_name}
 use Rattle.gql_ast.specs.declared.fault.DataFault.{DataFault}
-use Rattle.gql_eval.specs.Next.{next}
+use Rattle.gql_eval.specs.Machinery.Next.{next}
 use Rattle.gql_table.specs.Tables.{RowList}
 use Rattle.gql_table.specs.Sorting.{first_key, later_keys}
 use Rattle.gql_table.specs.Grouping.{Note, key_in, notes_at, results, result_columns, group_part, group_parts, item_value, item_values}

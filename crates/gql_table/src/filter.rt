@@ -7,7 +7,7 @@ ghost use Rattle.gql_ast.specs.Scope.{row_scope};
 ghost use Rattle.gql_ast.specs.Evaluation.{value_of};
 ghost use Rattle.gql_ast.specs.TruthValues.{truth_in};
 ghost use Rattle.gql_eval.specs.Gives.{Gives};
-ghost use Rattle.gql_eval.specs.Next.{next};
+ghost use Rattle.gql_eval.specs.Machinery.Next.{next};
 ghost use Rattle.gql_table.specs.Filter.{filter_rows, kept_if};
 
 use crate::cells::cell;

@@ -1,5 +1,5 @@
 use Rattle.std.proofs.Common.{◌≡◌, ◌++◌, map, drop, Ok}
-use Rattle.gql_eval.specs.Next.{next}
+use Rattle.gql_eval.specs.Machinery.Next.{next}
 use Rattle.gql_change.specs.Insertion.{map_values}
 use Rattle.gql_change.specs.Roles.{pair_of}
 use Rattle.gql_change.proofs.map_values.map_values.Given as goal

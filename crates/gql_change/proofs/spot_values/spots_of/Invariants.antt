@@ -1,6 +1,6 @@
 use Rattle.std.proofs.Common.{◌≡◌, ◌++◌, map, drop, Ok}
 use Rattle.gql_ast.specs.Faults.{each}
-use Rattle.gql_eval.specs.Next.{next}
+use Rattle.gql_eval.specs.Machinery.Next.{next}
 use Rattle.gql_change.specs.Roles.{question_of, spot_of}
 use Rattle.gql_change.proofs.spot_values.spots_of.Given as goal
 

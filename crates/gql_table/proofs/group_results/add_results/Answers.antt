@@ -7,7 +7,7 @@ use Rattle.gql_values3.specs.Datum.{is_null}
 use Rattle.gql_values3.specs.declared.value.Value.{Value}
 use Rattle.gql_ast.specs.Aggregates.{considered, aggregated}
 use Rattle.gql_eval.specs.Gives.{Fails}
-use Rattle.gql_eval.specs.Next.{next}
+use Rattle.gql_eval.specs.Machinery.Next.{next}
 use Rattle.gql_table.specs.Tables.{RowList}
 use Rattle.gql_table.specs.Grouping.{results}
 use Rattle.gql_table.specs.AggregateMeaning.{aggregate_meant}

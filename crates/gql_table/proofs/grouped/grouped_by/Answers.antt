@@ -6,7 +6,7 @@ use Rattle.gql_ast.specs.Faults.{each}
 use Rattle.gql_ast.specs.declared.expr.Expr.{Expr}
 use Rattle.gql_ast.specs.declared.fault.DataFault.{DataFault}
 use Rattle.gql_eval.specs.Gives.{Gives, Fails}
-use Rattle.gql_eval.specs.Next.{next}
+use Rattle.gql_eval.specs.Machinery.Next.{next}
 use Rattle.gql_table.specs.Tables.{RowList}
 use Rattle.gql_table.specs.Grouping.{grouped_rows}
 use Rattle.gql_table.specs.GroupPlan.{ItemPlan, Gathered, has_key, all_groups, rows_kept_behind, row_of_group, rows_of_groups}

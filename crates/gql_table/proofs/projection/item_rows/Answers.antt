@@ -6,7 +6,7 @@ use Rattle.gql_ast.specs.declared.fault.DataFault.{DataFault}
 use Rattle.gql_ast.specs.declared.projection.ReturnItem.{ReturnItem}
 use Rattle.gql_ast.specs.declared.projection.ReturnItems.{ReturnItems}
 use Rattle.gql_eval.specs.Gives.{Gives}
-use Rattle.gql_eval.specs.Next.{next}
+use Rattle.gql_eval.specs.Machinery.Next.{next}
 use Rattle.gql_table.specs.Tables.{RowList}
 use Rattle.gql_table.specs.Paging.{Sortable}
 use Rattle.gql_table.specs.Projection.{row_outputs, output_row}

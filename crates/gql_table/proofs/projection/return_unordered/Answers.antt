@@ -7,7 +7,7 @@ use Rattle.gql_ast.specs.declared.fault.DataFault.{DataFault}
 use Rattle.gql_ast.specs.declared.projection.ReturnItem.{ReturnItem}
 use Rattle.gql_ast.specs.declared.projection.ReturnItems.TheVariants.{Listed}
 use Rattle.gql_eval.specs.Gives.{Gives, Fails}
-use Rattle.gql_eval.specs.Next.{next}
+use Rattle.gql_eval.specs.Machinery.Next.{next}
 use Rattle.gql_table.specs.Tables.{RowList}
 use Rattle.gql_table.specs.Paging.{cut, paged}
 use Rattle.gql_table.specs.Width.{seen}
