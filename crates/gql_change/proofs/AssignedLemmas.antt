@@ -16,7 +16,7 @@ use Rattle.gql_ast.specs.ElementTests.{is_there}
 use Rattle.gql_change.specs.Storing.{PropertyList}
 use Rattle.gql_change.specs.Conflicts.{same_elem}
 use Rattle.gql_change.specs.AssignedGraph.{acts_on, properties_after, labels_after, node_after, edge_after, assigned}
-use Rattle.gql_change.specs.Swaps.{act_fits, fits, all_fit, others}
+use Rattle.gql_change.specs.Machinery.Swaps.{act_fits, fits, all_fit, others}
 use Rattle.gql_change.specs.declared.assignment.Act.{Act}
 use Rattle.gql_change.specs.declared.assignment.Act.TheVariants as act
 use Rattle.gql_change.specs.declared.assignment.Assignment.{Assignment}

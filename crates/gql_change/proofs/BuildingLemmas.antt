@@ -17,13 +17,14 @@ use Rattle.gql_ast.specs.ElementTests.{is_there}
 use Rattle.gql_change.specs.Conflicts.{elem_cmp, same_elem}
 use Rattle.gql_change.specs.AssignedGraph.{acts_on, node_after, edge_after, assigned}
 use Rattle.gql_change.specs.Plans.{LeadTo}
-use Rattle.gql_change.specs.Swaps.{swaps, act_fits, fits, all_fit, others}
-use Rattle.gql_change.specs.Building.{sorted, target_before, Built, built_with, built, built_from}
+use Rattle.gql_change.specs.Machinery.Swaps.{swaps, act_fits, fits, all_fit, others}
+use Rattle.gql_eval.specs.StableSort.{stably_sorted}
+use Rattle.gql_change.specs.Machinery.Building.{target_before, Built, built_with, built, built_from}
 use Rattle.gql_change.specs.declared.assignment.Act.{Act}
 use Rattle.gql_change.specs.declared.assignment.Act.TheVariants as act
 use Rattle.gql_change.specs.declared.assignment.Assignment.{Assignment}
 use Rattle.gql_change.proofs.StoringLemmas.{both_true, left_true, right_true}
-use Rattle.gql_change.proofs.StableSort.{Ascends, NoneLess, itself, sorted_ascends, sorted_ties, sorted_all}
+use Rattle.gql_eval.proofs.StableSort.{Ascends, NoneLess, itself, sorted_ascends, sorted_ties, sorted_all}
 use Rattle.gql_change.proofs.ConflictLemmas.{elem_total}
 use Rattle.gql_change.proofs.AssignedLemmas.{same_elem_is, same_elem_itself}
 use Rattle.gql_change.proofs.SwapLemmas.{swaps_lead, leads_append, nothing_leads}
@@ -55,13 +56,13 @@ abbrev some_act : Elem → Assignment
 some_act e = record { target = e; act = act.Label [] }
 
 -- the acts on an element stand as they stood
-acts_on-sorted : (e : Elem) (xs : List Assignment) → acts_on e (sorted target_before xs) ≡ acts_on e xs
+acts_on-sorted : (e : Elem) (xs : List Assignment) → acts_on e (stably_sorted target_before xs) ≡ acts_on e xs
 acts_on-sorted e xs =
     ap (map (λ (a : Assignment). a.act))
-    (subst (λ (p : Assignment → Bool). filter p (sorted target_before xs) ≡ filter p xs) (λ i (a : Assignment). elem_ties e a.target i)
+    (subst (λ (p : Assignment → Bool). filter p (stably_sorted target_before xs) ≡ filter p xs) (λ i (a : Assignment). elem_ties e a.target i)
     (sorted_ties target_before targets_ordered (some_act e) xs))
 
-pub assigned-sorted : (g : PropertyGraph) (xs : List Assignment) → assigned (sorted target_before xs) g ≡ assigned xs g
+pub assigned-sorted : (g : PropertyGraph) (xs : List Assignment) → assigned (stably_sorted target_before xs) g ≡ assigned xs g
 assigned-sorted g xs = λ i. record {
   nodes = map (λ (r : NodeRecord). node_after (acts_on-sorted (elem.Node r.number) xs i) r) g.nodes;
   edges = map (λ (r : EdgeRecord). edge_after (acts_on-sorted (elem.Edge r.number) xs i) r) g.edges;
@@ -236,7 +237,7 @@ module _ (g : PropertyGraph) (one : is_graph g ≡ true) where
       subst (λ (x : Assignment). LeadTo g (built g (built_from x.target) (a ∷ more)) (assigned (a ∷ more) g)) same (in_order_leads a more k up)
 
   -- what is built of the acts in order leads to the graph behind the acts as they were given
-  pub sorted_leads : (xs ys : List Assignment) (f : Assignment) → ys ≡ sorted target_before xs → Some f ≡ slice_get ys 0 → all_fit g xs ≡ true
+  pub sorted_leads : (xs ys : List Assignment) (f : Assignment) → ys ≡ stably_sorted target_before xs → Some f ≡ slice_get ys 0 → all_fit g xs ≡ true
       → LeadTo g (built g (built_from f.target) ys) (assigned xs g)
   sorted_leads xs ys f e p k =
       let fit : all_fit g ys ≡ true = ap (all_fit g) e ∙ sorted_all target_before (fits g) xs k in
@@ -248,7 +249,7 @@ module _ (g : PropertyGraph) (one : is_graph g ≡ true) where
   nothing_case [] p = nothing_leads g
   nothing_case (y ∷ ys) p = absurd (cc)
 
-  pub none_leads : (xs ys : List Assignment) → ys ≡ sorted target_before xs → None ≡ slice_get ys 0 → LeadTo g [] (assigned xs g)
+  pub none_leads : (xs ys : List Assignment) → ys ≡ stably_sorted target_before xs → None ≡ slice_get ys 0 → LeadTo g [] (assigned xs g)
   none_leads xs ys e p = subst (LeadTo g []) (ap (λ (l : List Assignment). assigned l g) e ∙ assigned-sorted g xs) (nothing_case ys p)
 
 -- what one thing has, what was answered has

@@ -21,11 +21,11 @@ use Rattle.gql_ast.specs.declared.change.SetItem.TheVariants as set_item
 use Rattle.gql_ast.specs.declared.fault.DataFault.{DataFault}
 use Rattle.gql_ast.specs.declared.fault.DataFault.TheVariants as fault
 use Rattle.gql_eval.specs.Machinery.Next.{next}
-use Rattle.gql_change.specs.RowSteps.{RowList, each_some}
+use Rattle.gql_eval.specs.RowLists.{RowList, each_some}
 use Rattle.gql_change.specs.Storing.{stored}
 use Rattle.gql_change.specs.Assignments.{on, target_in, set_property, set_by, removed_by, set_assignments, remove_assignments}
 use Rattle.gql_values3.specs.Meaning.{as_value}
-use Rattle.gql_change.specs.Swaps.{act_fits, fits, all_fit}
+use Rattle.gql_change.specs.Machinery.Swaps.{act_fits, fits, all_fit}
 use Rattle.gql_change.specs.declared.assignment.Act.{Act}
 use Rattle.gql_change.specs.declared.assignment.Act.TheVariants as act
 use Rattle.gql_change.specs.declared.assignment.Assignment.{Assignment}

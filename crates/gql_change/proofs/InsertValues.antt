@@ -24,15 +24,15 @@ use Rattle.gql_ast.specs.declared.fault.DataFault.{DataFault}
 use Rattle.gql_ast.specs.declared.fault.DataFault.TheVariants as fault
 use Rattle.gql_eval.specs.Machinery.Places.{place_among}
 use Rattle.gql_eval.proofs.ScopeLemmas.{place_below}
-use Rattle.gql_change.specs.Noting.{earlier}
+use Rattle.gql_change.specs.Machinery.Noting.{earlier}
 use Rattle.gql_change.specs.Storing.{PropertyList, stored}
 use Rattle.gql_change.specs.Insertion.{items_in, refers, map_values, node_there, endpoint, spot_values, spots_values}
-use Rattle.gql_change.specs.Roles.{Question, questions, datum_at, role_at, role_of, looked_at, item_value, spot_of, line_of}
+use Rattle.gql_change.specs.Machinery.Roles.{Question, questions, datum_at, role_at, role_of, looked_at, item_value, spot_of, line_of}
 use Rattle.gql_change.specs.declared.role.Role.{Role}
 use Rattle.gql_change.specs.declared.role.Role.TheVariants as role
-use Rattle.gql_change.specs.declared.spot.Line.{Line}
-use Rattle.gql_change.specs.declared.spot.Spot.{Spot}
-use Rattle.gql_change.specs.declared.spot.Spot.TheVariants as spot
+use Rattle.gql_change.specs.declared.row_spots.Line.{Line}
+use Rattle.gql_change.specs.declared.row_spots.Spot.{Spot}
+use Rattle.gql_change.specs.declared.row_spots.Spot.TheVariants as spot
 use Rattle.gql_change.proofs.PlaceOfName.{a_column, no_column, column_placed}
 use Rattle.gql_change.proofs.NamedPlaces.{datum_named, place_in_two, refers_to, is_reference}
 use Rattle.gql_change.proofs.StoringLemmas.{both_true}

@@ -8,8 +8,8 @@ use Rattle.std.proofs.lemmas.Bool.Decides.{nat_tests}
 use Rattle.std.proofs.lemmas.List.Sorted.{list_any-IsPermutation, searched}
 use Rattle.std.proofs.lemmas.Map.Keys.{IsStrictlyIncreasing-dedup}
 use Rattle.gql_values3.specs.PropertyGraph.{numbers_ascend}
-use Rattle.gql_change.specs.Rising.{rises_above, rises}
-use Rattle.gql_change.specs.DeletionSteps.{has_number}
+use Rattle.gql_change.specs.Machinery.Rising.{rises_above, rises}
+use Rattle.gql_change.specs.Machinery.DeletionSteps.{has_number}
 use Rattle.gql_change.proofs.ApplyLemmas.{first_true, second_true, both_true}
 
 pub eqb_sym : (m n : ℕ) → eqb m n ≡ eqb n m

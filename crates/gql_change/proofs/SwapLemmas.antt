@@ -21,7 +21,7 @@ use Rattle.gql_graph.specs.declared.change.Change.{Change}
 use Rattle.gql_graph.specs.declared.change.Change.TheVariants as change
 use Rattle.gql_change.specs.AssignedGraph.{acts_on, properties_after, labels_after, node_after, edge_after, assigned}
 use Rattle.gql_change.specs.Plans.{LeadTo}
-use Rattle.gql_change.specs.Swaps.{swap_edge, swaps, all_fit, others}
+use Rattle.gql_change.specs.Machinery.Swaps.{swap_edge, swaps, all_fit, others}
 use Rattle.gql_change.specs.declared.assignment.Act.{Act}
 use Rattle.gql_change.specs.declared.assignment.Assignment.{Assignment}
 use Rattle.gql_change.proofs.StoringLemmas.{both_true, left_true, right_true}

@@ -17,8 +17,8 @@ use Rattle.gql_values3.specs.declared.records.NodeRecord.{NodeRecord}
 use Rattle.gql_values3.specs.declared.records.EdgeRecord.{EdgeRecord}
 use Rattle.gql_graph.specs.Edits.{taken_out, node_key, edge_key, with_nodes, with_edges, changed, has_edge, can_act, can_act_each, changed_by_each}
 use Rattle.gql_graph.specs.declared.change.Change.{Change}
-use Rattle.gql_change.specs.Rising.{rises}
-use Rattle.gql_change.specs.DeletionSteps.{has_number, edge_out, node_out}
+use Rattle.gql_change.specs.Machinery.Rising.{rises}
+use Rattle.gql_change.specs.Machinery.DeletionSteps.{has_number, edge_out, node_out}
 use Rattle.gql_change.proofs.ApplyLemmas.{first_true, second_true, both_true, can_act_each-append, changed_by_each-append}
 use Rattle.gql_change.proofs.RisingLemmas.{eqb_same, not_among, rises_tail}
 

@@ -4,15 +4,15 @@ ghost use Rattle.std.specs.Prelude.{◌≡◌, [], map};
 ghost use Rattle.gql_values3.specs.Meaning.{datum_of};
 ghost use Rattle.gql_ast.specs.ElementTests.{element_in};
 ghost use Rattle.gql_ast.specs.Faults.{each};
-ghost use Rattle.gql_eval.specs.Gives.{Gives};
+ghost use Rattle.gql_eval.specs.Gives.{Gives, GivesExactly};
 ghost use Rattle.gql_eval.specs.Machinery.Next.{next};
 ghost use Rattle.gql_change.specs.Insertion.{node_there};
-ghost use Rattle.gql_change.specs.Roles.{datum_at, line_of, lines_of, looked_at, question_of, spot_of};
+ghost use Rattle.gql_change.specs.Machinery.Roles.{datum_at, line_of, lines_of, looked_at, question_of, spot_of};
 
-use crate::asked::Asked;
+use crate::spot_question::SpotQuestion;
 use crate::map_values::map_values;
 use crate::role::Role;
-use crate::spot::{Line, Spot};
+use crate::row_spots::{Line, Spot};
 use gql_ast::DataFault;
 use gql_eval::{EvalError, Heading};
 use gql_values3::{Params, Row, Rows, Sequence, Value, View};
@@ -25,7 +25,7 @@ pub fn lines_of<V: View>(
     heading: &Heading,
     rows: Rows,
     params: &Params,
-    asked: &[Asked],
+    asked: &[SpotQuestion],
 ) -> Result<Sequence<Line>, EvalError>
     ensures { Gives (λ ls. ls) result (lines_of (V.graph view.now) params.now heading.now (map question_of asked.now) rows) }
 {
@@ -44,7 +44,7 @@ fn line_of<V: View>(
     heading: &Heading,
     row: Row,
     params: &Params,
-    asked: &[Asked],
+    asked: &[SpotQuestion],
 ) -> Result<Line, EvalError>
     ensures { Gives (λ l. l) result (line_of (V.graph view.now) params.now heading.now row (map question_of asked.now)) }
 {
@@ -58,7 +58,7 @@ fn spots_of<V: View>(
     heading: &Heading,
     row: &Row,
     params: &Params,
-    asked: &[Asked],
+    asked: &[SpotQuestion],
 ) -> Result<Sequence<Spot>, EvalError>
     ensures { Gives (λ ss. ss) result (each (spot_of (V.graph view.now) params.now heading.now row.now) (map question_of asked.now)) }
 {
@@ -76,7 +76,7 @@ fn spot_of<V: View>(
     heading: &Heading,
     row: &Row,
     params: &Params,
-    asked: &Asked,
+    asked: &SpotQuestion,
 ) -> Result<Spot, EvalError>
     ensures { Gives (λ s. s) result (spot_of (V.graph view.now) params.now heading.now row.now (question_of asked.now)) }
 {
@@ -93,38 +93,38 @@ fn spot_of<V: View>(
 }
 
 /// Looks at the node of an incoming column; one of this clause is sure.
-fn look_at<V: View>(view: &V, heading: &Heading, row: &Row, place: usize) -> Result<(), EvalError>
-    ensures { Gives (λ _. []) result (looked_at (V.graph view.now) [] heading.now row.now place) }
+fn look_at<V: View>(view: &V, heading: &Heading, row: &Row, place: usize) -> Result<(), DataFault>
+    ensures { GivesExactly (λ _. []) result (looked_at (V.graph view.now) [] heading.now row.now place) }
 {
     if place >= heading.columns().len() {
         return Ok(());
     }
     let row = row.as_slice();
     if place >= row.len() {
-        return Err(EvalError::Fault(DataFault::WrongKind));
+        return Err(DataFault::WrongKind);
     }
     node_there(view, &row[place])
 }
 
 /// The value must be a node that is in the graph.
-fn node_there<V: View>(view: &V, value: &Value) -> Result<(), EvalError>
-    ensures { Gives (λ _. []) result (next (element_in (V.graph view.now) (datum_of value.now)) (node_there (V.graph view.now) [] [] [])) }
+fn node_there<V: View>(view: &V, value: &Value) -> Result<(), DataFault>
+    ensures { GivesExactly (λ _. []) result (next (element_in (V.graph view.now) (datum_of value.now)) (node_there (V.graph view.now) [] [] [])) }
 {
     match value {
         Value::Node(node) => {
             if view.has_node(*node) {
                 Ok(())
             } else {
-                Err(EvalError::Fault(DataFault::Deleted))
+                Err(DataFault::Deleted)
             }
         }
         Value::Edge(edge) => {
             if view.ends(*edge).is_some() {
-                Err(EvalError::Fault(DataFault::WrongKind))
+                Err(DataFault::WrongKind)
             } else {
-                Err(EvalError::Fault(DataFault::Deleted))
+                Err(DataFault::Deleted)
             }
         }
-        _ => Err(EvalError::Fault(DataFault::WrongKind)),
+        _ => Err(DataFault::WrongKind),
     }
 }

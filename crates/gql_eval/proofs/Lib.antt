@@ -10,3 +10,5 @@ pub mod AggregateLemmas
 pub mod EvaluationLemmas
 pub mod ExtremeLemmas
 pub mod StableSort
+pub mod EachSteps
+pub mod RowFits

@@ -18,7 +18,7 @@ use gql_ast::{DataFault, EdgeEnd, LabelExpr, Quality};
 use gql_values3::{Elem, Ends, NodeId, Text, Value, View};
 
 /// The element, if it is in the graph.
-pub fn alive<V: View>(view: &V, elem: Elem) -> Result<Elem, DataFault>
+fn alive<V: View>(view: &V, elem: Elem) -> Result<Elem, DataFault>
     ensures { GivesExactly (λ e. e) result (undeleted (V.graph view.now) elem) }
 {
     let there = match elem {
@@ -33,7 +33,7 @@ pub fn alive<V: View>(view: &V, elem: Elem) -> Result<Elem, DataFault>
 }
 
 /// The element that a value is; None is NULL.
-fn element<V: View>(view: &V, value: &Value) -> Result<Option<Elem>, DataFault>
+pub fn element_in<V: View>(view: &V, value: &Value) -> Result<Option<Elem>, DataFault>
     ensures { GivesExactly (λ e. e) result (element_in (V.graph view.now) (datum_of value.now)) }
 {
     match value {
@@ -85,7 +85,7 @@ pub fn labeled<V: View>(
 ) -> Result<Option<bool>, DataFault>
     ensures { GivesExactly (λ b. b) result (labeled_value (V.graph view.now) (datum_of value.now) (label_of labels.now)) }
 {
-    match element(view, value)? {
+    match element_in(view, value)? {
         None => Ok(None),
         Some(elem) => Ok(Some(satisfies(view, elem, labels))),
     }

@@ -30,7 +30,7 @@ mod truths;
 pub use aggregates::{aggregate_of, extremes_of_values};
 pub use arithmetic::count_value;
 pub use cow::CowValue;
-pub use elements::alive;
+pub use elements::element_in;
 pub use error::EvalError;
 pub use evaluation::value_in;
 pub use groups::group_name;

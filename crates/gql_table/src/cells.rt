@@ -8,9 +8,7 @@ ghost use Rattle.gql_ast.specs.Evaluation.{value_of};
 ghost use Rattle.gql_eval.specs.Gives.{Gives};
 
 use gql_ast::Expr;
-use gql_eval::EvalError;
-use gql_eval::evaluation::value_in;
-use gql_eval::scope::{Header, Scope};
+use gql_eval::{EvalError, Header, Scope, value_in};
 use gql_values3::{ColumnKind, Params, Text, Value, View};
 use std::alloc::Global;
 

@@ -12,8 +12,7 @@ ghost use Rattle.gql_table.specs.Filter.{filter_rows, kept_if};
 
 use crate::cells::cell;
 use gql_ast::Expr;
-use gql_eval::EvalError;
-use gql_eval::truths::truth_of_value;
+use gql_eval::{EvalError, truth_of_value};
 use gql_values3::{Columns, OutOfMemory, Params, Row, Rows, Truth, View};
 use std::alloc::Global;
 
@@ -55,7 +54,7 @@ fn truth_at<V: View>(
         params,
         condition,
     )?;
-    truth_of_value(&value)
+    Ok(truth_of_value(&value)?)
 }
 
 /// Adds the row at True alone.

@@ -3,8 +3,8 @@
 ghost use Rattle.std.specs.Prelude.{◌≡◌, length, map, IfOk};
 ghost use Rattle.gql_ast.specs.Meaning.{tree_of};
 ghost use Rattle.gql_ast.specs.Projections.{has_none};
-ghost use Rattle.gql_table.specs.GroupPlan.{names_from, planned, has_key};
-ghost use Rattle.gql_table.specs.GroupMeaning.{item_meant};
+ghost use Rattle.gql_table.specs.Machinery.GroupPlan.{names_from, planned, has_key};
+ghost use Rattle.gql_table.specs.Machinery.GroupMeaning.{item_meant};
 
 use crate::around::around;
 use crate::blank::blank_row;
