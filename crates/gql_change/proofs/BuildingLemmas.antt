@@ -1,6 +1,7 @@
 -- The changes that are built lead to the definition's graph. The acts are taken in the order of their elements, so when
 -- an element is at hand, none before it comes again; and the order among elements does not matter to the graph.
 use Rattle.std.proofs.Common.{◌≡◌, ℕ, Bool, true, false, cond, not, List, [], ◌∷◌, ◌++◌, map, refl, sym, ap, subst, ◌∙◌, append_assoc, append-nil, arith, Some, None, slice_get, Result, Ok, Err}
+use Rattle.std.proofs.lemmas.Bool.{and_from, and_parts}
 use Rattle.std.specs.Result.{IfOk}
 use Rattle.std.specs.Prelude.{◌&&◌, ◌==◌, filter}
 use Rattle.std.specs.List.{AllByRecursion}
@@ -23,7 +24,6 @@ use Rattle.gql_change.specs.Machinery.Building.{target_before, Built, built_with
 use Rattle.gql_change.specs.declared.assignment.Act.{Act}
 use Rattle.gql_change.specs.declared.assignment.Act.TheVariants as act
 use Rattle.gql_change.specs.declared.assignment.Assignment.{Assignment}
-use Rattle.gql_change.proofs.StoringLemmas.{both_true, left_true, right_true}
 use Rattle.gql_eval.proofs.StableSort.{Ascends, NoneLess, itself, sorted_ascends, sorted_ties, sorted_all}
 use Rattle.gql_change.proofs.ConflictLemmas.{elem_total}
 use Rattle.gql_change.proofs.AssignedLemmas.{same_elem_is, same_elem_itself}
@@ -137,9 +137,9 @@ acts_on-none e (x ∷ xs) none = first_act false x xs e none.0 ∙ acts_on-none 
 
 module _ (g : PropertyGraph) (one : is_graph g ≡ true) where
   all_fit-push : (xs : List Assignment) (a : Assignment) → all_fit g xs ≡ true → fits g a ≡ true → all_fit g (xs ++ a ∷ []) ≡ true
-  all_fit-push [] a h k = both_true (fits g a) true k refl
+  all_fit-push [] a h k = and_from (fits g a) true k refl
   all_fit-push (x ∷ xs) a h k =
-      both_true (fits g x) (all_fit g (xs ++ a ∷ [])) (left_true (fits g x) (all_fit g xs) h) (all_fit-push xs a (right_true (fits g x) (all_fit g xs) h) k)
+      and_from (fits g x) (all_fit g (xs ++ a ∷ [])) ((and_parts (fits g x) (all_fit g xs) h).0) (all_fit-push xs a ((and_parts (fits g x) (all_fit g xs) h).1) k)
 
   -- what holds while an element is at hand: done are the acts of xs
   pub record AtHand (xs : List Assignment) (b : Built) : Type 0 where
@@ -190,7 +190,7 @@ module _ (g : PropertyGraph) (one : is_graph g ≡ true) where
         leads = subst (λ (l : List Assignment). LeadTo g (b.changes ++ swaps g b.target b.acts) (assigned l g)) (sym left) (ended xs b h);
         acts = sym (acts_on-append a.target xs (a ∷ []) ∙ ap (λ (l : List Act). l ++ acts_on a.target (a ∷ [])) (acts_on-none a.target xs none)
             ∙ first_act true a [] a.target (same_elem_itself a.target));
-        there = left_true (is_there g a.target) (act_fits a.act) k;
+        there = (and_parts (is_there g a.target) (act_fits a.act) k).0;
         fit = all_fit-push xs a h.fit k;
         none_above = all_push (λ (y : Assignment). target_before (some_act a.target) y ≡ false) xs a
             (all_weaker (λ (y : Assignment). target_before (some_act b.target) y ≡ false) (λ (y : Assignment). target_before (some_act a.target) y ≡ false) xs
@@ -211,8 +211,8 @@ module _ (g : PropertyGraph) (one : is_graph g ≡ true) where
       → LeadTo g (built g b rest) (assigned (xs ++ rest) g)
   built_leads [] xs b h k up n = subst (λ (l : List Assignment). LeadTo g (b.changes ++ swaps g b.target b.acts) (assigned l g)) (sym (append-nil xs)) (ended xs b h)
   built_leads (a ∷ more) xs b h k up n =
-      let here : fits g a ≡ true = left_true (fits g a) (all_fit g more) k in
-      let rest : all_fit g more ≡ true = right_true (fits g a) (all_fit g more) k in
+      let here : fits g a ≡ true = (and_parts (fits g a) (all_fit g more) k).0 in
+      let rest : all_fit g more ≡ true = (and_parts (fits g a) (all_fit g more) k).1 in
       let step = step_case (same_elem a.target b.target) xs b a more h here refl n.0 n.1 up.0
       (λ s at m. built_leads more (xs ++ a ∷ []) s at rest up.1 m) in
       subst (λ (l : List Assignment). LeadTo g (built g (built_with g b a) more) (assigned l g)) (append_assoc xs (a ∷ []) more) step
@@ -223,7 +223,7 @@ module _ (g : PropertyGraph) (one : is_graph g ≡ true) where
       let start : AtHand [] (built_from a.target) = record {
         leads = nothing_leads g;
         acts = refl;
-        there = left_true (is_there g a.target) (act_fits a.act) (left_true (fits g a) (all_fit g more) k);
+        there = (and_parts (is_there g a.target) (act_fits a.act) ((and_parts (fits g a) (all_fit g more) k).0)).0;
         fit = refl;
         none_above = tt;
       } in

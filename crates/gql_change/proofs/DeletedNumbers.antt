@@ -1,6 +1,7 @@
 -- Which numbers a deletion takes out: those that are collected are those of the elements that go, and in order they are
 -- one list.
 use Rattle.std.proofs.Common.{◌≡◌, ℕ, Bool, true, false, cond, eqb, ◌&&◌, List, [], ◌∷◌, ◌++◌, map, Some, refl, sym, ap, ◌∙◌}
+use Rattle.std.proofs.lemmas.Bool.{and_parts}
 use Rattle.std.specs.Prelude.{◌||◌, filter, find, is_some}
 use Rattle.std.specs.List.{list_any, list_all, flat_map}
 use Rattle.std.proofs.lemmas.List.Folds.{list_any-append}
@@ -23,7 +24,6 @@ use Rattle.gql_graph.specs.Edits.{node_key, edge_key, has_edge}
 use Rattle.gql_change.specs.Machinery.Rising.{rises}
 use Rattle.gql_change.specs.Deletion.{is_named, end_is_named, edge_goes}
 use Rattle.gql_change.specs.Machinery.DeletionSteps.{has_number, node_there, edge_there, touching_numbers, deleted_nodes, deleted_edges}
-use Rattle.gql_change.proofs.ApplyLemmas.{first_true, second_true}
 use Rattle.gql_change.proofs.RisingLemmas.{eqb_sym, eqb_same, same_numbers, rises_tail, rises_from_graph, rises-filter}
 use Rattle.gql_change.proofs.TakingOut.{node_numbers, edge_numbers, edge_records, has_edge_if}
 
@@ -65,8 +65,8 @@ module _ {X : Type 0} where
   pub list_any_where : (t p q : X → Bool) → ((x : X) → t x ≡ true → p x ≡ q x) → (xs : List X) → list_all t xs ≡ true → list_any p xs ≡ list_any q xs
   list_any_where t p q same [] h = refl
   list_any_where t p q same (x ∷ xs) h =
-      let here = same x (first_true (t x) (list_all t xs) h) in
-      let rest = list_any_where t p q same xs (second_true (t x) (list_all t xs) h) in
+      let here = same x ((and_parts (t x) (list_all t xs) h).0) in
+      let rest = list_any_where t p q same xs ((and_parts (t x) (list_all t xs) h).1) in
       λ i. here i || rest i
 
   list_any_or : (p q t : X → Bool) (xs : List X) → list_any (λ x. (p x || q x) && t x) xs ≡ (list_any (λ x. p x && t x) xs || list_any (λ x. q x && t x) xs)
@@ -184,26 +184,26 @@ module _ (g : PropertyGraph) (es : List Elem) where
       → touched (deleted_nodes es g) (record { number = number; ends = ends; labels = labels; properties = properties }) ≡ end_is_named es ends
   ends_touched number (Directed s t) labels properties there =
       list_any_either (λ m. eqb s.0 m) (λ m. eqb t.0 m) (deleted_nodes es g)
-      ∙ (λ i. end_goes s (first_true (is_among g.nodes s) (is_among g.nodes t) there) i || end_goes t (second_true (is_among g.nodes s) (is_among g.nodes t) there) i)
+      ∙ (λ i. end_goes s ((and_parts (is_among g.nodes s) (is_among g.nodes t) there).0) i || end_goes t ((and_parts (is_among g.nodes s) (is_among g.nodes t) there).1) i)
   ends_touched number (Undirected s t) labels properties there =
-      let both = first_true (is_among g.nodes s && is_among g.nodes t) (nat_le s.0 t.0) there in
+      let both = (and_parts (is_among g.nodes s && is_among g.nodes t) (nat_le s.0 t.0) there).0 in
       list_any_either (λ m. eqb s.0 m) (λ m. eqb t.0 m) (deleted_nodes es g)
-      ∙ (λ i. end_goes s (first_true (is_among g.nodes s) (is_among g.nodes t) both) i || end_goes t (second_true (is_among g.nodes s) (is_among g.nodes t) both) i)
+      ∙ (λ i. end_goes s ((and_parts (is_among g.nodes s) (is_among g.nodes t) both).0) i || end_goes t ((and_parts (is_among g.nodes s) (is_among g.nodes t) both).1) i)
 
   pub touched_named : (r : EdgeRecord) → is_edge_record g.nodes r ≡ true → touched (deleted_nodes es g) r ≡ end_is_named es r.ends
-  touched_named r one = ends_touched r.number r.ends r.labels r.properties (second_true (texts_ascend r.labels && are_properties r.properties) (are_ends g.nodes r.ends) one)
+  touched_named r one = ends_touched r.number r.ends r.labels r.properties ((and_parts (texts_ascend r.labels && are_properties r.properties) (are_ends g.nodes r.ends) one).1)
 
 module _ (g : PropertyGraph) (one : is_graph g ≡ true) (es : List Elem) where
   -- the numbers that go ascend
   pub nodes_rise : rises (deleted_nodes es g) ≡ true
   nodes_rise =
       rises_tail 0 (deleted_nodes es g) (rises-filter node_key (λ (r : NodeRecord). is_named es (elem.Node r.number)) 0 g.nodes
-      (rises_from_graph 0 (map node_key g.nodes) g.next_node (first_true (numbers_ascend 0 (map node_key g.nodes) g.next_node) (nat_lt g.next_node (2 ^ 32)) (node_numbers g one))))
+      (rises_from_graph 0 (map node_key g.nodes) g.next_node ((and_parts (numbers_ascend 0 (map node_key g.nodes) g.next_node) (nat_lt g.next_node (2 ^ 32)) (node_numbers g one)).0)))
 
   pub edges_rise : (d : Detachment) → rises (deleted_edges d es g) ≡ true
   edges_rise d =
       rises_tail 0 (deleted_edges d es g) (rises-filter edge_key (edge_goes d es) 0 g.edges
-      (rises_from_graph 0 (map edge_key g.edges) g.next_edge (first_true (numbers_ascend 0 (map edge_key g.edges) g.next_edge) (nat_lt g.next_edge (2 ^ 32)) (edge_numbers g one))))
+      (rises_from_graph 0 (map edge_key g.edges) g.next_edge ((and_parts (numbers_ascend 0 (map edge_key g.edges) g.next_edge) (nat_lt g.next_edge (2 ^ 32)) (edge_numbers g one)).0)))
 
   -- what is collected, in order, is what goes
   pub nodes_are_going : (ns : List ℕ) → rises ns ≡ true → ((n : ℕ) → has_number ns n ≡ has_number (flat_map (node_there g) es) n) → ns ≡ deleted_nodes es g

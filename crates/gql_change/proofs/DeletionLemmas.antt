@@ -1,5 +1,6 @@
 -- A deletion: the refusal that is found is the definition's, and the changes lead to its graph.
 use Rattle.std.proofs.Common.{◌≡◌, ℕ, suc, ◌+◌, Bool, true, false, not, cond, eqb, ◌&&◌, List, [], ◌∷◌, ◌++◌, map, reverse, Option, Some, None, Result, Ok, Err, slice_get, refl, sym, ap, ◌∙◌, subst, arith, add-zero, zero-add, length}
+use Rattle.std.proofs.lemmas.Bool.{and_from, and_parts}
 use Rattle.std.specs.Prelude.{◌||◌, filter, find, option_map, position, nat_lt, ◌^◌}
 use Rattle.std.specs.List.{list_any, list_all, flat_map, position_from, position_or_len}
 use Rattle.std.proofs.lemmas.Bool.Decides.{nat_tests}
@@ -31,7 +32,7 @@ use Rattle.gql_change.specs.Plans.{LeadTo, Plans}
 use Rattle.gql_change.specs.Machinery.DeletionSteps.{column_place, datum_or_null, value_at, row_elements, has_number, deleted_nodes, deleted_edges, other_edge, refused_at, other_edges, refusal_of, edge_out, node_out, outs, Deletes}
 use Rattle.gql_change.specs.declared.fault.ChangeFault.{ChangeFault}
 use Rattle.gql_change.specs.declared.fault.ChangeFault.TheVariants as fault
-use Rattle.gql_change.proofs.ApplyLemmas.{first_true, second_true, both_true, can_act_each-append, changed_by_each-append}
+use Rattle.gql_change.proofs.ApplyLemmas.{can_act_each-append, changed_by_each-append}
 use Rattle.gql_change.proofs.RisingLemmas.{eqb_same, eqb_refl, not_among, rises_from_graph, rises-filter}
 use Rattle.gql_change.proofs.TakingOut.{list_all_both, list_all_weaker, filter_where, without, ends_stay, node_numbers, edge_numbers, graph_of_edges, edges_out, nodes_out}
 use Rattle.gql_change.proofs.DeletedNumbers.{has_passing, node_found, edge_found, has_named_edge, nodes_rise, edges_rise}
@@ -104,17 +105,17 @@ module _ {X : Type 0} (key : X → ℕ) where
   pub all_own : (xs : List X) → list_all (is_own xs) xs ≡ true
   all_own [] = refl
   all_own (x ∷ xs) =
-      both_true (is_own (x ∷ xs) x) (list_all (is_own (x ∷ xs)) xs) (ap (λ b. b || is_own xs x) (eqb_refl (key x)))
+      and_from (is_own (x ∷ xs) x) (list_all (is_own (x ∷ xs)) xs) (ap (λ b. b || is_own xs x) (eqb_refl (key x)))
       (list_all_weaker (is_own xs) (is_own (x ∷ xs)) (λ y h. or_right (eqb (key y) (key x)) (is_own xs y) h) xs (all_own xs))
 
   -- of items whose numbers ascend, taking out those that have a number of one that passes leaves those that don't pass
   later : (xs : List X) (low : ℕ) → rises_above low (map key xs) ≡ true → list_all (λ x. nat_lt low (key x)) xs ≡ true
   later [] low up = refl
   later (x ∷ xs) low up =
-      let here = first_true (nat_lt low (key x)) (rises_above (key x) (map key xs)) up in
-      both_true (nat_lt low (key x)) (list_all (λ y. nat_lt low (key y)) xs) here
+      let here = (and_parts (nat_lt low (key x)) (rises_above (key x) (map key xs)) up).0 in
+      and_from (nat_lt low (key x)) (list_all (λ y. nat_lt low (key y)) xs) here
       (list_all_weaker (λ y. nat_lt (key x) (key y)) (λ y. nat_lt low (key y)) (λ y h. grind (arith, nat_tests, here, h)) xs
-      (later xs (key x) (second_true (nat_lt low (key x)) (rises_above (key x) (map key xs)) up)))
+      (later xs (key x) ((and_parts (nat_lt low (key x)) (rises_above (key x) (map key xs)) up).1)))
 
   pub without_passing : (p : X → Bool) (xs : List X) (low : ℕ) → rises_above low (map key xs) ≡ true → without key (map key (filter p xs)) xs ≡ filter (λ x. not (p x)) xs
   without_passing p [] low up = refl
@@ -125,7 +126,7 @@ module _ {X : Type 0} (key : X → ℕ) where
       (without_passing p xs (key x) above)
     where
       above : rises_above (key x) (map key xs) ≡ true
-      above = second_true (nat_lt low (key x)) (rises_above (key x) (map key xs)) up
+      above = (and_parts (nat_lt low (key x)) (rises_above (key x) (map key xs)) up).1
 
       by_case : (b : Bool) → has_number (map key (filter p xs)) (key x) ≡ false → without key (key x ∷ map key (filter p xs)) xs ≡ without key (map key (filter p xs)) xs
           → without key (map key (filter p xs)) xs ≡ filter (λ y. not (p y)) xs
@@ -139,10 +140,10 @@ module _ {X : Type 0} (key : X → ℕ) where
   -- those that pass are there
   passing_there : (p : X → Bool) (there : ℕ → Bool) (xs : List X) → list_all (λ x. there (key x)) xs ≡ true → list_all there (map key (filter p xs)) ≡ true
   passing_there p there [] h = refl
-  passing_there p there (x ∷ xs) h = by_case (p x) (passing_there p there xs (second_true (there (key x)) (list_all (λ y. there (key y)) xs) h))
+  passing_there p there (x ∷ xs) h = by_case (p x) (passing_there p there xs ((and_parts (there (key x)) (list_all (λ y. there (key y)) xs) h).1))
     where
       by_case : (b : Bool) → list_all there (map key (filter p xs)) ≡ true → list_all there (map key (cond b (x ∷ filter p xs) (filter p xs))) ≡ true
-      by_case true rest = both_true (there (key x)) (list_all there (map key (filter p xs))) (first_true (there (key x)) (list_all (λ y. there (key y)) xs) h) rest
+      by_case true rest = and_from (there (key x)) (list_all there (map key (filter p xs))) ((and_parts (there (key x)) (list_all (λ y. there (key y)) xs) h).0) rest
       by_case false rest = rest
 
 module _ {X : Type 0} where
@@ -153,8 +154,8 @@ module _ {X : Type 0} where
   find_where : (t p q : X → Bool) → ((x : X) → t x ≡ true → p x ≡ q x) → (xs : List X) → list_all t xs ≡ true → find p xs ≡ find q xs
   find_where t p q same [] h = refl
   find_where t p q same (x ∷ xs) h =
-      let here = same x (first_true (t x) (list_all t xs) h) in
-      let rest = find_where t p q same xs (second_true (t x) (list_all t xs) h) in
+      let here = same x ((and_parts (t x) (list_all t xs) h).0) in
+      let rest = find_where t p q same xs ((and_parts (t x) (list_all t xs) h).1) in
       λ i. cond (here i) (Some x) (rest i)
 
   -- the first mapped item, among those that pass
@@ -260,11 +261,11 @@ module _ (n : NodeId) (ns : List ℕ) where
   one_more_stays : (number : EdgeId) (ends : Ends) (labels : List (List ℕ)) (properties : List (List ℕ × Datum))
       → (not (touches n (record { number = number; ends = ends; labels = labels; properties = properties })) && ends_stay ns ends) ≡ true → ends_stay (n.0 ∷ ns) ends ≡ true
   one_more_stays number (Directed s t) labels properties h =
-      stay_case (eqb s.0 n.0) (eqb t.0 n.0) (has_number ns s.0) (has_number ns t.0) (first_true (not (eqb s.0 n.0 || eqb t.0 n.0)) (ends_stay ns (Directed s t)) h)
-      (second_true (not (eqb s.0 n.0 || eqb t.0 n.0)) (ends_stay ns (Directed s t)) h)
+      stay_case (eqb s.0 n.0) (eqb t.0 n.0) (has_number ns s.0) (has_number ns t.0) ((and_parts (not (eqb s.0 n.0 || eqb t.0 n.0)) (ends_stay ns (Directed s t)) h).0)
+      ((and_parts (not (eqb s.0 n.0 || eqb t.0 n.0)) (ends_stay ns (Directed s t)) h).1)
   one_more_stays number (Undirected s t) labels properties h =
-      stay_case (eqb s.0 n.0) (eqb t.0 n.0) (has_number ns s.0) (has_number ns t.0) (first_true (not (eqb s.0 n.0 || eqb t.0 n.0)) (ends_stay ns (Undirected s t)) h)
-      (second_true (not (eqb s.0 n.0 || eqb t.0 n.0)) (ends_stay ns (Undirected s t)) h)
+      stay_case (eqb s.0 n.0) (eqb t.0 n.0) (has_number ns s.0) (has_number ns t.0) ((and_parts (not (eqb s.0 n.0 || eqb t.0 n.0)) (ends_stay ns (Undirected s t)) h).0)
+      ((and_parts (not (eqb s.0 n.0 || eqb t.0 n.0)) (ends_stay ns (Undirected s t)) h).1)
 
 all_stay : (e : Ends) → ends_stay [] e ≡ true
 all_stay (Directed s t) = refl
@@ -272,21 +273,21 @@ all_stay (Undirected s t) = refl
 
 every : {X : Type 0} (t : X → Bool) (xs : List X) → ((x : X) → t x ≡ true) → list_all t xs ≡ true
 every t [] h = refl
-every t (x ∷ xs) h = both_true (t x) (list_all t xs) (h x) (every t xs h)
+every t (x ∷ xs) h = and_from (t x) (list_all t xs) (h x) (every t xs h)
 
 -- of the items that don't pass q, a test of both is one of the other
 of_rest : {X : Type 0} (p q : X → Bool) (xs : List X) → list_all (λ x. not (p x && not (q x))) xs ≡ true → list_all (λ x. not (p x)) (filter (λ x. not (q x)) xs) ≡ true
 of_rest p q [] h = refl
 of_rest p q (x ∷ xs) h =
-    by_case (p x) (q x) (first_true (not (p x && not (q x))) (list_all (λ y. not (p y && not (q y))) xs) h)
-    (of_rest p q xs (second_true (not (p x && not (q x))) (list_all (λ y. not (p y && not (q y))) xs) h)) refl
+    by_case (p x) (q x) ((and_parts (not (p x && not (q x))) (list_all (λ y. not (p y && not (q y))) xs) h).0)
+    (of_rest p q xs ((and_parts (not (p x && not (q x))) (list_all (λ y. not (p y && not (q y))) xs) h).1)) refl
   where
     by_case : (a b : Bool) → not (a && not b) ≡ true → list_all (λ y. not (p y)) (filter (λ y. not (q y)) xs) ≡ true → p x ≡ a
         → list_all (λ y. not (p y)) (cond (not b) (x ∷ filter (λ y. not (q y)) xs) (filter (λ y. not (q y)) xs)) ≡ true
     by_case true true k rest is = rest
     by_case true false k rest is = absurd (cc)
     by_case false true k rest is = rest
-    by_case false false k rest is = both_true (not (p x)) (list_all (λ y. not (p y)) (filter (λ y. not (q y)) xs)) (ap not is) rest
+    by_case false false k rest is = and_from (not (p x)) (list_all (λ y. not (p y)) (filter (λ y. not (q y)) xs)) (ap not is) rest
 
 option_or_none : (o : Option EdgeRecord) (n : NodeRecord) (rest : Option Refusal) → option_or (left_on n o) rest ≡ None → (o ≡ None) × (rest ≡ None)
 option_or_none None n rest h = (refl, h)
@@ -328,7 +329,7 @@ module _ (d : Detachment) (es : List Elem) (g : PropertyGraph) (one : is_graph g
       (list_all_weaker (is_own edge_key g.edges) (λ (r : EdgeRecord). has_edge g (record { 0 = edge_key r })) (λ r own. edge_found g (edge_key r) ∙ own) g.edges (all_own edge_key g.edges))) in (
         all.0,
         all.1 ∙ ap (λ (l : List EdgeRecord). with_edges g l g.next_edge) (without_passing edge_key (edge_goes d es) g.edges 0
-            (rises_from_graph 0 (map edge_key g.edges) g.next_edge (first_true (numbers_ascend 0 (map edge_key g.edges) g.next_edge) (nat_lt g.next_edge (2 ^ 32)) (edge_numbers g one)))),
+            (rises_from_graph 0 (map edge_key g.edges) g.next_edge ((and_parts (numbers_ascend 0 (map edge_key g.edges) g.next_edge) (nat_lt g.next_edge (2 ^ 32)) (edge_numbers g one)).0))),
       )
 
   lead_nodes : (can_act_each (map node_out (reverse (deleted_nodes es g))) without_edges ≡ true) × (changed_by_each (map node_out (reverse (deleted_nodes es g))) without_edges ≡ deleted d es g)
@@ -339,7 +340,7 @@ module _ (d : Detachment) (es : List Elem) (g : PropertyGraph) (one : is_graph g
       (ends_all_stay d es g g.nodes none) in (
         all.0,
         all.1 ∙ ap (λ (l : List NodeRecord). with_nodes without_edges l g.next_node) (without_passing node_key (λ (r : NodeRecord). is_named es (elem.Node r.number)) g.nodes 0
-            (rises_from_graph 0 (map node_key g.nodes) g.next_node (first_true (numbers_ascend 0 (map node_key g.nodes) g.next_node) (nat_lt g.next_node (2 ^ 32)) (node_numbers g one)))),
+            (rises_from_graph 0 (map node_key g.nodes) g.next_node ((and_parts (numbers_ascend 0 (map node_key g.nodes) g.next_node) (nat_lt g.next_node (2 ^ 32)) (node_numbers g one)).0))),
       )
 
   lead_all : LeadTo g (outs (deleted_nodes es g) (deleted_edges d es g)) (deleted d es g)
@@ -347,7 +348,7 @@ module _ (d : Detachment) (es : List Elem) (g : PropertyGraph) (one : is_graph g
       let first = map edge_out (reverse (deleted_edges d es g)) in
       let second = map node_out (reverse (deleted_nodes es g)) in (
         can_act_each-append first second g
-            ∙ both_true (can_act_each first g) (can_act_each second (changed_by_each first g)) lead_edges.0 (ap (can_act_each second) lead_edges.1 ∙ lead_nodes.0),
+            ∙ and_from (can_act_each first g) (can_act_each second (changed_by_each first g)) lead_edges.0 (ap (can_act_each second) lead_edges.1 ∙ lead_nodes.0),
         changed_by_each-append first second g ∙ ap (changed_by_each second) lead_edges.1 ∙ lead_nodes.1,
       )
 

@@ -2,6 +2,7 @@
 -- is left of a row's spots says the same of it as the names do. Each node that a later spot refers to is one of the graph
 -- so far, since it was looked at or made; so each edge has its nodes.
 use Rattle.std.proofs.Common.{◌≡◌, ℕ, suc, ◌+◌, ◌<◌, Bool, true, false, cond, ◌||◌, List, [], ◌∷◌, ◌++◌, length, Option, Some, None, Ok, Err, refl, sym, ap, ◌∙◌, arith, length-append, ◌==◌, ◌&&◌, is_some, nat_le, nat_lt, ◌⊎◌, inl, inr}
+use Rattle.std.proofs.lemmas.Bool.{and_from, and_parts}
 use Rattle.std.specs.List.{list_all}
 use Rattle.std.proofs.lemmas.Bool.Decides.{nat_tests}
 use Rattle.gql_values3.specs.Datum.{Datum, null, node, edge}
@@ -36,7 +37,7 @@ use Rattle.gql_change.specs.declared.row_spots.Spot.{Spot}
 use Rattle.gql_change.specs.declared.row_spots.Spot.TheVariants as spot
 use Rattle.gql_change.specs.declared.insert_state.InsertState.{InsertState}
 use Rattle.gql_change.proofs.PlaceOfName.{column_placed}
-use Rattle.gql_change.proofs.StoringLemmas.{both_true, texts_ascend-label_set, are_properties-property_set}
+use Rattle.gql_change.proofs.StoringLemmas.{texts_ascend-label_set, are_properties-property_set}
 use Rattle.gql_change.proofs.GraphGrowth.{leads_on, among_on, among_new, node_can_act, still_graph}
 use Rattle.gql_change.proofs.NamedPlaces.{datum_named, datum_before, datum_last, kind_at, kind_last, back_empty, refers_to, is_reference, edge_not_referred}
 
@@ -144,7 +145,7 @@ module _ (g0 : PropertyGraph) where
   node_joins : (m : Making) (cs : List Change) (ss0 : Spots) (f : Fill) → Good m cs ss0 → is_used_up m.graph.next_node ≡ false → can_act (change.NewNode (new_node m f)) m.graph ≡ true
   node_joins m cs ss0 f good room =
       node_can_act m.graph good.graph (new_node m f) room
-      (both_true _ _ (texts_ascend-label_set (labels_given f.labels)) (are_properties-property_set (first_values m.values) (first_kept m.values good.storable))) refl
+      (and_from _ _ (texts_ascend-label_set (labels_given f.labels)) (are_properties-property_set (first_values m.values) (first_kept m.values good.storable))) refl
 
   abbrev grown : Making → Fill → PropertyGraph
   grown m f = with_nodes m.graph (m.graph.nodes ++ new_node m f ∷ []) (suc m.graph.next_node)
@@ -213,14 +214,6 @@ module _ (g0 : PropertyGraph) where
   longer : (row : List Datum) (d : Datum) (cs : ColumnList) (c : List ℕ × ColumnKind) → length row ≡ length cs → length (row ++ d ∷ []) ≡ length (cs ++ c ∷ [])
   longer row d cs c h = omega (arith, length-append row (d ∷ []), length-append cs (c ∷ []), h)
 
-  second_true : (b s : Bool) → s ≡ true → (b || s) ≡ true
-  second_true true s h = refl
-  second_true false s h = h
-
-  first_true : (b s : Bool) → b ≡ true → (b || s) ≡ true
-  first_true true s h = refl
-  first_true false s h = absurd (cc)
-
   equal_number : (n : ℕ) → (n == n) ≡ true
   equal_number n = grind (arith, nat_tests)
 
@@ -244,7 +237,7 @@ module _ (g0 : PropertyGraph) where
     referred : (i : ℕ) (ss0 : Spots) → Good m cs ss0 → place_among m.columns x ≡ Some i → wrong_in_spots m.columns ss ≡ []
         → Sure m.graph m.row ((role.Refers i, []) ∷ questions m.columns ss) → Agrees (AtNode m ss) (named_work true (Some i)) (named_making true)
     referred i ss0 good place kinds sure =
-        let it : IsNodeIn m.graph (datum_at m.row i) = sure i (first_true (i == i) (refers_to i (questions m.columns ss)) (equal_number i)) (omega (arith, place_below m.columns x i place, good.width)) in
+        let it : IsNodeIn m.graph (datum_at m.row i) = sure i ((and_parts (i == i) (refers_to i (questions m.columns ss)) (equal_number i)).0) (omega (arith, place_below m.columns x i place, good.width)) in
         let named : number_under m (Some x) ≡ node_number (datum_at m.row i) = ap node_number (datum_named m.columns m.row x i place) in
         record {
           behind = record {
@@ -256,7 +249,7 @@ module _ (g0 : PropertyGraph) where
               graph = good.graph;
               width = good.width;
               kinds = kinds;
-              sure = λ j r h. sure j (second_true (j == i) (refers_to j (questions m.columns ss)) r) h;
+              sure = λ j r h. sure j ((and_parts (j == i) (refers_to j (questions m.columns ss)) r).1) h;
               storable = later_kept m.values good.storable;
               kept = good.kept;
             };
@@ -373,7 +366,7 @@ module _ (g0 : PropertyGraph) where
   )
   edge_spot m cs ss (Some x) ls is good =
       edge_named m cs ss x ls is (is_column m.columns x) (place_among m.columns x) ((kind.Edge, fill (Some x) ls is) ∷ ss) good (column_placed m.columns x) good.kinds
-      (λ i r h. good.sure i (second_true (is_reference i (role_at kind.Edge (place_among m.columns x))) (refers_to i (questions (with_variable m.columns kind.Edge (Some x)) ss)) r) h)
+      (λ i r h. good.sure i ((and_parts (is_reference i (role_at kind.Edge (place_among m.columns x))) (refers_to i (questions (with_variable m.columns kind.Edge (Some x)) ss)) r).1) h)
 
   pub edge_values : (cs : ColumnList) (v : Option (List ℕ)) (ps : PropertyList) → properties_given (spot_with (role_of cs kind.Edge v) ps) ≡ ps
   edge_values cs None ps = refl
@@ -381,11 +374,11 @@ module _ (g0 : PropertyGraph) where
 
   -- the ends are nodes, and the lower one stands first
   ordered : (nodes : List NodeRecord) (a b : NodeId) → is_among nodes a ≡ true → is_among nodes b ≡ true → nat_le a.0 b.0 ≡ true → are_ends nodes (Undirected a b) ≡ true
-  ordered nodes a b p q r = both_true (is_among nodes a && is_among nodes b) (nat_le a.0 b.0) (both_true (is_among nodes a) (is_among nodes b) p q) r
+  ordered nodes a b p q r = and_from (is_among nodes a && is_among nodes b) (nat_le a.0 b.0) (and_from (is_among nodes a) (is_among nodes b) p q) r
 
   pub ends_there : (nodes : List NodeRecord) (w : Arrow) (a b : ℕ) → is_among nodes (record { 0 = a }) ≡ true → is_among nodes (record { 0 = b }) ≡ true → are_ends nodes (ends_between w a b) ≡ true
-  ends_there nodes arrow.Right a b p q = both_true (is_among nodes (record { 0 = a })) (is_among nodes (record { 0 = b })) p q
-  ends_there nodes arrow.Left a b p q = both_true (is_among nodes (record { 0 = b })) (is_among nodes (record { 0 = a })) q p
+  ends_there nodes arrow.Right a b p q = and_from (is_among nodes (record { 0 = a })) (is_among nodes (record { 0 = b })) p q
+  ends_there nodes arrow.Left a b p q = and_from (is_among nodes (record { 0 = b })) (is_among nodes (record { 0 = a })) q p
   ends_there nodes arrow.Undirected a b p q = by (nat_le a b) refl
     where
       by : (t : Bool) → nat_le a b ≡ t → are_ends nodes (cond t (Undirected (record { 0 = a }) (record { 0 = b })) (Undirected (record { 0 = b }) (record { 0 = a }))) ≡ true

@@ -1,5 +1,6 @@
 -- INSERT by places makes what the definition makes: steps, paths, and the spots of a row.
 use Rattle.std.proofs.Common.{◌≡◌, ℕ, suc, ◌+◌, true, false, List, [], ◌∷◌, ◌++◌, Ok, refl, sym, ap, subst, ◌∙◌, arith, ◌&&◌}
+use Rattle.std.proofs.lemmas.Bool.{and_from}
 use Rattle.std.specs.List.{flat_map}
 use Rattle.gql_values3.specs.Datum.{edge}
 use Rattle.gql_values3.specs.PropertyGraph.{PropertyGraph, is_among, are_ends, are_properties}
@@ -18,7 +19,7 @@ use Rattle.gql_change.specs.Insertion.{Making, OrFull, ◌>>>◌, is_used_up, fi
 use Rattle.gql_change.specs.Machinery.Roles.{questions, role_of}
 use Rattle.gql_change.specs.Machinery.InsertByPlaces.{insert_node, insert_step, insert_steps, insert_path, insert_paths, edge_record, edge_begun, edge_added, properties_given}
 use Rattle.gql_change.specs.declared.insert_state.InsertState.{InsertState}
-use Rattle.gql_change.proofs.StoringLemmas.{both_true, texts_ascend-label_set, are_properties-property_set}
+use Rattle.gql_change.proofs.StoringLemmas.{texts_ascend-label_set, are_properties-property_set}
 use Rattle.gql_change.proofs.GraphGrowth.{leads_on, edge_can_act, still_graph}
 use Rattle.gql_change.proofs.InsertLemmas.{spot_with, spots_with, state_with, Agrees, then_agrees, unless_used_up, first_kept, Good, Behind, AtNode, node_agrees, edge_spot, edge_values, ends_there}
 
@@ -42,8 +43,8 @@ module _ (g0 : PropertyGraph) where
       acts : can_act (change.NewEdge record_joined) y.0.graph ≡ true
       acts =
           edge_can_act y.0.graph at.behind.good.graph record_joined (ap is_used_up at.edges ∙ room)
-          (both_true (texts_ascend record_joined.labels && are_properties record_joined.properties) (are_ends y.0.graph.nodes record_joined.ends)
-          (both_true (texts_ascend record_joined.labels) (are_properties record_joined.properties)
+          (and_from (texts_ascend record_joined.labels && are_properties record_joined.properties) (are_ends y.0.graph.nodes record_joined.ends)
+          (and_from (texts_ascend record_joined.labels) (are_properties record_joined.properties)
           (texts_ascend-label_set (labels_given s.edge.labels))
           (are_properties-property_set (first_values m.values) (first_kept m.values good.storable)))
           (ends_there g0 y.0.graph.nodes s.arrow a y.1 (at.more (record { 0 = a }) there) at.behind.there))

@@ -131,11 +131,11 @@ module _ (columns : ColumnList) (ps : List InsertPath) where
   abbrev behind : ColumnList
   behind = spot_columns columns (insert_spots ps)
 
-  rows_stand : {F : List Datum → Result (List PropertyList) DataFault} (g : PropertyGraph) (rows : RowList) (vss : List (List PropertyList)) (t : PropertyGraph × RowList)
+  rows_stand : (F : List Datum → Result (List PropertyList) DataFault) (g : PropertyGraph) (rows : RowList) (vss : List (List PropertyList)) (t : PropertyGraph × RowList)
       → All (Fits columns) rows → each F rows ≡ given vss → make_rows columns ps g rows vss ≡ made t → All (Fits behind) t.1
-  rows_stand g [] vss t all values e =
+  rows_stand F g [] vss t all values e =
       subst (λ (u : PropertyGraph × RowList). All (Fits behind) u.1) (sym (made_is (g, []) t e)) (All-nil (Fits behind))
-  rows_stand {F = F} g (row ∷ rows) vss t all values e =
+  rows_stand F g (row ∷ rows) vss t all values e =
       let one = next_gives (F row) (λ y. next (each F rows) (λ ys. Ok (y ∷ ys))) vss values in
       let two = next_gives (each F rows) (λ ys. Ok (one.0 ∷ ys)) vss one.2 in
       let first : Making = record { graph = g; columns = columns; row = row; values = one.0 } in
@@ -146,7 +146,7 @@ module _ (columns : ColumnList) (ps : List InsertPath) where
       let stands = paths_stand ps first here.0 (All-head (Fits columns) row rows all) here.1 in
       let row_fits_them : Fits behind here.0.row = subst (λ (cs : ColumnList). Fits cs here.0.row) stands.0 stands.1 in
       subst (λ (u : PropertyGraph × RowList). All (Fits behind) u.1) (sym (made_is (there.0.0, here.0.row ∷ there.0.1) t there.2))
-      (All-cons (Fits behind) here.0.row there.0.1 row_fits_them (rows_stand here.0.graph rows two.0 there.0 (All-tail (Fits columns) row rows all) two.1 there.1))
+      (All-cons (Fits behind) here.0.row there.0.1 row_fits_them (rows_stand F here.0.graph rows two.0 there.0 (All-tail (Fits columns) row rows all) two.1 there.1))
 
 abbrev planned : Changed → Result Changed Refusal
 planned c = Ok c
@@ -180,7 +180,7 @@ module _ (g : PropertyGraph) (params : List (List ℕ × Datum)) (columns : Colu
       let values = rows_values g params columns ps rows in
       let inserted : List (List PropertyList) → Result Changed Refusal = λ vss. unless_full (make_rows columns ps g rows vss) in
       let both = fault_case values inserted c (unless_refused_case (has_endpoints columns rows ps) (unless_fault values inserted) _ c e) in
-      rows_stand columns ps g rows both.0 c all both.1 (full_case (make_rows columns ps g rows both.0) c both.2)
+      rows_stand columns ps (λ row. spots_values g params columns row columns (insert_spots ps)) g rows both.0 c all both.1 (full_case (make_rows columns ps g rows both.0) c both.2)
   rows_behind_fit (change.Set is) c e =
       let both = fault_case (set_assignments g params columns is rows) (λ list. refused_by (conflict_among list) (assigned list g, rows)) c e in
       kept c (ap (λ (x : Changed). x.1) (refused_case (conflict_among both.0) (assigned both.0 g, rows) c both.2))

@@ -5,8 +5,8 @@ ghost use Rattle.gql_change.specs.Changing.{changed_by_deletion};
 ghost use Rattle.gql_change.specs.Machinery.DeletionSteps.{Deletes, outs, edge_out, node_out};
 ghost use Rattle.gql_change.specs.Plans.{Plans};
 
-use crate::fault::ChangeFault;
 use crate::deleted_numbers::{deleted_edges, deleted_nodes};
+use crate::fault::ChangeFault;
 use crate::leftover::refusal_of;
 use crate::naming::named_elements;
 use gql_ast::Detachment;

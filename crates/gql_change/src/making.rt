@@ -3,12 +3,12 @@
 ghost use Rattle.gql_change.specs.Machinery.Makes.{Makes};
 ghost use Rattle.gql_change.specs.Machinery.InsertByPlaces.{insert_line, insert_lines, insert_path, insert_paths};
 
+use crate::insert_state::InsertState;
 use crate::making_fault::MakingFault;
 use crate::new_edge::make_step;
 use crate::new_node::make_node;
-use crate::row_spots::Line;
 use crate::remaining::Remaining;
-use crate::insert_state::InsertState;
+use crate::row_spots::Line;
 use gql_ast::InsertPath;
 use gql_values3::{Row, Rows, Sequence};
 use std::alloc::Global;
@@ -47,7 +47,11 @@ fn make_line(
     Ok(mem::replace(&mut state.row, Row::new(alloc)))
 }
 
-fn make_paths(alloc: Global, state: &mut InsertState, paths: &[InsertPath]) -> Result<(), MakingFault>
+fn make_paths(
+    alloc: Global,
+    state: &mut InsertState,
+    paths: &[InsertPath],
+) -> Result<(), MakingFault>
     ensures { Makes (λ _. state.new) result (insert_paths paths.now state.old) }
 {
     for i in 0..paths.len() {

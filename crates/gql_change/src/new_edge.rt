@@ -6,10 +6,10 @@ ghost use Rattle.gql_change.specs.Machinery.Makes.{Makes};
 ghost use Rattle.gql_change.specs.Machinery.InsertByPlaces.{edge_added, edge_begun, edge_record, first_spot, gives_column, longer_row, properties_given, insert_step};
 
 use crate::filling::{label_set, property_set};
+use crate::insert_state::InsertState;
 use crate::making_fault::MakingFault;
 use crate::new_node::{is_used_up, make_node, push_if};
 use crate::row_spots::Spot;
-use crate::insert_state::InsertState;
 use gql_ast::{Arrow, ElemKind, Fill, InsertStep};
 use gql_graph::Change;
 use gql_values3::{EdgeId, EdgeRecord, Ends, NodeId, OutOfMemory, Properties, Value};

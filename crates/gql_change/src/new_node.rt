@@ -9,9 +9,9 @@ ghost use Rattle.gql_change.specs.Machinery.Roles.{datum_at};
 ghost use Rattle.gql_change.specs.Machinery.InsertByPlaces.{longer_row, node_made, node_record, insert_node};
 
 use crate::filling::{label_set, property_set};
+use crate::insert_state::InsertState;
 use crate::making_fault::MakingFault;
 use crate::row_spots::Spot;
-use crate::insert_state::InsertState;
 use gql_ast::{ElemKind, Fill};
 use gql_graph::Change;
 use gql_values3::{NodeId, NodeRecord, OutOfMemory, Properties, Row, Value};

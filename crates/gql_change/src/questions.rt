@@ -6,9 +6,9 @@ ghost use Rattle.gql_eval.specs.Machinery.Places.{place_among};
 ghost use Rattle.gql_change.specs.Insertion.{items_in};
 ghost use Rattle.gql_change.specs.Machinery.Roles.{question_of, questions, role_of, role_there};
 
-use crate::spot_question::SpotQuestion;
 use crate::names::{Names, names_of};
 use crate::role::Role;
+use crate::spot_question::SpotQuestion;
 use gql_ast::{Fill, InsertPath, Map, MapItem};
 use gql_values3::{ColumnKind, Columns, OutOfMemory, Text};
 use std::alloc::Global;

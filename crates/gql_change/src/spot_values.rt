@@ -9,10 +9,10 @@ ghost use Rattle.gql_eval.specs.Machinery.Next.{next};
 ghost use Rattle.gql_change.specs.Insertion.{node_there};
 ghost use Rattle.gql_change.specs.Machinery.Roles.{datum_at, line_of, lines_of, looked_at, question_of, spot_of};
 
-use crate::spot_question::SpotQuestion;
 use crate::map_values::map_values;
 use crate::role::Role;
 use crate::row_spots::{Line, Spot};
+use crate::spot_question::SpotQuestion;
 use gql_ast::DataFault;
 use gql_eval::{EvalError, Heading};
 use gql_values3::{Params, Row, Rows, Sequence, Value, View};

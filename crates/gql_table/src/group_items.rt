@@ -9,8 +9,7 @@ ghost use Rattle.gql_table.specs.Machinery.GroupMeaning.{item_meant};
 use crate::around::around;
 use crate::blank::blank_row;
 use crate::row_aggregates::{AggregateRef, list_aggregates};
-use gql_ast::Expr;
-use gql_ast::push_number;
+use gql_ast::{Expr, push_number};
 use gql_values3::{ColumnKind, Columns, OutOfMemory, Text, Value};
 use std::alloc::Global;
 

@@ -4,7 +4,7 @@ ghost use Rattle.std.specs.Prelude.{◌≡◌, drop, take, option_map, Ok, IfOk}
 ghost use Rattle.std.specs.Option.{option_copied};
 ghost use Rattle.gql_values3.specs.Meaning.{datum_of};
 ghost use Rattle.gql_ast.specs.Evaluation.{parameter_value};
-ghost use Rattle.gql_eval.specs.Gives.{Gives, GivesExactly};
+ghost use Rattle.gql_eval.specs.Gives.{Gives};
 ghost use Rattle.gql_table.specs.Paging.{count_in, count_of, count_if, without_first, no_more_than, cut};
 
 use gql_ast::{DataFault, RowCount};
@@ -72,24 +72,24 @@ fn row_count(params: &Params, count: &RowCount) -> Result<usize, EvalError>
     match count {
         RowCount::Number(digits) => {
             let value = number_value(digits)?;
-            Ok(whole_count(&value)?)
+            whole_count(&value)
         }
         RowCount::Parameter(name) => match params.get(name.as_str()) {
-            Some(value) => Ok(whole_count(value)?),
+            Some(value) => whole_count(value),
             None => Err(EvalError::Fault(DataFault::WrongKind)),
         },
     }
 }
 
 /// An integer of at least 0.
-fn whole_count(value: &Value) -> Result<usize, DataFault>
-    ensures { GivesExactly (λ n. n) result (count_in (datum_of value.now)) }
+fn whole_count(value: &Value) -> Result<usize, EvalError>
+    ensures { Gives (λ n. n) result (count_in (datum_of value.now)) }
 {
     match value {
         Value::Int(number) => match usize::try_from(*number) {
             Ok(count) => Ok(count),
-            Err(_) => Err(DataFault::WrongKind),
+            Err(_) => Err(EvalError::Fault(DataFault::WrongKind)),
         },
-        _ => Err(DataFault::WrongKind),
+        _ => Err(EvalError::Fault(DataFault::WrongKind)),
     }
 }

@@ -1,11 +1,11 @@
 use Rattle.std.proofs.Common.{◌≡◌, ◌∙◌, Bool, List, ap, subst, rules, Bor}
 use Rattle.std.specs.Result.{IfOk}
 use Rattle.std.proofs.lemmas.Fn.{always_returns_same}
-use Rattle.gql_change.specs.Conflicts.{in_order, neighbours_conflict}
+use Rattle.gql_change.specs.Conflicts.{comes_before, in_order, neighbours_conflict}
 use Rattle.gql_change.specs.declared.assignment.Assignment.{Assignment}
 use Rattle.gql_eval.specs.StableSort.{stably_sorted}
 use Rattle.gql_eval.proofs.StableSort.{is_sorted}
-use Rattle.gql_change.proofs.ConflictLemmas.{comes_before, references_ordered, references_sorted, seen}
+use Rattle.gql_change.proofs.ConflictLemmas.{references_ordered, references_sorted, seen}
 use Rattle.gql_change.proofs.conflict.conflict_among.Goals as goal
 
 pub returns : goal.returns
