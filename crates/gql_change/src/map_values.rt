@@ -2,7 +2,7 @@
 
 ghost use Rattle.std.specs.Prelude.{◌≡◌};
 ghost use Rattle.gql_values3.specs.Meaning.{datum_of};
-ghost use Rattle.gql_eval.specs.Gives.{Gives, GivesExactly};
+ghost use Rattle.gql_eval.specs.Gives.{Gives};
 ghost use Rattle.gql_change.specs.Insertion.{map_values};
 ghost use Rattle.gql_change.specs.Machinery.Roles.{item_value, pair_of};
 ghost use Rattle.gql_change.specs.Storing.{stored};
@@ -48,12 +48,12 @@ fn item_value<V: View>(
 }
 
 /// The value, if an element may keep it, or it is NULL.
-fn stored(value: Value) -> Result<Value, DataFault>
-    ensures { GivesExactly datum_of result (stored (datum_of value)) }
+fn stored(value: Value) -> Result<Value, EvalError>
+    ensures { Gives datum_of result (stored (datum_of value)) }
 {
     if is_storable(&value) {
         Ok(value)
     } else {
-        Err(DataFault::WrongKind)
+        Err(EvalError::Fault(DataFault::WrongKind))
     }
 }

@@ -4,7 +4,7 @@ ghost use Rattle.std.specs.Prelude.{◌≡◌, [], map};
 ghost use Rattle.gql_values3.specs.Meaning.{datum_of};
 ghost use Rattle.gql_ast.specs.ElementTests.{element_in};
 ghost use Rattle.gql_ast.specs.Faults.{each};
-ghost use Rattle.gql_eval.specs.Gives.{Gives, GivesExactly};
+ghost use Rattle.gql_eval.specs.Gives.{Gives};
 ghost use Rattle.gql_eval.specs.Machinery.Next.{next};
 ghost use Rattle.gql_change.specs.Insertion.{node_there};
 ghost use Rattle.gql_change.specs.Machinery.Roles.{datum_at, line_of, lines_of, looked_at, question_of, spot_of};
@@ -93,38 +93,38 @@ fn spot_of<V: View>(
 }
 
 /// Looks at the node of an incoming column; one of this clause is sure.
-fn look_at<V: View>(view: &V, heading: &Heading, row: &Row, place: usize) -> Result<(), DataFault>
-    ensures { GivesExactly (λ _. []) result (looked_at (V.graph view.now) [] heading.now row.now place) }
+fn look_at<V: View>(view: &V, heading: &Heading, row: &Row, place: usize) -> Result<(), EvalError>
+    ensures { Gives (λ _. []) result (looked_at (V.graph view.now) [] heading.now row.now place) }
 {
     if place >= heading.columns().len() {
         return Ok(());
     }
     let row = row.as_slice();
     if place >= row.len() {
-        return Err(DataFault::WrongKind);
+        return Err(EvalError::Fault(DataFault::WrongKind));
     }
     node_there(view, &row[place])
 }
 
 /// The value must be a node that is in the graph.
-fn node_there<V: View>(view: &V, value: &Value) -> Result<(), DataFault>
-    ensures { GivesExactly (λ _. []) result (next (element_in (V.graph view.now) (datum_of value.now)) (node_there (V.graph view.now) [] [] [])) }
+fn node_there<V: View>(view: &V, value: &Value) -> Result<(), EvalError>
+    ensures { Gives (λ _. []) result (next (element_in (V.graph view.now) (datum_of value.now)) (node_there (V.graph view.now) [] [] [])) }
 {
     match value {
         Value::Node(node) => {
             if view.has_node(*node) {
                 Ok(())
             } else {
-                Err(DataFault::Deleted)
+                Err(EvalError::Fault(DataFault::Deleted))
             }
         }
         Value::Edge(edge) => {
             if view.ends(*edge).is_some() {
-                Err(DataFault::WrongKind)
+                Err(EvalError::Fault(DataFault::WrongKind))
             } else {
-                Err(DataFault::Deleted)
+                Err(EvalError::Fault(DataFault::Deleted))
             }
         }
-        _ => Err(DataFault::WrongKind),
+        _ => Err(EvalError::Fault(DataFault::WrongKind)),
     }
 }
