@@ -6,7 +6,7 @@ ghost use Rattle.gql_values3.specs.PropertyGraph.{is_storable};
 ghost use Rattle.gql_change.specs.Machinery.Places.{place_in_order, IsWithin};
 ghost use Rattle.gql_change.specs.Storing.{put_property, without_property, with_property, put_label, without_label};
 
-use gql_graph::storable::is_property;
+use gql_graph::is_property;
 use gql_values3::{OutOfMemory, Text, Value};
 use std::cmp::Ordering;
 
