@@ -27,4 +27,3 @@ pub mod FitsLemmas
 pub mod ConflictLaw
 pub mod EndpointLemmas
 pub mod AssignmentExamples
-pub mod PlanFits

@@ -43,4 +43,4 @@ pub use acting::{apply, reserve, undo};
 pub use assignment::{Act, Assignment};
 pub use fault::ChangeFault;
 pub use list::{ChangeList, Undo};
-pub use planning::{Planned, accepted_inserts_have_endpoints, plan};
+pub use planning::{Planned, plan};

@@ -1,14 +1,10 @@
 //! What a clause that changes data comes to.
 
-ghost use Rattle.std.specs.Prelude.{◌≡◌, ◌==◌, [], length, IfOk, IsTrue, List as ListOf};
+ghost use Rattle.std.specs.Prelude.{◌≡◌, ◌==◌, length, IfOk};
 ghost use Rattle.std.specs.List.{list_all};
 ghost use Rattle.gql_ast.specs.declared.change.ChangeClause.TheVariants.{Insert as insert_clause};
-ghost use Rattle.gql_ast.specs.ClauseColumns.{ColumnList};
-ghost use Rattle.gql_ast.specs.Endpoints.{wrong_in_spots};
-ghost use Rattle.gql_ast.specs.InsertColumns.{change_columns, insert_spots};
-ghost use Rattle.gql_ast.specs.declared.change.InsertPath.{InsertPath};
-ghost use Rattle.gql_eval.specs.RowLists.{RowList, rows_fit};
-ghost use Rattle.gql_change.specs.Changing.{change_of, has_endpoints};
+ghost use Rattle.gql_ast.specs.InsertColumns.{change_columns};
+ghost use Rattle.gql_change.specs.Changing.{change_of};
 ghost use Rattle.gql_change.specs.Plans.{Plans};
 
 use crate::columns::{columns_behind, endpoints_are_nodes};
@@ -32,31 +28,10 @@ pub struct Planned {
 
 /// Plans a clause over the graph of a view, and rows with their columns. Nothing is changed.
 ///
-/// Ok holds changes that can act one after the other, and rows that fit the columns behind the clause where the incoming
-/// ones fit theirs. `Refused` is E18 with the first fault of an expression, rows in order and, within a row, in the order
-/// of the text; else E20 of DELETE, E21 of SET, E24 of INSERT, with the least element at fault.
+/// Ok holds changes that can act one after the other. `Refused` is E18 with the first fault of an expression, rows in
+/// order and, within a row, in the order of the text; else E20 of DELETE, E21 of SET, E24 of INSERT, with the least
+/// element at fault.
 pub fn plan<V: View>(
-    alloc: Global,
-    view: &V,
-    columns: &Columns,
-    rows: Rows,
-    params: &Params,
-    clause: &ChangeClause,
-) -> Result<Planned, ChangeFault>
-    ensures change { Plans (λ p. (p.list, p.rows)) (V.graph view.now) result (change_of (V.graph view.now) params.now columns.now rows clause.now) }
-    ensures columns { IfOk result (λ p. p.columns ≡ change_columns columns.now clause.now) }
-    ensures fit { IsTrue (rows_fit columns.now rows) → IfOk result (λ p. IsTrue (rows_fit p.columns p.rows)) }
-{
-    plan_clause(alloc, view, columns, rows, params, clause)
-}
-
-/// A law of the definition: over rows as wide as their columns the guard of INSERT is true for each clause of which no
-/// endpoint is a column of another kind than a node's, as is each clause without that static refusal (E09).
-pub fn accepted_inserts_have_endpoints()
-    ensures { (columns : ColumnList) (rows : RowList) (ps : ListOf InsertPath) → IsTrue (list_all (λ row. length row == length columns) rows) → wrong_in_spots columns (insert_spots ps) ≡ [] → IsTrue (has_endpoints columns rows ps) }
-{}
-
-fn plan_clause<V: View>(
     alloc: Global,
     view: &V,
     columns: &Columns,
