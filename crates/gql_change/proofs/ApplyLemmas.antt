@@ -1,24 +1,12 @@
 -- Lists of changes: whether they can act, where they lead and what room they take, part by part; and the states between
 -- the first of them and the last.
 use Rattle.std.proofs.Common.{◌≡◌, Bool, true, false, ◌&&◌, List, [], ◌∷◌, ◌++◌, refl, sym, ap, ◌∙◌, subst, reverse}
+use Rattle.std.proofs.lemmas.Bool.{and_from, and_parts}
 use Rattle.std.proofs.lemmas.List.{reverse-append}
 use Rattle.std.specs.Prelude.{IsTrue}
 use Rattle.gql_values3.specs.PropertyGraph.{PropertyGraph}
 use Rattle.gql_graph.specs.Edits.{changed, can_act, can_act_each, changed_by_each, holds_along}
 use Rattle.gql_graph.specs.declared.change.Change.{Change}
-
--- of two tests that both hold, each does
-pub first_true : (a b : Bool) → (a && b) ≡ true → a ≡ true
-first_true true b h = refl
-first_true false b h = h
-
-pub second_true : (a b : Bool) → (a && b) ≡ true → b ≡ true
-second_true true b h = h
-second_true false b h = absurd (cc)
-
-pub both_true : (a b : Bool) → a ≡ true → b ≡ true → (a && b) ≡ true
-both_true true b h k = k
-both_true false b h k = absurd (cc)
 
 and_assoc : (a b c : Bool) → (a && (b && c)) ≡ ((a && b) && c)
 and_assoc true b c = refl
@@ -38,25 +26,25 @@ module _ (room : PropertyGraph → Bool) where
   -- there is room for the first graph
   pub room_here : (cs : List Change) (g : PropertyGraph) → holds_along room cs g ≡ true → room g ≡ true
   room_here [] g h = h
-  room_here (c ∷ cs) g h = first_true (room g) (holds_along room cs (changed c g)) h
+  room_here (c ∷ cs) g h = (and_parts (room g) (holds_along room cs (changed c g)) h).0
 
   room_last : (cs ds : List Change) (g : PropertyGraph) → holds_along room (cs ++ ds) g ≡ true → holds_along room ds (changed_by_each cs g) ≡ true
   room_last [] ds g h = h
-  room_last (c ∷ cs) ds g h = room_last cs ds (changed c g) (second_true (room g) (holds_along room (cs ++ ds) (changed c g)) h)
+  room_last (c ∷ cs) ds g h = room_last cs ds (changed c g) ((and_parts (room g) (holds_along room (cs ++ ds) (changed c g)) h).1)
 
   room_first : (cs ds : List Change) (g : PropertyGraph) → holds_along room (cs ++ ds) g ≡ true → holds_along room cs g ≡ true
   room_first [] ds g h = room_here ds g h
   room_first (c ∷ cs) ds g h =
-      both_true (room g) (holds_along room cs (changed c g)) (first_true (room g) (holds_along room (cs ++ ds) (changed c g)) h)
-      (room_first cs ds (changed c g) (second_true (room g) (holds_along room (cs ++ ds) (changed c g)) h))
+      and_from (room g) (holds_along room cs (changed c g)) ((and_parts (room g) (holds_along room (cs ++ ds) (changed c g)) h).0)
+      (room_first cs ds (changed c g) ((and_parts (room g) (holds_along room (cs ++ ds) (changed c g)) h).1))
 
   -- where there is more room, what fitted fits
   pub more_room : (wider : PropertyGraph → Bool) → ((g : PropertyGraph) → room g ≡ true → wider g ≡ true)
       → (cs : List Change) (g : PropertyGraph) → holds_along room cs g ≡ true → holds_along wider cs g ≡ true
   more_room wider kept [] g h = kept g h
   more_room wider kept (c ∷ cs) g h =
-      both_true (wider g) (holds_along wider cs (changed c g)) (kept g (first_true (room g) (holds_along room cs (changed c g)) h))
-      (more_room wider kept cs (changed c g) (second_true (room g) (holds_along room cs (changed c g)) h))
+      and_from (wider g) (holds_along wider cs (changed c g)) (kept g ((and_parts (room g) (holds_along room cs (changed c g)) h).0))
+      (more_room wider kept cs (changed c g) ((and_parts (room g) (holds_along room cs (changed c g)) h).1))
 
 -- the rest of the changes lead on from here, and there is room for them
 pub record Ahead (room : PropertyGraph → Bool) (here : PropertyGraph) (rest : List Change) (end : PropertyGraph) : Type 0 where
@@ -66,18 +54,18 @@ pub record Ahead (room : PropertyGraph → Bool) (here : PropertyGraph) (rest : 
 
 -- the first of them can act, and there is room for the graph behind it
 pub next_acts : {room : PropertyGraph → Bool} {here end : PropertyGraph} {c : Change} {rest : List Change} → Ahead room here (c ∷ rest) end → IsTrue (can_act c here)
-next_acts {room} {here} {end} {c} {rest} a = first_true (can_act c here) (can_act_each rest (changed c here)) a.acts
+next_acts {room} {here} {end} {c} {rest} a = (and_parts (can_act c here) (can_act_each rest (changed c here)) a.acts).0
 
 pub next_fits : {room : PropertyGraph → Bool} {here end : PropertyGraph} {c : Change} {rest : List Change} → Ahead room here (c ∷ rest) end → IsTrue (room (changed c here))
-next_fits {room} {here} {end} {c} {rest} a = room_here room rest (changed c here) (second_true (room here) (holds_along room rest (changed c here)) a.fits)
+next_fits {room} {here} {end} {c} {rest} a = room_here room rest (changed c here) ((and_parts (room here) (holds_along room rest (changed c here)) a.fits).1)
 
 -- and then the others lead on from there
 pub went_on : (room wider : PropertyGraph → Bool) (here there end : PropertyGraph) (c : Change) (rest : List Change) → Ahead room here (c ∷ rest) end
     → there ≡ changed c here → ((g : PropertyGraph) → IsTrue (room g) → IsTrue (wider g)) → Ahead wider there rest end
 went_on room wider here there end c rest a is kept =
     let go : Ahead wider (changed c here) rest end = record {
-      acts = second_true (can_act c here) (can_act_each rest (changed c here)) a.acts;
-      fits = more_room room wider kept rest (changed c here) (second_true (room here) (holds_along room rest (changed c here)) a.fits);
+      acts = (and_parts (can_act c here) (can_act_each rest (changed c here)) a.acts).1;
+      fits = more_room room wider kept rest (changed c here) ((and_parts (room here) (holds_along room rest (changed c here)) a.fits).1);
       leads = a.leads;
     } in
     subst (λ (g : PropertyGraph). Ahead wider g rest end) (sym is) go
@@ -87,8 +75,8 @@ pub went_back : (room wider : PropertyGraph → Bool) (here there start : Proper
     → IsTrue (room there) → IsTrue (can_act i there) → changed i there ≡ here → ((g : PropertyGraph) → IsTrue (room g) → IsTrue (wider g))
     → Ahead wider there (i ∷ back) start
 went_back room wider here there start back i a fits acts undoes kept = record {
-  acts = both_true (can_act i there) (can_act_each back (changed i there)) acts (ap (can_act_each back) undoes ∙ a.acts);
-  fits = both_true (wider there) (holds_along wider back (changed i there)) (kept there fits) (ap (holds_along wider back) undoes ∙ more_room room wider kept back here a.fits);
+  acts = and_from (can_act i there) (can_act_each back (changed i there)) acts (ap (can_act_each back) undoes ∙ a.acts);
+  fits = and_from (wider there) (holds_along wider back (changed i there)) (kept there fits) (ap (holds_along wider back) undoes ∙ more_room room wider kept back here a.fits);
   leads = ap (changed_by_each back) undoes ∙ a.leads;
 }
 

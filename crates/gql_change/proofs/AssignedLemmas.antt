@@ -1,6 +1,7 @@
 -- The graph behind acts. It is a graph, and the change that puts an element's acts on it leads from the graph behind all
 -- acts on the others to the graph behind them all; so it does not matter in which order the elements come.
 use Rattle.std.proofs.Common.{◌≡◌, ℕ, Bool, true, false, cond, not, List, [], ◌∷◌, map, refl, sym, ap, ◌∙◌, eqb-true, eq-eqb}
+use Rattle.std.proofs.lemmas.Bool.{and_from, and_parts}
 use Rattle.std.specs.Prelude.{◌&&◌, ◌==◌, filter, nat_le}
 use Rattle.std.specs.List.{list_all, list_any, AllByRecursion}
 use Rattle.gql_values3.specs.Meaning.{datum_of}
@@ -16,11 +17,11 @@ use Rattle.gql_ast.specs.ElementTests.{is_there}
 use Rattle.gql_change.specs.Storing.{PropertyList}
 use Rattle.gql_change.specs.Conflicts.{same_elem}
 use Rattle.gql_change.specs.AssignedGraph.{acts_on, properties_after, labels_after, node_after, edge_after, assigned}
-use Rattle.gql_change.specs.Swaps.{act_fits, fits, all_fit, others}
+use Rattle.gql_change.specs.Machinery.Swaps.{act_fits, fits, all_fit, others}
 use Rattle.gql_change.specs.declared.assignment.Act.{Act}
 use Rattle.gql_change.specs.declared.assignment.Act.TheVariants as act
 use Rattle.gql_change.specs.declared.assignment.Assignment.{Assignment}
-use Rattle.gql_change.proofs.StoringLemmas.{both_true, left_true, right_true, texts_ascend-put_label, texts_ascend-without_label, are_properties-with}
+use Rattle.gql_change.proofs.StoringLemmas.{texts_ascend-put_label, texts_ascend-without_label, are_properties-with}
 use Rattle.gql_change.proofs.CopyLemmas.{nodes_fit, edges_fit}
 
 -- Lists.
@@ -37,7 +38,7 @@ list_all-map : {A B : Type 0} (p : A → Bool) (q : B → Bool) (f : A → B) (x
     → list_all p xs ≡ true → list_all q (map f xs) ≡ true
 list_all-map p q f [] h all = refl
 list_all-map p q f (x ∷ xs) h all =
-    both_true (q (f x)) (list_all q (map f xs)) (h x (left_true (p x) (list_all p xs) all)) (list_all-map p q f xs h (right_true (p x) (list_all p xs) all))
+    and_from (q (f x)) (list_all q (map f xs)) (h x ((and_parts (p x) (list_all p xs) all).0)) (list_all-map p q f xs h ((and_parts (p x) (list_all p xs) all).1))
 
 list_any-map : {A B : Type 0} (q : B → Bool) (f : A → B) (xs : List A) → list_any q (map f xs) ≡ list_any (λ x. q (f x)) xs
 list_any-map q f [] = refl
@@ -105,12 +106,12 @@ acts_on-others e t (a ∷ xs) h =
 pub acts_fit : (g : PropertyGraph) (e : Elem) (xs : List Assignment) → all_fit g xs ≡ true → list_all act_fits (acts_on e xs) ≡ true
 acts_fit g e [] h = refl
 acts_fit g e (a ∷ xs) h =
-    by (same_elem a.target e) a.act (acts_on e xs) (right_true (is_there g a.target) (act_fits a.act) (left_true (fits g a) (all_fit g xs) h))
-    (acts_fit g e xs (right_true (fits g a) (all_fit g xs) h)) (first_act (same_elem a.target e) a xs e refl)
+    by (same_elem a.target e) a.act (acts_on e xs) ((and_parts (is_there g a.target) (act_fits a.act) ((and_parts (fits g a) (all_fit g xs) h).0)).1)
+    (acts_fit g e xs ((and_parts (fits g a) (all_fit g xs) h).1)) (first_act (same_elem a.target e) a xs e refl)
   where
     by : (b : Bool) (x : Act) (rest : List Act) → act_fits x ≡ true → list_all act_fits rest ≡ true → acts_on e (a ∷ xs) ≡ cond b (x ∷ rest) rest
         → list_all act_fits (acts_on e (a ∷ xs)) ≡ true
-    by true x rest p q s = ap (list_all act_fits) s ∙ both_true (act_fits x) (list_all act_fits rest) p q
+    by true x rest p q s = ap (list_all act_fits) s ∙ and_from (act_fits x) (list_all act_fits rest) p q
     by false x rest p q s = ap (list_all act_fits) s ∙ q
 
 pub labels_after_ascend : (acts : List Act) (ls : List (List ℕ)) → texts_ascend ls ≡ true → texts_ascend (labels_after acts ls) ≡ true
@@ -122,8 +123,8 @@ labels_after_ascend (act.NoLabel l ∷ more) ls h = labels_after_ascend more _ (
 pub properties_after_fit : (acts : List Act) (ps : PropertyList) → list_all act_fits acts ≡ true → are_properties ps ≡ true → are_properties (properties_after acts ps) ≡ true
 properties_after_fit [] ps k h = h
 properties_after_fit (act.Property x a ∷ more) ps k h =
-    properties_after_fit more _ (right_true (is_storable (datum_of a) 64) (list_all act_fits more) k)
-    (are_properties-with x (datum_of a) ps (left_true (is_storable (datum_of a) 64) (list_all act_fits more) k) h)
+    properties_after_fit more _ ((and_parts (is_storable (datum_of a) 64) (list_all act_fits more) k).1)
+    (are_properties-with x (datum_of a) ps ((and_parts (is_storable (datum_of a) 64) (list_all act_fits more) k).0) h)
 properties_after_fit (act.Label l ∷ more) ps k h = properties_after_fit more ps k h
 properties_after_fit (act.NoLabel l ∷ more) ps k h = properties_after_fit more ps k h
 
@@ -145,38 +146,36 @@ module _ (g : PropertyGraph) (one : is_graph g ≡ true) where
   node_fits : (xs : List Assignment) → all_fit g xs ≡ true → (r : NodeRecord) → is_node_record r ≡ true → is_node_record (node_with xs r) ≡ true
   node_fits xs h r p =
       let acts = acts_on (elem.Node r.number) xs in
-      both_true (texts_ascend (labels_after acts r.labels)) (are_properties (properties_after acts r.properties))
-      (labels_after_ascend acts r.labels (left_true (texts_ascend r.labels) (are_properties r.properties) p))
-      (properties_after_fit acts r.properties (acts_fit g (elem.Node r.number) xs h) (right_true (texts_ascend r.labels) (are_properties r.properties) p))
+      and_from (texts_ascend (labels_after acts r.labels)) (are_properties (properties_after acts r.properties))
+      (labels_after_ascend acts r.labels ((and_parts (texts_ascend r.labels) (are_properties r.properties) p).0))
+      (properties_after_fit acts r.properties (acts_fit g (elem.Node r.number) xs h) ((and_parts (texts_ascend r.labels) (are_properties r.properties) p).1))
 
   edge_fits : (xs : List Assignment) → all_fit g xs ≡ true → (r : EdgeRecord) → is_edge_record g.nodes r ≡ true → is_edge_record (map (node_with xs) g.nodes) (edge_with xs r) ≡ true
   edge_fits xs h r p =
       let acts = acts_on (elem.Edge r.number) xs in
-      let lists = left_true (texts_ascend r.labels && are_properties r.properties) (are_ends g.nodes r.ends) p in
-      both_true (texts_ascend (labels_after acts r.labels) && are_properties (properties_after acts r.properties)) (are_ends (map (node_with xs) g.nodes) r.ends)
-      (both_true (texts_ascend (labels_after acts r.labels)) (are_properties (properties_after acts r.properties))
-      (labels_after_ascend acts r.labels (left_true (texts_ascend r.labels) (are_properties r.properties) lists))
-      (properties_after_fit acts r.properties (acts_fit g (elem.Edge r.number) xs h) (right_true (texts_ascend r.labels) (are_properties r.properties) lists)))
-      (ends_kept xs g.nodes r.ends ∙ right_true (texts_ascend r.labels && are_properties r.properties) (are_ends g.nodes r.ends) p)
+      let lists = (and_parts (texts_ascend r.labels && are_properties r.properties) (are_ends g.nodes r.ends) p).0 in
+      and_from (texts_ascend (labels_after acts r.labels) && are_properties (properties_after acts r.properties)) (are_ends (map (node_with xs) g.nodes) r.ends)
+      (and_from (texts_ascend (labels_after acts r.labels)) (are_properties (properties_after acts r.properties))
+      (labels_after_ascend acts r.labels ((and_parts (texts_ascend r.labels) (are_properties r.properties) lists).0))
+      (properties_after_fit acts r.properties (acts_fit g (elem.Edge r.number) xs h) ((and_parts (texts_ascend r.labels) (are_properties r.properties) lists).1)))
+      (ends_kept xs g.nodes r.ends ∙ (and_parts (texts_ascend r.labels && are_properties r.properties) (are_ends g.nodes r.ends) p).1)
 
   pub node_numbers : are_numbers (map (λ (r : NodeRecord). r.number.0) g.nodes) g.next_node ≡ true
   node_numbers =
-      left_true (are_numbers (map (λ (r : NodeRecord). r.number.0) g.nodes) g.next_node) (list_all is_node_record g.nodes)
-      (left_true (are_nodes g.nodes g.next_node) (are_edges g.nodes g.edges g.next_edge) one)
+      (and_parts (are_numbers (map (λ (r : NodeRecord). r.number.0) g.nodes) g.next_node) (list_all is_node_record g.nodes) ((and_parts (are_nodes g.nodes g.next_node) (are_edges g.nodes g.edges g.next_edge) one).0)).0
 
   pub edge_numbers : are_numbers (map (λ (r : EdgeRecord). r.number.0) g.edges) g.next_edge ≡ true
   edge_numbers =
-      left_true (are_numbers (map (λ (r : EdgeRecord). r.number.0) g.edges) g.next_edge) (list_all (is_edge_record g.nodes) g.edges)
-      (right_true (are_nodes g.nodes g.next_node) (are_edges g.nodes g.edges g.next_edge) one)
+      (and_parts (are_numbers (map (λ (r : EdgeRecord). r.number.0) g.edges) g.next_edge) (list_all (is_edge_record g.nodes) g.edges) ((and_parts (are_nodes g.nodes g.next_node) (are_edges g.nodes g.edges g.next_edge) one).1)).0
 
   pub is_graph-assigned : (xs : List Assignment) → all_fit g xs ≡ true → is_graph (assigned xs g) ≡ true
   is_graph-assigned xs h =
       let nodes = map (node_with xs) g.nodes in
       let edges = map (edge_with xs) g.edges in
-      both_true (are_nodes nodes g.next_node) (are_edges nodes edges g.next_edge)
-      (both_true (are_numbers (map (λ (r : NodeRecord). r.number.0) nodes) g.next_node) (list_all is_node_record nodes)
+      and_from (are_nodes nodes g.next_node) (are_edges nodes edges g.next_edge)
+      (and_from (are_numbers (map (λ (r : NodeRecord). r.number.0) nodes) g.next_node) (list_all is_node_record nodes)
       (ap (λ ns. are_numbers ns g.next_node) (map-map (node_with xs) (λ (r : NodeRecord). r.number.0) g.nodes) ∙ node_numbers)
       (list_all-map is_node_record is_node_record (node_with xs) g.nodes (node_fits xs h) (nodes_fit g one)))
-      (both_true (are_numbers (map (λ (r : EdgeRecord). r.number.0) edges) g.next_edge) (list_all (is_edge_record nodes) edges)
+      (and_from (are_numbers (map (λ (r : EdgeRecord). r.number.0) edges) g.next_edge) (list_all (is_edge_record nodes) edges)
       (ap (λ ns. are_numbers ns g.next_edge) (map-map (edge_with xs) (λ (r : EdgeRecord). r.number.0) g.edges) ∙ edge_numbers)
       (list_all-map (is_edge_record g.nodes) (is_edge_record nodes) (edge_with xs) g.edges (edge_fits xs h) (edges_fit g one)))

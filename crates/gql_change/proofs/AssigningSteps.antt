@@ -1,4 +1,4 @@
--- Steps that give some items for each of a list, as a loop takes them: what is done, and what is left.
+-- What SET and REMOVE store: a value is told by its meaning, and one that may be stored is set.
 use Rattle.std.proofs.Common.{◌≡◌, ℕ, Bool, true, cond, Option, Some, List, [], ◌∷◌, ◌++◌, refl, sym, ap, ◌∙◌, append_assoc, append-nil, Result, Ok, Err}
 use Rattle.std.specs.Prelude.{◌||◌}
 use Rattle.std.specs.List.{flat_map}
@@ -11,64 +11,15 @@ use Rattle.gql_values3.specs.declared.value.Value.{Value}
 use Rattle.gql_values3.specs.declared.value.Value.TheVariants as v
 use Rattle.gql_ast.specs.declared.fault.DataFault.{DataFault}
 use Rattle.gql_ast.specs.Faults.{each}
-use Rattle.gql_eval.specs.Next.{next}
+use Rattle.gql_eval.specs.Machinery.Next.{next}
 use Rattle.gql_eval.specs.Gives.{Fails}
 use Rattle.gql_eval.specs.declared.error.EvalError.{EvalError}
 use Rattle.gql_eval.specs.declared.error.EvalError.TheVariants as error
-use Rattle.gql_change.specs.RowSteps.{each_some}
+use Rattle.gql_eval.specs.RowLists.{each_some}
 use Rattle.gql_ast.specs.declared.fault.DataFault.TheVariants as fault
 use Rattle.gql_change.specs.Assignments.{set_property}
 use Rattle.gql_values3.specs.Meaning.{as_value}
 use Rattle.gql_change.specs.declared.assignment.Act.TheVariants as act
-
-abbrev pub joined : {B : Type 0} → List (List B) → List B
-joined yss = flat_map (λ ys. ys) yss
-
--- a fault of a first step
-pub fails_first : {A B : Type 0} (e : EvalError) (r : Result A DataFault) (then : A → Result B DataFault) → Fails e r → Fails e (next r then)
-fails_first error.OutOfMemory r then p = tt
-fails_first (error.Fault f) r then p = ap (λ s. next s then) p
-
-module _ {A B : Type 0} (f : A → Result (List B) DataFault) where
-  -- what is done, and then the rest
-  abbrev pub some_from : List A → List B → Result (List B) DataFault
-  some_from xs done = next (each_some f xs) (λ ys. Ok (done ++ ys))
-
-  some_cons : (r : Result (List (List B)) DataFault) (kept zs : List B)
-      → next (next (next r (λ yss. Ok (zs ∷ yss))) (λ yss. Ok (joined yss))) (λ ys. Ok (kept ++ ys))
-      ≡ next (next r (λ yss. Ok (joined yss))) (λ ys. Ok ((kept ++ zs) ++ ys))
-  some_cons (Ok yss) kept zs = ap Ok (sym (append_assoc kept zs (joined yss)))
-  some_cons (Err e) kept zs = refl
-
-  -- one step gives zs
-  pub some_step : (xs : List A) (x : A) (rest : List A) (kept zs : List B) → xs ≡ x ∷ rest → f x ≡ Ok zs
-      → some_from xs kept ≡ some_from rest (kept ++ zs)
-  some_step xs x rest kept zs p q =
-      ap (λ (l : List A). some_from l kept) p
-      ∙ ap (λ (r : Result (List B) DataFault). next (next (next r (λ y. next (each f rest) (λ ys. Ok (y ∷ ys)))) (λ yss. Ok (joined yss))) (λ ys. Ok (kept ++ ys))) q
-      ∙ some_cons (each f rest) kept zs
-
-  some_fault : {C : Type 0} (xs : List A) (x : A) (rest : List A) (e : DataFault) (then : List B → Result C DataFault) → xs ≡ x ∷ rest → f x ≡ Err e
-      → next (each_some f xs) then ≡ Err e
-  some_fault xs x rest e then p q =
-      ap (λ (l : List A). next (each_some f l) then) p
-      ∙ ap (λ (r : Result (List B) DataFault). next (next (next r (λ y. next (each f rest) (λ ys. Ok (y ∷ ys)))) (λ yss. Ok (joined yss))) then) q
-
-  -- a step that fails
-  pub some_fails : (xs : List A) (x : A) (rest : List A) (e : EvalError) (done : List B) → xs ≡ x ∷ rest → Fails e (f x)
-      → Fails e (some_from xs done)
-  some_fails xs x rest error.OutOfMemory done p q = tt
-  some_fails xs x rest (error.Fault e) done p q = some_fault xs x rest e (λ ys. Ok (done ++ ys)) p q
-
-  pub some_end : (xs : List A) (kept : List B) → xs ≡ [] → some_from xs kept ≡ Ok kept
-  some_end xs kept p = ap (λ (l : List A). some_from l kept) p ∙ ap Ok (append-nil kept)
-
-  pub some_start : (xs : List A) → some_from xs [] ≡ each_some f xs
-  some_start xs = from_nothing (each_some f xs)
-    where
-      from_nothing : (r : Result (List B) DataFault) → next r (λ ys. Ok ([] ++ ys)) ≡ r
-      from_nothing (Ok ys) = refl
-      from_nothing (Err e) = refl
 
 -- a value is told by its meaning
 items_back : (ds : List Datum) → items_of (data_of ds) ≡ ds

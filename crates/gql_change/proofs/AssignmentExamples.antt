@@ -16,7 +16,7 @@ use Rattle.gql_ast.specs.declared.change.SetItem.TheVariants as set_item
 use Rattle.gql_ast.specs.declared.expr.Expr.TheVariants as expr
 use Rattle.gql_ast.specs.declared.fault.DataFault.TheVariants as fault
 use Rattle.gql_ast.specs.declared.refusal.Refusal.TheVariants as refusal
-use Rattle.gql_change.specs.RowSteps.{RowList}
+use Rattle.gql_eval.specs.RowLists.{RowList}
 use Rattle.gql_change.specs.Storing.{PropertyList}
 use Rattle.gql_change.specs.Assignments.{set_assignments, remove_assignments}
 use Rattle.gql_change.specs.AssignedGraph.{assigned, labels_after}

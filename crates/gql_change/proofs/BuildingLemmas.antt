@@ -1,6 +1,7 @@
 -- The changes that are built lead to the definition's graph. The acts are taken in the order of their elements, so when
 -- an element is at hand, none before it comes again; and the order among elements does not matter to the graph.
 use Rattle.std.proofs.Common.{◌≡◌, ℕ, Bool, true, false, cond, not, List, [], ◌∷◌, ◌++◌, map, refl, sym, ap, subst, ◌∙◌, append_assoc, append-nil, arith, Some, None, slice_get, Result, Ok, Err}
+use Rattle.std.proofs.lemmas.Bool.{and_from, and_parts}
 use Rattle.std.specs.Result.{IfOk}
 use Rattle.std.specs.Prelude.{◌&&◌, ◌==◌, filter}
 use Rattle.std.specs.List.{AllByRecursion}
@@ -17,13 +18,13 @@ use Rattle.gql_ast.specs.ElementTests.{is_there}
 use Rattle.gql_change.specs.Conflicts.{elem_cmp, same_elem}
 use Rattle.gql_change.specs.AssignedGraph.{acts_on, node_after, edge_after, assigned}
 use Rattle.gql_change.specs.Plans.{LeadTo}
-use Rattle.gql_change.specs.Swaps.{swaps, act_fits, fits, all_fit, others}
-use Rattle.gql_change.specs.Building.{sorted, target_before, Built, built_with, built, built_from}
+use Rattle.gql_change.specs.Machinery.Swaps.{swaps, act_fits, fits, all_fit, others}
+use Rattle.gql_eval.specs.StableSort.{stably_sorted}
+use Rattle.gql_change.specs.Machinery.Building.{target_before, Built, built_with, built, built_from}
 use Rattle.gql_change.specs.declared.assignment.Act.{Act}
 use Rattle.gql_change.specs.declared.assignment.Act.TheVariants as act
 use Rattle.gql_change.specs.declared.assignment.Assignment.{Assignment}
-use Rattle.gql_change.proofs.StoringLemmas.{both_true, left_true, right_true}
-use Rattle.gql_change.proofs.StableSort.{Ascends, NoneLess, itself, sorted_ascends, sorted_ties, sorted_all}
+use Rattle.gql_eval.proofs.StableSort.{Ascends, NoneLess, itself, sorted_ascends, sorted_ties, sorted_all}
 use Rattle.gql_change.proofs.ConflictLemmas.{elem_total}
 use Rattle.gql_change.proofs.AssignedLemmas.{same_elem_is, same_elem_itself}
 use Rattle.gql_change.proofs.SwapLemmas.{swaps_lead, leads_append, nothing_leads}
@@ -55,13 +56,13 @@ abbrev some_act : Elem → Assignment
 some_act e = record { target = e; act = act.Label [] }
 
 -- the acts on an element stand as they stood
-acts_on-sorted : (e : Elem) (xs : List Assignment) → acts_on e (sorted target_before xs) ≡ acts_on e xs
+acts_on-sorted : (e : Elem) (xs : List Assignment) → acts_on e (stably_sorted target_before xs) ≡ acts_on e xs
 acts_on-sorted e xs =
     ap (map (λ (a : Assignment). a.act))
-    (subst (λ (p : Assignment → Bool). filter p (sorted target_before xs) ≡ filter p xs) (λ i (a : Assignment). elem_ties e a.target i)
+    (subst (λ (p : Assignment → Bool). filter p (stably_sorted target_before xs) ≡ filter p xs) (λ i (a : Assignment). elem_ties e a.target i)
     (sorted_ties target_before targets_ordered (some_act e) xs))
 
-pub assigned-sorted : (g : PropertyGraph) (xs : List Assignment) → assigned (sorted target_before xs) g ≡ assigned xs g
+pub assigned-sorted : (g : PropertyGraph) (xs : List Assignment) → assigned (stably_sorted target_before xs) g ≡ assigned xs g
 assigned-sorted g xs = λ i. record {
   nodes = map (λ (r : NodeRecord). node_after (acts_on-sorted (elem.Node r.number) xs i) r) g.nodes;
   edges = map (λ (r : EdgeRecord). edge_after (acts_on-sorted (elem.Edge r.number) xs i) r) g.edges;
@@ -136,9 +137,9 @@ acts_on-none e (x ∷ xs) none = first_act false x xs e none.0 ∙ acts_on-none 
 
 module _ (g : PropertyGraph) (one : is_graph g ≡ true) where
   all_fit-push : (xs : List Assignment) (a : Assignment) → all_fit g xs ≡ true → fits g a ≡ true → all_fit g (xs ++ a ∷ []) ≡ true
-  all_fit-push [] a h k = both_true (fits g a) true k refl
+  all_fit-push [] a h k = and_from (fits g a) true k refl
   all_fit-push (x ∷ xs) a h k =
-      both_true (fits g x) (all_fit g (xs ++ a ∷ [])) (left_true (fits g x) (all_fit g xs) h) (all_fit-push xs a (right_true (fits g x) (all_fit g xs) h) k)
+      and_from (fits g x) (all_fit g (xs ++ a ∷ [])) ((and_parts (fits g x) (all_fit g xs) h).0) (all_fit-push xs a ((and_parts (fits g x) (all_fit g xs) h).1) k)
 
   -- what holds while an element is at hand: done are the acts of xs
   pub record AtHand (xs : List Assignment) (b : Built) : Type 0 where
@@ -189,7 +190,7 @@ module _ (g : PropertyGraph) (one : is_graph g ≡ true) where
         leads = subst (λ (l : List Assignment). LeadTo g (b.changes ++ swaps g b.target b.acts) (assigned l g)) (sym left) (ended xs b h);
         acts = sym (acts_on-append a.target xs (a ∷ []) ∙ ap (λ (l : List Act). l ++ acts_on a.target (a ∷ [])) (acts_on-none a.target xs none)
             ∙ first_act true a [] a.target (same_elem_itself a.target));
-        there = left_true (is_there g a.target) (act_fits a.act) k;
+        there = (and_parts (is_there g a.target) (act_fits a.act) k).0;
         fit = all_fit-push xs a h.fit k;
         none_above = all_push (λ (y : Assignment). target_before (some_act a.target) y ≡ false) xs a
             (all_weaker (λ (y : Assignment). target_before (some_act b.target) y ≡ false) (λ (y : Assignment). target_before (some_act a.target) y ≡ false) xs
@@ -210,8 +211,8 @@ module _ (g : PropertyGraph) (one : is_graph g ≡ true) where
       → LeadTo g (built g b rest) (assigned (xs ++ rest) g)
   built_leads [] xs b h k up n = subst (λ (l : List Assignment). LeadTo g (b.changes ++ swaps g b.target b.acts) (assigned l g)) (sym (append-nil xs)) (ended xs b h)
   built_leads (a ∷ more) xs b h k up n =
-      let here : fits g a ≡ true = left_true (fits g a) (all_fit g more) k in
-      let rest : all_fit g more ≡ true = right_true (fits g a) (all_fit g more) k in
+      let here : fits g a ≡ true = (and_parts (fits g a) (all_fit g more) k).0 in
+      let rest : all_fit g more ≡ true = (and_parts (fits g a) (all_fit g more) k).1 in
       let step = step_case (same_elem a.target b.target) xs b a more h here refl n.0 n.1 up.0
       (λ s at m. built_leads more (xs ++ a ∷ []) s at rest up.1 m) in
       subst (λ (l : List Assignment). LeadTo g (built g (built_with g b a) more) (assigned l g)) (append_assoc xs (a ∷ []) more) step
@@ -222,7 +223,7 @@ module _ (g : PropertyGraph) (one : is_graph g ≡ true) where
       let start : AtHand [] (built_from a.target) = record {
         leads = nothing_leads g;
         acts = refl;
-        there = left_true (is_there g a.target) (act_fits a.act) (left_true (fits g a) (all_fit g more) k);
+        there = (and_parts (is_there g a.target) (act_fits a.act) ((and_parts (fits g a) (all_fit g more) k).0)).0;
         fit = refl;
         none_above = tt;
       } in
@@ -236,7 +237,7 @@ module _ (g : PropertyGraph) (one : is_graph g ≡ true) where
       subst (λ (x : Assignment). LeadTo g (built g (built_from x.target) (a ∷ more)) (assigned (a ∷ more) g)) same (in_order_leads a more k up)
 
   -- what is built of the acts in order leads to the graph behind the acts as they were given
-  pub sorted_leads : (xs ys : List Assignment) (f : Assignment) → ys ≡ sorted target_before xs → Some f ≡ slice_get ys 0 → all_fit g xs ≡ true
+  pub sorted_leads : (xs ys : List Assignment) (f : Assignment) → ys ≡ stably_sorted target_before xs → Some f ≡ slice_get ys 0 → all_fit g xs ≡ true
       → LeadTo g (built g (built_from f.target) ys) (assigned xs g)
   sorted_leads xs ys f e p k =
       let fit : all_fit g ys ≡ true = ap (all_fit g) e ∙ sorted_all target_before (fits g) xs k in
@@ -248,7 +249,7 @@ module _ (g : PropertyGraph) (one : is_graph g ≡ true) where
   nothing_case [] p = nothing_leads g
   nothing_case (y ∷ ys) p = absurd (cc)
 
-  pub none_leads : (xs ys : List Assignment) → ys ≡ sorted target_before xs → None ≡ slice_get ys 0 → LeadTo g [] (assigned xs g)
+  pub none_leads : (xs ys : List Assignment) → ys ≡ stably_sorted target_before xs → None ≡ slice_get ys 0 → LeadTo g [] (assigned xs g)
   none_leads xs ys e p = subst (LeadTo g []) (ap (λ (l : List Assignment). assigned l g) e ∙ assigned-sorted g xs) (nothing_case ys p)
 
 -- what one thing has, what was answered has

@@ -18,14 +18,15 @@ use Rattle.gql_values3.specs.declared.value.Value.{Value}
 use Rattle.gql_values3.proofs.OrderLaws.{datum_cmp_total, exact_datum}
 use Rattle.gql_ast.specs.declared.refusal.Refusal.{Refusal}
 use Rattle.gql_ast.specs.declared.refusal.Refusal.TheVariants as refusal
-use Rattle.gql_change.specs.Building.{inserted, sorted}
-use Rattle.gql_change.specs.Conflicts.{elem_cmp, act_cmp, assignment_cmp, same_elem, are_same, act_conflict, conflict_of, or_else, neighbours_conflict, conflict_among}
+use Rattle.gql_eval.specs.StableSort.{inserted_in_order, stably_sorted}
+use Rattle.std.specs.Option.{option_or}
+use Rattle.gql_change.specs.Conflicts.{elem_cmp, act_cmp, assignment_cmp, comes_before, same_elem, are_same, act_conflict, conflict_of, neighbours_conflict, conflict_among}
 use Rattle.gql_change.specs.declared.assignment.Act.{Act}
 use Rattle.gql_change.specs.declared.assignment.Act.TheVariants as act
 use Rattle.gql_change.specs.declared.assignment.Assignment.{Assignment}
-use Rattle.gql_change.proofs.StableSort.{Ascends, sorted_ascends}
+use Rattle.gql_eval.proofs.StableSort.{Ascends, sorted_ascends}
 use Rattle.gql_change.proofs.AssignedLemmas.{same_elem_itself}
-use Rattle.gql_change.proofs.ConflictLemmas.{comes_before, assignments_ordered, assignment_total, elem_total, in_order_is}
+use Rattle.gql_change.proofs.ConflictLemmas.{assignments_ordered, assignment_total, elem_total}
 
 -- two assignments of one property of one element have the same value
 abbrev pub OneValue : Assignment → Assignment → Type 0
@@ -87,7 +88,7 @@ joins a b c ab bc q r x u w s p k =
     let second : datum_cmp (datum_of it.0) (datum_of w) ≡ Equal = bc x it.0 w (sym one ∙ s) it.1 k in
     ap (λ d. datum_cmp d (datum_of w)) (exact_datum (datum_of u) (datum_of it.0) first) ∙ second
 
-split_none : (o p : Option Refusal) → or_else o p ≡ None → (o ≡ None) × (p ≡ None)
+split_none : (o p : Option Refusal) → option_or o p ≡ None → (o ≡ None) × (p ≡ None)
 split_none None p h = (refl, h)
 split_none (Some r) p h = absurd (cc)
 
@@ -133,13 +134,13 @@ module _ {X : Type 0} (before : X → X → Bool) (P : X → Type 0) where
   inserted_case true x y ys rest more all = let here = more all.1 in (here.0, (all.0, here.1))
   inserted_case false x y ys rest more all = all
 
-  inserted_back : (x : X) (ys : List X) → AllByRecursion P (inserted before x ys) → P x × AllByRecursion P ys
+  inserted_back : (x : X) (ys : List X) → AllByRecursion P (inserted_in_order before x ys) → P x × AllByRecursion P ys
   inserted_back x [] all = all
-  inserted_back x (y ∷ ys) all = inserted_case (before y x) x y ys (inserted before x ys) (inserted_back x ys) all
+  inserted_back x (y ∷ ys) all = inserted_case (before y x) x y ys (inserted_in_order before x ys) (inserted_back x ys) all
 
-  sorted_back : (xs : List X) → AllByRecursion P (sorted before xs) → AllByRecursion P xs
+  sorted_back : (xs : List X) → AllByRecursion P (stably_sorted before xs) → AllByRecursion P xs
   sorted_back [] all = tt
-  sorted_back (x ∷ xs) all = let both = inserted_back x (sorted before xs) all in (both.0, sorted_back xs both.1)
+  sorted_back (x ∷ xs) all = let both = inserted_back x (stably_sorted before xs) all in (both.0, sorted_back xs both.1)
 
 all_mapped : {A : Type 0} (P Q : A → Type 0) (xs : List A) → ((x : A) → P x → Q x) → AllByRecursion P xs → AllByRecursion Q xs
 all_mapped P Q [] h all = tt
@@ -153,8 +154,8 @@ has_at P (y ∷ ys) (suc k) x h e all = has_at P ys k x (omega arith) e all.1
 -- Where there is no conflict, a property of an element has one value.
 pub one_value : (xs : List Assignment) → conflict_among xs ≡ None → (a b : Assignment) → Contains xs a → Contains xs b → OneValue a b
 one_value xs none a b here there =
-    let ys = sorted comes_before xs in
-    let no : neighbours_conflict ys ≡ None = ap neighbours_conflict (in_order_is xs) ∙ none in
+    let ys = stably_sorted comes_before xs in
+    let no : neighbours_conflict ys ≡ None = none in
     let sorted_pairs = all_agree ys (sorted_ascends comes_before assignments_ordered xs) no in
     let pairs : AllByRecursion (λ c. AllByRecursion (OneValue c) xs) ys =
     all_mapped (λ c. AllByRecursion (OneValue c) ys) (λ c. AllByRecursion (OneValue c) xs) ys (λ c all. sorted_back comes_before (OneValue c) xs all) sorted_pairs in

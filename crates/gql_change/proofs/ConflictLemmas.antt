@@ -12,13 +12,14 @@ use Rattle.std.proofs.lemmas.List.Sorted.{ranks_by}
 use Rattle.gql_values3.specs.declared.element.Elem.{Elem}
 use Rattle.gql_values3.specs.declared.element.Elem.TheVariants as elem
 use Rattle.gql_ast.specs.declared.refusal.Refusal.{Refusal}
-use Rattle.gql_change.specs.Conflicts.{elem_cmp, act_cmp, assignment_cmp, insert_assignment, in_order, conflict_of, neighbours_conflict, or_else, are_same}
+use Rattle.std.specs.Option.{option_or}
+use Rattle.gql_change.specs.Conflicts.{elem_cmp, act_cmp, assignment_cmp, comes_before, in_order, conflict_of, neighbours_conflict, are_same}
 use Rattle.gql_change.specs.declared.assignment.Act.{Act}
 use Rattle.gql_change.specs.declared.assignment.Act.TheVariants as act
 use Rattle.gql_change.specs.declared.assignment.Assignment.{Assignment}
-use Rattle.gql_change.specs.Building.{inserted, sorted}
-use Rattle.gql_change.proofs.StableSort.{map_sorted}
-use Rattle.gql_change.proofs.PlaceLemmas.{drop_here}
+use Rattle.gql_eval.specs.StableSort.{stably_sorted}
+use Rattle.gql_eval.proofs.StableSort.{map_sorted}
+use Rattle.gql_eval.proofs.EachSteps.{drop_here}
 
 abbrev elem_kind : Elem → ℕ
 elem_kind (elem.Node n) = 0
@@ -68,9 +69,6 @@ act_total =
 pub assignment_total : IsTotalOrder assignment_cmp
 assignment_total = then_total (on_total (λ (a : Assignment). a.target) elem_total) (on_total (λ (a : Assignment). a.act) act_total)
 
-abbrev pub comes_before : Assignment → Assignment → Bool
-comes_before a b = is_lt (assignment_cmp a b)
-
 pub assignments_ordered : IsStrictWeakOrder comes_before
 assignments_ordered = ranks_by assignment_total (λ (a : Assignment). a)
 
@@ -78,28 +76,20 @@ assignments_ordered = ranks_by assignment_total (λ (a : Assignment). a)
 pub references_ordered : IsStrictWeakOrder (λ (a b : Bor Assignment). comes_before a.now b.now)
 references_ordered = ranks_by assignment_total (λ (a : Bor Assignment). a.now)
 
-inserted_is : (a : Assignment) (xs : List Assignment) → inserted comes_before a xs ≡ insert_assignment a xs
-inserted_is a [] = refl
-inserted_is a (b ∷ bs) = ap (λ (rest : List Assignment). cond (comes_before b a) (b ∷ rest) (a ∷ b ∷ bs)) (inserted_is a bs)
-
-pub in_order_is : (xs : List Assignment) → sorted comes_before xs ≡ in_order xs
-in_order_is [] = refl
-in_order_is (a ∷ xs) = inserted_is a (sorted comes_before xs) ∙ ap (insert_assignment a) (in_order_is xs)
-
 abbrev pub seen : List (Bor Assignment) → List Assignment
 seen rs = map (λ (r : Bor Assignment). r.now) rs
 
-pub references_sorted : (rs : List (Bor Assignment)) → seen (sorted (λ (a b : Bor Assignment). comes_before a.now b.now) rs) ≡ in_order (seen rs)
-references_sorted rs = map_sorted (λ (r : Bor Assignment). r.now) comes_before rs ∙ in_order_is (seen rs)
+pub references_sorted : (rs : List (Bor Assignment)) → seen (stably_sorted (λ (a b : Bor Assignment). comes_before a.now b.now) rs) ≡ in_order (seen rs)
+references_sorted rs = map_sorted (λ (r : Bor Assignment). r.now) comes_before rs
 
 -- neighbours, one after the other
 pub neighbours_step : (xs : List Assignment) (i : ℕ) (a b : Assignment) → i + 1 < length xs → a ≡ get_or xs i a → b ≡ get_or xs (i + 1) b
-    → neighbours_conflict (drop i xs) ≡ or_else (conflict_of a b) (neighbours_conflict (drop (i + 1) xs))
+    → neighbours_conflict (drop i xs) ≡ option_or (conflict_of a b) (neighbours_conflict (drop (i + 1) xs))
 neighbours_step xs i a b h p q =
     let one : drop i xs ≡ a ∷ drop (i + 1) xs = drop_here xs i a (omega arith) p in
     let two : drop (i + 1) xs ≡ b ∷ drop ((i + 1) + 1) xs = drop_here xs (i + 1) b h q in
     ap neighbours_conflict one ∙ ap (λ (l : List Assignment). neighbours_conflict (a ∷ l)) two
-    ∙ ap (λ (l : List Assignment). or_else (conflict_of a b) (neighbours_conflict l)) (sym two)
+    ∙ ap (λ (l : List Assignment). option_or (conflict_of a b) (neighbours_conflict l)) (sym two)
 
 short_none : (xs : List Assignment) → length xs ≤ 1 → neighbours_conflict xs ≡ None
 short_none [] h = refl

@@ -1,5 +1,6 @@
 -- The lists of an element, place by place: since names strictly ascend, each name finds its own property.
 use Rattle.std.proofs.Common.{◌≡◌, ℕ, zero, suc, ◌+◌, Bool, true, false, cond, List, [], ◌∷◌, ◌++◌, map, take, refl, sym, ap, subst, ◌∙◌, arith, Option, Some, None, Bor, slice_get}
+use Rattle.std.proofs.lemmas.Bool.{and_parts}
 use Rattle.std.specs.Prelude.{◌&&◌, ◌==◌, find, option_map}
 use Rattle.std.specs.List.{list_all}
 use Rattle.std.specs.Option.{option_copied}
@@ -17,7 +18,7 @@ use Rattle.gql_values3.specs.declared.records.NodeRecord.{NodeRecord}
 use Rattle.gql_values3.specs.declared.records.EdgeRecord.{EdgeRecord}
 use Rattle.gql_values3.specs.Datum.{or_null}
 use Rattle.gql_change.specs.Storing.{PropertyList}
-use Rattle.gql_change.proofs.StoringLemmas.{left_true, right_true, text_cmp, first_above, lower, above_ascends, names}
+use Rattle.gql_change.proofs.StoringLemmas.{text_cmp, first_above, lower, above_ascends, names}
 
 pub taken : {A : Type 0} (xs : List A) (n : ℕ) (x : A) → Some x ≡ slice_get xs n → take (n + 1) xs ≡ take n xs ++ x ∷ []
 taken [] n x h = absurd (cc)
@@ -42,7 +43,7 @@ above_at : (low : List ℕ) (ks : List (List ℕ)) (n : ℕ) (x : List ℕ) → 
 above_at low [] n x h p = absurd (cc)
 above_at low (k ∷ ks) zero x h p = let same : x ≡ k = cc in ap (text_cmp low) same ∙ first_above low k ks h
 above_at low (k ∷ ks) (suc n) x h p =
-    above_at low ks n x (lower low k ks (first_above low k ks h) (right_true (is_lt (text_cmp low k)) (ascend_above k ks) h)) p
+    above_at low ks n x (lower low k ks (first_above low k ks h) ((and_parts (is_lt (text_cmp low k)) (ascend_above k ks) h).1)) p
 
 other_text : (b : Bool) (x low : List ℕ) → same_text x low ≡ b → text_cmp low x ≡ Less → b ≡ false
 other_text true x low p q =
@@ -79,35 +80,32 @@ found_case false p x r o h k e = k e
 pub found_has : {A : Type 0} (p q : A → Bool) (xs : List A) (r : A) → list_all p xs ≡ true → find q xs ≡ Some r → p r ≡ true
 found_has p q [] r h e = absurd (cc)
 found_has p q (x ∷ xs) r h e =
-    found_case (q x) p x r (find q xs) (left_true (p x) (list_all p xs) h) (found_has p q xs r (right_true (p x) (list_all p xs) h)) e
+    found_case (q x) p x r (find q xs) ((and_parts (p x) (list_all p xs) h).0) (found_has p q xs r ((and_parts (p x) (list_all p xs) h).1)) e
 
 module _ (g : PropertyGraph) (one : is_graph g ≡ true) where
   pub nodes_fit : list_all is_node_record g.nodes ≡ true
   nodes_fit =
-      right_true (are_numbers (map (λ (r : NodeRecord). r.number.0) g.nodes) g.next_node) (list_all is_node_record g.nodes)
-      (left_true (are_nodes g.nodes g.next_node) (are_edges g.nodes g.edges g.next_edge) one)
+      (and_parts (are_numbers (map (λ (r : NodeRecord). r.number.0) g.nodes) g.next_node) (list_all is_node_record g.nodes) ((and_parts (are_nodes g.nodes g.next_node) (are_edges g.nodes g.edges g.next_edge) one).0)).1
 
   pub edges_fit : list_all (is_edge_record g.nodes) g.edges ≡ true
   edges_fit =
-      right_true (are_numbers (map (λ (r : EdgeRecord). r.number.0) g.edges) g.next_edge) (list_all (is_edge_record g.nodes) g.edges)
-      (right_true (are_nodes g.nodes g.next_node) (are_edges g.nodes g.edges g.next_edge) one)
+      (and_parts (are_numbers (map (λ (r : EdgeRecord). r.number.0) g.edges) g.next_edge) (list_all (is_edge_record g.nodes) g.edges) ((and_parts (are_nodes g.nodes g.next_node) (are_edges g.nodes g.edges g.next_edge) one).1)).1
 
   node_properties : (o : Option NodeRecord) → ((r : NodeRecord) → o ≡ Some r → is_node_record r ≡ true) → are_properties (properties_in (option_map (λ (r : NodeRecord). r.properties) o)) ≡ true
   node_properties None h = refl
-  node_properties (Some r) h = right_true (texts_ascend r.labels) (are_properties r.properties) (h r refl)
+  node_properties (Some r) h = (and_parts (texts_ascend r.labels) (are_properties r.properties) (h r refl)).1
 
   edge_properties : (o : Option EdgeRecord) → ((r : EdgeRecord) → o ≡ Some r → is_edge_record g.nodes r ≡ true) → are_properties (properties_in (option_map (λ (r : EdgeRecord). r.properties) o)) ≡ true
   edge_properties None h = refl
   edge_properties (Some r) h =
-      right_true (texts_ascend r.labels) (are_properties r.properties)
-      (left_true (texts_ascend r.labels && are_properties r.properties) (are_ends g.nodes r.ends) (h r refl))
+      (and_parts (texts_ascend r.labels) (are_properties r.properties) ((and_parts (texts_ascend r.labels && are_properties r.properties) (are_ends g.nodes r.ends) (h r refl)).0)).1
 
   pub properties_fit : (e : Elem) → are_properties (properties_of g e) ≡ true
   properties_fit (elem.Node n) = node_properties (node_of g n) (λ r p. found_has is_node_record (λ (x : NodeRecord). x.number.0 == n.0) g.nodes r nodes_fit p)
   properties_fit (elem.Edge n) = edge_properties (edge_of g n) (λ r p. found_has (is_edge_record g.nodes) (λ (x : EdgeRecord). x.number.0 == n.0) g.edges r edges_fit p)
 
   pub names_fit : (e : Elem) → texts_ascend (names (properties_of g e)) ≡ true
-  names_fit e = left_true (texts_ascend (names (properties_of g e))) (list_all (λ (p : List ℕ × Datum). is_property p.1) (properties_of g e)) (properties_fit e)
+  names_fit e = (and_parts (texts_ascend (names (properties_of g e))) (list_all (λ (p : List ℕ × Datum). is_property p.1) (properties_of g e)) (properties_fit e)).0
 
 -- the names are over where the properties are
 pub names_over : (ps : PropertyList) (n : ℕ) → None ≡ slice_get (names ps) n → None ≡ slice_get ps n

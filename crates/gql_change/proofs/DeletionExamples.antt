@@ -12,7 +12,7 @@ use Rattle.gql_ast.specs.declared.change.Detachment.{Detachment}
 use Rattle.gql_ast.specs.declared.change.Detachment.TheVariants.{Detach, NoDetach}
 use Rattle.gql_ast.specs.declared.refusal.Refusal.{Refusal}
 use Rattle.gql_ast.specs.declared.refusal.Refusal.TheVariants as refusal
-use Rattle.gql_change.specs.RowSteps.{RowList}
+use Rattle.gql_eval.specs.RowLists.{RowList}
 use Rattle.gql_change.specs.Changing.{Changed, changed_by_deletion}
 
 abbrev plain_node : ℕ → NodeRecord

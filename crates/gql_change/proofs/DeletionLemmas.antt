@@ -1,5 +1,6 @@
 -- A deletion: the refusal that is found is the definition's, and the changes lead to its graph.
 use Rattle.std.proofs.Common.{◌≡◌, ℕ, suc, ◌+◌, Bool, true, false, not, cond, eqb, ◌&&◌, List, [], ◌∷◌, ◌++◌, map, reverse, Option, Some, None, Result, Ok, Err, slice_get, refl, sym, ap, ◌∙◌, subst, arith, add-zero, zero-add, length}
+use Rattle.std.proofs.lemmas.Bool.{and_from, and_parts}
 use Rattle.std.specs.Prelude.{◌||◌, filter, find, option_map, position, nat_lt, ◌^◌}
 use Rattle.std.specs.List.{list_any, list_all, flat_map, position_from, position_or_len}
 use Rattle.std.proofs.lemmas.Bool.Decides.{nat_tests}
@@ -23,19 +24,19 @@ use Rattle.gql_ast.specs.declared.change.Detachment.TheVariants as detachment
 use Rattle.gql_ast.specs.declared.refusal.Refusal.{Refusal}
 use Rattle.gql_graph.specs.Edits.{node_key, edge_key, with_nodes, with_edges, has_edge, can_act_each, changed_by_each}
 use Rattle.gql_graph.specs.declared.change.Change.{Change}
-use Rattle.gql_change.specs.RowSteps.{RowList}
-use Rattle.gql_change.specs.Conflicts.{or_else}
+use Rattle.gql_eval.specs.RowLists.{RowList}
+use Rattle.std.specs.Option.{option_or}
 use Rattle.gql_change.specs.Deletion.{elements_in, named_elements, is_named, edge_goes, edge_left, left_on, first_left, deleted}
-use Rattle.gql_change.specs.Changing.{changed_by_deletion, unless_refused}
+use Rattle.gql_change.specs.Changing.{changed_by_deletion, refused_by}
 use Rattle.gql_change.specs.Plans.{LeadTo, Plans}
-use Rattle.gql_change.specs.DeletionSteps.{column_place, datum_or_null, value_at, row_elements, has_number, going_nodes, going_edges, other_edge, refused_at, other_edges, refusal_of, edge_out, node_out, outs, Deletes}
+use Rattle.gql_change.specs.Machinery.DeletionSteps.{column_place, datum_or_null, value_at, row_elements, has_number, deleted_nodes, deleted_edges, other_edge, refused_at, other_edges, refusal_of, edge_out, node_out, outs, Deletes}
 use Rattle.gql_change.specs.declared.fault.ChangeFault.{ChangeFault}
 use Rattle.gql_change.specs.declared.fault.ChangeFault.TheVariants as fault
-use Rattle.gql_change.proofs.ApplyLemmas.{first_true, second_true, both_true, can_act_each-append, changed_by_each-append}
+use Rattle.gql_change.proofs.ApplyLemmas.{can_act_each-append, changed_by_each-append}
 use Rattle.gql_change.proofs.RisingLemmas.{eqb_same, eqb_refl, not_among, rises_from_graph, rises-filter}
 use Rattle.gql_change.proofs.TakingOut.{list_all_both, list_all_weaker, filter_where, without, ends_stay, node_numbers, edge_numbers, graph_of_edges, edges_out, nodes_out}
-use Rattle.gql_change.proofs.GoingLemmas.{has_passing, node_found, edge_found, has_named_edge, nodes_rise, edges_rise}
-use Rattle.gql_change.specs.Rising.{rises_above}
+use Rattle.gql_change.proofs.DeletedNumbers.{has_passing, node_found, edge_found, has_named_edge, nodes_rise, edges_rise}
+use Rattle.gql_change.specs.Machinery.Rising.{rises_above}
 
 -- what a name stands for in a row stands at the place of its column
 shut : (cs : ColumnList) (x : List ℕ) → datum_of_name (row_scope cs []) x ≡ null
@@ -104,17 +105,17 @@ module _ {X : Type 0} (key : X → ℕ) where
   pub all_own : (xs : List X) → list_all (is_own xs) xs ≡ true
   all_own [] = refl
   all_own (x ∷ xs) =
-      both_true (is_own (x ∷ xs) x) (list_all (is_own (x ∷ xs)) xs) (ap (λ b. b || is_own xs x) (eqb_refl (key x)))
+      and_from (is_own (x ∷ xs) x) (list_all (is_own (x ∷ xs)) xs) (ap (λ b. b || is_own xs x) (eqb_refl (key x)))
       (list_all_weaker (is_own xs) (is_own (x ∷ xs)) (λ y h. or_right (eqb (key y) (key x)) (is_own xs y) h) xs (all_own xs))
 
   -- of items whose numbers ascend, taking out those that have a number of one that passes leaves those that don't pass
   later : (xs : List X) (low : ℕ) → rises_above low (map key xs) ≡ true → list_all (λ x. nat_lt low (key x)) xs ≡ true
   later [] low up = refl
   later (x ∷ xs) low up =
-      let here = first_true (nat_lt low (key x)) (rises_above (key x) (map key xs)) up in
-      both_true (nat_lt low (key x)) (list_all (λ y. nat_lt low (key y)) xs) here
+      let here = (and_parts (nat_lt low (key x)) (rises_above (key x) (map key xs)) up).0 in
+      and_from (nat_lt low (key x)) (list_all (λ y. nat_lt low (key y)) xs) here
       (list_all_weaker (λ y. nat_lt (key x) (key y)) (λ y. nat_lt low (key y)) (λ y h. grind (arith, nat_tests, here, h)) xs
-      (later xs (key x) (second_true (nat_lt low (key x)) (rises_above (key x) (map key xs)) up)))
+      (later xs (key x) ((and_parts (nat_lt low (key x)) (rises_above (key x) (map key xs)) up).1)))
 
   pub without_passing : (p : X → Bool) (xs : List X) (low : ℕ) → rises_above low (map key xs) ≡ true → without key (map key (filter p xs)) xs ≡ filter (λ x. not (p x)) xs
   without_passing p [] low up = refl
@@ -125,7 +126,7 @@ module _ {X : Type 0} (key : X → ℕ) where
       (without_passing p xs (key x) above)
     where
       above : rises_above (key x) (map key xs) ≡ true
-      above = second_true (nat_lt low (key x)) (rises_above (key x) (map key xs)) up
+      above = (and_parts (nat_lt low (key x)) (rises_above (key x) (map key xs)) up).1
 
       by_case : (b : Bool) → has_number (map key (filter p xs)) (key x) ≡ false → without key (key x ∷ map key (filter p xs)) xs ≡ without key (map key (filter p xs)) xs
           → without key (map key (filter p xs)) xs ≡ filter (λ y. not (p y)) xs
@@ -139,10 +140,10 @@ module _ {X : Type 0} (key : X → ℕ) where
   -- those that pass are there
   passing_there : (p : X → Bool) (there : ℕ → Bool) (xs : List X) → list_all (λ x. there (key x)) xs ≡ true → list_all there (map key (filter p xs)) ≡ true
   passing_there p there [] h = refl
-  passing_there p there (x ∷ xs) h = by_case (p x) (passing_there p there xs (second_true (there (key x)) (list_all (λ y. there (key y)) xs) h))
+  passing_there p there (x ∷ xs) h = by_case (p x) (passing_there p there xs ((and_parts (there (key x)) (list_all (λ y. there (key y)) xs) h).1))
     where
       by_case : (b : Bool) → list_all there (map key (filter p xs)) ≡ true → list_all there (map key (cond b (x ∷ filter p xs) (filter p xs))) ≡ true
-      by_case true rest = both_true (there (key x)) (list_all there (map key (filter p xs))) (first_true (there (key x)) (list_all (λ y. there (key y)) xs) h) rest
+      by_case true rest = and_from (there (key x)) (list_all there (map key (filter p xs))) ((and_parts (there (key x)) (list_all (λ y. there (key y)) xs) h).0) rest
       by_case false rest = rest
 
 module _ {X : Type 0} where
@@ -153,8 +154,8 @@ module _ {X : Type 0} where
   find_where : (t p q : X → Bool) → ((x : X) → t x ≡ true → p x ≡ q x) → (xs : List X) → list_all t xs ≡ true → find p xs ≡ find q xs
   find_where t p q same [] h = refl
   find_where t p q same (x ∷ xs) h =
-      let here = same x (first_true (t x) (list_all t xs) h) in
-      let rest = find_where t p q same xs (second_true (t x) (list_all t xs) h) in
+      let here = same x ((and_parts (t x) (list_all t xs) h).0) in
+      let rest = find_where t p q same xs ((and_parts (t x) (list_all t xs) h).1) in
       λ i. cond (here i) (Some x) (rest i)
 
   -- the first mapped item, among those that pass
@@ -205,8 +206,8 @@ detached es g (n ∷ ns) =
     (detached es g ns)
   where
     by_case : (b : Bool) → (b ≡ true → edge_left detachment.Detach es g n ≡ None) → first_left detachment.Detach es g ns ≡ None
-        → cond b (or_else (left_on n (edge_left detachment.Detach es g n)) (first_left detachment.Detach es g ns)) (first_left detachment.Detach es g ns) ≡ None
-    by_case true none rest = ap (λ (o : Option EdgeRecord). or_else (left_on n o) (first_left detachment.Detach es g ns)) (none refl) ∙ rest
+        → cond b (option_or (left_on n (edge_left detachment.Detach es g n)) (first_left detachment.Detach es g ns)) (first_left detachment.Detach es g ns) ≡ None
+    by_case true none rest = ap (λ (o : Option EdgeRecord). option_or (left_on n o) (first_left detachment.Detach es g ns)) (none refl) ∙ rest
     by_case false none rest = rest
 
 -- without it the first edge that isn't named is found
@@ -220,7 +221,7 @@ and_own false b h = refl
 
 module _ (es : List Elem) (g : PropertyGraph) where
   abbrev named_edges : List ℕ
-  named_edges = going_edges detachment.NoDetach es g
+  named_edges = deleted_edges detachment.NoDetach es g
 
   other_is : (n : NodeRecord) → other_edge named_edges g n.number.0 ≡ option_map (λ (r : EdgeRecord). r.number) (edge_left detachment.NoDetach es g n)
   other_is n =
@@ -238,15 +239,15 @@ module _ (es : List Elem) (g : PropertyGraph) where
     where
       by_case : (b : Bool) → other_edges named_edges g (map node_key (filter (λ (r : NodeRecord). is_named es (elem.Node r.number)) ns)) ≡ first_left detachment.NoDetach es g ns
           → other_edges named_edges g (map node_key (cond b (n ∷ filter (λ (r : NodeRecord). is_named es (elem.Node r.number)) ns) (filter (λ (r : NodeRecord). is_named es (elem.Node r.number)) ns)))
-          ≡ cond b (or_else (left_on n (edge_left detachment.NoDetach es g n)) (first_left detachment.NoDetach es g ns)) (first_left detachment.NoDetach es g ns)
-      by_case true rest = λ i. or_else ((ap (refused_at n.number.0) (other_is n) ∙ refused_first n (edge_left detachment.NoDetach es g n)) i) (rest i)
+          ≡ cond b (option_or (left_on n (edge_left detachment.NoDetach es g n)) (first_left detachment.NoDetach es g ns)) (first_left detachment.NoDetach es g ns)
+      by_case true rest = λ i. option_or ((ap (refused_at n.number.0) (other_is n) ∙ refused_first n (edge_left detachment.NoDetach es g n)) i) (rest i)
       by_case false rest = rest
 
-refusal_is : (d : Detachment) (es : List Elem) (g : PropertyGraph) → refusal_of d (going_edges d es g) g (going_nodes es g) ≡ first_left d es g g.nodes
+refusal_is : (d : Detachment) (es : List Elem) (g : PropertyGraph) → refusal_of d (deleted_edges d es g) g (deleted_nodes es g) ≡ first_left d es g g.nodes
 refusal_is detachment.Detach es g = sym (detached es g g.nodes)
 refusal_is detachment.NoDetach es g = first_is es g g.nodes
 
-pub refusal_found : (d : Detachment) (es : List Elem) (g : PropertyGraph) (edges nodes : List ℕ) → nodes ≡ going_nodes es g → edges ≡ going_edges d es g
+pub refusal_found : (d : Detachment) (es : List Elem) (g : PropertyGraph) (edges nodes : List ℕ) → nodes ≡ deleted_nodes es g → edges ≡ deleted_edges d es g
     → refusal_of d edges g nodes ≡ first_left d es g g.nodes
 refusal_found d es g edges nodes p q = (λ i. refusal_of d (q i) g (p i)) ∙ refusal_is d es g
 
@@ -260,11 +261,11 @@ module _ (n : NodeId) (ns : List ℕ) where
   one_more_stays : (number : EdgeId) (ends : Ends) (labels : List (List ℕ)) (properties : List (List ℕ × Datum))
       → (not (touches n (record { number = number; ends = ends; labels = labels; properties = properties })) && ends_stay ns ends) ≡ true → ends_stay (n.0 ∷ ns) ends ≡ true
   one_more_stays number (Directed s t) labels properties h =
-      stay_case (eqb s.0 n.0) (eqb t.0 n.0) (has_number ns s.0) (has_number ns t.0) (first_true (not (eqb s.0 n.0 || eqb t.0 n.0)) (ends_stay ns (Directed s t)) h)
-      (second_true (not (eqb s.0 n.0 || eqb t.0 n.0)) (ends_stay ns (Directed s t)) h)
+      stay_case (eqb s.0 n.0) (eqb t.0 n.0) (has_number ns s.0) (has_number ns t.0) ((and_parts (not (eqb s.0 n.0 || eqb t.0 n.0)) (ends_stay ns (Directed s t)) h).0)
+      ((and_parts (not (eqb s.0 n.0 || eqb t.0 n.0)) (ends_stay ns (Directed s t)) h).1)
   one_more_stays number (Undirected s t) labels properties h =
-      stay_case (eqb s.0 n.0) (eqb t.0 n.0) (has_number ns s.0) (has_number ns t.0) (first_true (not (eqb s.0 n.0 || eqb t.0 n.0)) (ends_stay ns (Undirected s t)) h)
-      (second_true (not (eqb s.0 n.0 || eqb t.0 n.0)) (ends_stay ns (Undirected s t)) h)
+      stay_case (eqb s.0 n.0) (eqb t.0 n.0) (has_number ns s.0) (has_number ns t.0) ((and_parts (not (eqb s.0 n.0 || eqb t.0 n.0)) (ends_stay ns (Undirected s t)) h).0)
+      ((and_parts (not (eqb s.0 n.0 || eqb t.0 n.0)) (ends_stay ns (Undirected s t)) h).1)
 
 all_stay : (e : Ends) → ends_stay [] e ≡ true
 all_stay (Directed s t) = refl
@@ -272,25 +273,25 @@ all_stay (Undirected s t) = refl
 
 every : {X : Type 0} (t : X → Bool) (xs : List X) → ((x : X) → t x ≡ true) → list_all t xs ≡ true
 every t [] h = refl
-every t (x ∷ xs) h = both_true (t x) (list_all t xs) (h x) (every t xs h)
+every t (x ∷ xs) h = and_from (t x) (list_all t xs) (h x) (every t xs h)
 
 -- of the items that don't pass q, a test of both is one of the other
 of_rest : {X : Type 0} (p q : X → Bool) (xs : List X) → list_all (λ x. not (p x && not (q x))) xs ≡ true → list_all (λ x. not (p x)) (filter (λ x. not (q x)) xs) ≡ true
 of_rest p q [] h = refl
 of_rest p q (x ∷ xs) h =
-    by_case (p x) (q x) (first_true (not (p x && not (q x))) (list_all (λ y. not (p y && not (q y))) xs) h)
-    (of_rest p q xs (second_true (not (p x && not (q x))) (list_all (λ y. not (p y && not (q y))) xs) h)) refl
+    by_case (p x) (q x) ((and_parts (not (p x && not (q x))) (list_all (λ y. not (p y && not (q y))) xs) h).0)
+    (of_rest p q xs ((and_parts (not (p x && not (q x))) (list_all (λ y. not (p y && not (q y))) xs) h).1)) refl
   where
     by_case : (a b : Bool) → not (a && not b) ≡ true → list_all (λ y. not (p y)) (filter (λ y. not (q y)) xs) ≡ true → p x ≡ a
         → list_all (λ y. not (p y)) (cond (not b) (x ∷ filter (λ y. not (q y)) xs) (filter (λ y. not (q y)) xs)) ≡ true
     by_case true true k rest is = rest
     by_case true false k rest is = absurd (cc)
     by_case false true k rest is = rest
-    by_case false false k rest is = both_true (not (p x)) (list_all (λ y. not (p y)) (filter (λ y. not (q y)) xs)) (ap not is) rest
+    by_case false false k rest is = and_from (not (p x)) (list_all (λ y. not (p y)) (filter (λ y. not (q y)) xs)) (ap not is) rest
 
-or_else_none : (o : Option EdgeRecord) (n : NodeRecord) (rest : Option Refusal) → or_else (left_on n o) rest ≡ None → (o ≡ None) × (rest ≡ None)
-or_else_none None n rest h = (refl, h)
-or_else_none (Some r) n rest h = absurd (cc)
+option_or_none : (o : Option EdgeRecord) (n : NodeRecord) (rest : Option Refusal) → option_or (left_on n o) rest ≡ None → (o ≡ None) × (rest ≡ None)
+option_or_none None n rest h = (refl, h)
+option_or_none (Some r) n rest h = absurd (cc)
 
 module _ (d : Detachment) (es : List Elem) (g : PropertyGraph) where
   abbrev edges_that_stay : List EdgeRecord
@@ -304,11 +305,11 @@ module _ (d : Detachment) (es : List Elem) (g : PropertyGraph) where
   ends_all_stay [] none = every (λ (r : EdgeRecord). ends_stay [] r.ends) edges_that_stay (λ r. all_stay r.ends)
   ends_all_stay (n ∷ ns) none = by_case (is_named es (elem.Node n.number)) none (λ h. ends_all_stay ns h)
     where
-      by_case : (b : Bool) → cond b (or_else (left_on n (edge_left d es g n)) (first_left d es g ns)) (first_left d es g ns) ≡ None
+      by_case : (b : Bool) → cond b (option_or (left_on n (edge_left d es g n)) (first_left d es g ns)) (first_left d es g ns) ≡ None
           → (first_left d es g ns ≡ None → list_all (λ (r : EdgeRecord). ends_stay (going_of ns) r.ends) edges_that_stay ≡ true)
           → list_all (λ (r : EdgeRecord). ends_stay (map node_key (cond b (n ∷ filter (λ (m : NodeRecord). is_named es (elem.Node m.number)) ns) (filter (λ (m : NodeRecord). is_named es (elem.Node m.number)) ns))) r.ends) edges_that_stay ≡ true
       by_case true none rest =
-          let parts = or_else_none (edge_left d es g n) n (first_left d es g ns) none in
+          let parts = option_or_none (edge_left d es g n) n (first_left d es g ns) none in
           list_all_weaker (λ (r : EdgeRecord). not (touches n.number r) && ends_stay (going_of ns) r.ends) (λ (r : EdgeRecord). ends_stay (n.number.0 ∷ going_of ns) r.ends)
           (λ r h. one_more_stays n.number (going_of ns) r.number r.ends r.labels r.properties h) edges_that_stay
           (list_all_both (λ (r : EdgeRecord). not (touches n.number r)) (λ (r : EdgeRecord). ends_stay (going_of ns) r.ends) edges_that_stay
@@ -321,37 +322,37 @@ module _ (d : Detachment) (es : List Elem) (g : PropertyGraph) (one : is_graph g
   abbrev without_edges : PropertyGraph
   without_edges = with_edges g (edges_that_stay d es g) g.next_edge
 
-  lead_edges : (can_act_each (map edge_out (reverse (going_edges d es g))) g ≡ true) × (changed_by_each (map edge_out (reverse (going_edges d es g))) g ≡ without_edges)
+  lead_edges : (can_act_each (map edge_out (reverse (deleted_edges d es g))) g ≡ true) × (changed_by_each (map edge_out (reverse (deleted_edges d es g))) g ≡ without_edges)
   lead_edges =
-      let all = edges_out g one (going_edges d es g) (edges_rise g one es d)
+      let all = edges_out g one (deleted_edges d es g) (edges_rise g one es d)
       (passing_there edge_key (edge_goes d es) (λ n. has_edge g (record { 0 = n })) g.edges
       (list_all_weaker (is_own edge_key g.edges) (λ (r : EdgeRecord). has_edge g (record { 0 = edge_key r })) (λ r own. edge_found g (edge_key r) ∙ own) g.edges (all_own edge_key g.edges))) in (
         all.0,
         all.1 ∙ ap (λ (l : List EdgeRecord). with_edges g l g.next_edge) (without_passing edge_key (edge_goes d es) g.edges 0
-            (rises_from_graph 0 (map edge_key g.edges) g.next_edge (first_true (numbers_ascend 0 (map edge_key g.edges) g.next_edge) (nat_lt g.next_edge (2 ^ 32)) (edge_numbers g one)))),
+            (rises_from_graph 0 (map edge_key g.edges) g.next_edge ((and_parts (numbers_ascend 0 (map edge_key g.edges) g.next_edge) (nat_lt g.next_edge (2 ^ 32)) (edge_numbers g one)).0))),
       )
 
-  lead_nodes : (can_act_each (map node_out (reverse (going_nodes es g))) without_edges ≡ true) × (changed_by_each (map node_out (reverse (going_nodes es g))) without_edges ≡ deleted d es g)
+  lead_nodes : (can_act_each (map node_out (reverse (deleted_nodes es g))) without_edges ≡ true) × (changed_by_each (map node_out (reverse (deleted_nodes es g))) without_edges ≡ deleted d es g)
   lead_nodes =
-      let all = nodes_out without_edges (graph_of_edges g one (λ (r : EdgeRecord). not (edge_goes d es r))) (going_nodes es g) (nodes_rise g one es)
+      let all = nodes_out without_edges (graph_of_edges g one (λ (r : EdgeRecord). not (edge_goes d es r))) (deleted_nodes es g) (nodes_rise g one es)
       (passing_there node_key (λ (r : NodeRecord). is_named es (elem.Node r.number)) (λ n. has_node without_edges (record { 0 = n })) g.nodes
       (list_all_weaker (is_own node_key g.nodes) (λ (r : NodeRecord). has_node without_edges (record { 0 = node_key r })) (λ r own. node_found g (node_key r) ∙ own) g.nodes (all_own node_key g.nodes)))
       (ends_all_stay d es g g.nodes none) in (
         all.0,
         all.1 ∙ ap (λ (l : List NodeRecord). with_nodes without_edges l g.next_node) (without_passing node_key (λ (r : NodeRecord). is_named es (elem.Node r.number)) g.nodes 0
-            (rises_from_graph 0 (map node_key g.nodes) g.next_node (first_true (numbers_ascend 0 (map node_key g.nodes) g.next_node) (nat_lt g.next_node (2 ^ 32)) (node_numbers g one)))),
+            (rises_from_graph 0 (map node_key g.nodes) g.next_node ((and_parts (numbers_ascend 0 (map node_key g.nodes) g.next_node) (nat_lt g.next_node (2 ^ 32)) (node_numbers g one)).0))),
       )
 
-  lead_all : LeadTo g (outs (going_nodes es g) (going_edges d es g)) (deleted d es g)
+  lead_all : LeadTo g (outs (deleted_nodes es g) (deleted_edges d es g)) (deleted d es g)
   lead_all =
-      let first = map edge_out (reverse (going_edges d es g)) in
-      let second = map node_out (reverse (going_nodes es g)) in (
+      let first = map edge_out (reverse (deleted_edges d es g)) in
+      let second = map node_out (reverse (deleted_nodes es g)) in (
         can_act_each-append first second g
-            ∙ both_true (can_act_each first g) (can_act_each second (changed_by_each first g)) lead_edges.0 (ap (can_act_each second) lead_edges.1 ∙ lead_nodes.0),
+            ∙ and_from (can_act_each first g) (can_act_each second (changed_by_each first g)) lead_edges.0 (ap (can_act_each second) lead_edges.1 ∙ lead_nodes.0),
         changed_by_each-append first second g ∙ ap (changed_by_each second) lead_edges.1 ∙ lead_nodes.1,
       )
 
-  pub lead_out : (cs : List Change) (nodes edges : List ℕ) → cs ≡ outs nodes edges → nodes ≡ going_nodes es g → edges ≡ going_edges d es g → LeadTo g cs (deleted d es g)
+  pub lead_out : (cs : List Change) (nodes edges : List ℕ) → cs ≡ outs nodes edges → nodes ≡ deleted_nodes es g → edges ≡ deleted_edges d es g → LeadTo g cs (deleted d es g)
   lead_out cs nodes edges is p q = subst (λ (l : List Change). LeadTo g l (deleted d es g)) (sym (is ∙ (λ i. outs (p i) (q i)))) lead_all
 
 -- a plan for the named elements is one of the clause
@@ -360,9 +361,9 @@ pub planned : (g : PropertyGraph) (columns : ColumnList) (rows : RowList) (d : D
 planned g columns rows d names es (Ok cs) is made =
     let P : List Elem → Type 0 = λ l. Deletes d l g (Ok cs) in
     let all : Deletes d (named_elements columns names rows) g (Ok cs) = subst P is made in
-    ((deleted d (named_elements columns names rows) g, rows), ap (λ (o : Option Refusal). unless_refused o (deleted d (named_elements columns names rows) g, rows)) all.0, all.1, refl)
+    ((deleted d (named_elements columns names rows) g, rows), ap (λ (o : Option Refusal). refused_by o (deleted d (named_elements columns names rows) g, rows)) all.0, all.1, refl)
 planned g columns rows d names es (Err fault.OutOfMemory) is made = tt
 planned g columns rows d names es (Err (fault.Refused r)) is made =
     let P : List Elem → Type 0 = λ l. Deletes d l g (Err (fault.Refused r)) in
     let all : Deletes d (named_elements columns names rows) g (Err (fault.Refused r)) = subst P is made in
-    ap (λ (o : Option Refusal). unless_refused o (deleted d (named_elements columns names rows) g, rows)) all
+    ap (λ (o : Option Refusal). refused_by o (deleted d (named_elements columns names rows) g, rows)) all

@@ -10,11 +10,11 @@ use Rattle.gql_ast.specs.Outputs.{kind_of_name}
 use Rattle.gql_ast.specs.InsertColumns.{Spots, spot_columns, path_spots, step_spots, with_variable}
 use Rattle.gql_ast.specs.declared.change.InsertStep.{InsertStep}
 use Rattle.std.specs.List.{flat_map}
-use Rattle.gql_eval.specs.Places.{place_among}
+use Rattle.gql_eval.specs.Machinery.Places.{place_among}
 use Rattle.gql_ast.specs.Endpoints.{is_node, wrong_endpoint, wrong_in_spots}
 use Rattle.gql_ast.specs.declared.change.InsertPath.{InsertPath}
 use Rattle.gql_change.specs.Changing.{is_empty}
-use Rattle.gql_change.specs.Endpoints.{may_stand}
+use Rattle.gql_change.specs.Machinery.Endpoints.{may_stand}
 
 -- what the first column of a name holds
 abbrev pub kind_at : ColumnList → List ℕ → Option ColumnKind

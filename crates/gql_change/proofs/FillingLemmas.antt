@@ -4,7 +4,7 @@ use Rattle.std.proofs.lemmas.List.{map-append}
 use Rattle.gql_values3.specs.Datum.{Datum}
 use Rattle.gql_values3.specs.Meaning.{datum_of}
 use Rattle.gql_values3.specs.declared.value.Value.{Value}
-use Rattle.gql_change.specs.Roles.{pair_of}
+use Rattle.gql_change.specs.Machinery.Roles.{pair_of}
 use Rattle.gql_change.specs.Storing.{PropertyList, with_property, property_set}
 
 -- the properties put among those that are in order already

@@ -1,5 +1,6 @@
 -- What SET and REMOVE do fits: the elements are in the graph, and what they get may be stored.
 use Rattle.std.proofs.Common.{◌≡◌, ℕ, Bool, true, false, List, [], ◌∷◌, ◌++◌, refl, ap, ◌∙◌, Option, Some, None, Result, Ok, Err}
+use Rattle.std.proofs.lemmas.Bool.{and_from}
 use Rattle.std.specs.Prelude.{◌&&◌, if◌then◌else◌}
 use Rattle.std.specs.List.{flat_map, list_all}
 use Rattle.gql_values3.specs.Datum.{Datum, Data, data_of, items_of, null, boolean, integer, text, list, node, edge, path, no_data, more_data}
@@ -20,16 +21,15 @@ use Rattle.gql_ast.specs.declared.change.SetItem.{SetItem}
 use Rattle.gql_ast.specs.declared.change.SetItem.TheVariants as set_item
 use Rattle.gql_ast.specs.declared.fault.DataFault.{DataFault}
 use Rattle.gql_ast.specs.declared.fault.DataFault.TheVariants as fault
-use Rattle.gql_eval.specs.Next.{next}
-use Rattle.gql_change.specs.RowSteps.{RowList, each_some}
+use Rattle.gql_eval.specs.Machinery.Next.{next}
+use Rattle.gql_eval.specs.RowLists.{RowList, each_some}
 use Rattle.gql_change.specs.Storing.{stored}
 use Rattle.gql_change.specs.Assignments.{on, target_in, set_property, set_by, removed_by, set_assignments, remove_assignments}
 use Rattle.gql_values3.specs.Meaning.{as_value}
-use Rattle.gql_change.specs.Swaps.{act_fits, fits, all_fit}
+use Rattle.gql_change.specs.Machinery.Swaps.{act_fits, fits, all_fit}
 use Rattle.gql_change.specs.declared.assignment.Act.{Act}
 use Rattle.gql_change.specs.declared.assignment.Act.TheVariants as act
 use Rattle.gql_change.specs.declared.assignment.Assignment.{Assignment}
-use Rattle.gql_change.proofs.StoringLemmas.{both_true}
 
 -- a step that gave b was given something
 next_gives : {A B : Type 0} (r : Result A DataFault) (f : A → Result B DataFault) (b : B) → next r f ≡ Ok b → (a : A) × (r ≡ Ok a) × (f a ≡ Ok b)
@@ -115,7 +115,7 @@ module _ (g : PropertyGraph) (params : List (List ℕ × Datum)) where
 
   on_fits : (t : Option Elem) (a : Act) → ((e : Elem) → t ≡ Some e → is_there g e ≡ true) → act_fits a ≡ true → all_fit g (on t a) ≡ true
   on_fits None a there fit = refl
-  on_fits (Some e) a there fit = both_true (is_there g e && act_fits a) true (both_true (is_there g e) (act_fits a) (there e refl) fit) refl
+  on_fits (Some e) a there fit = and_from (is_there g e && act_fits a) true (and_from (is_there g e) (act_fits a) (there e refl) fit) refl
 
   given_on : (scope : Scope) (x : List ℕ) (a : Act) (zs : List Assignment) → act_fits a ≡ true → next (target_in g params scope x) (λ t. Ok (on t a)) ≡ Ok zs → all_fit g zs ≡ true
   given_on scope x a zs fit h =

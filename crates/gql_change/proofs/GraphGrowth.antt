@@ -1,5 +1,6 @@
 -- A graph with one more node or edge of the next number is one, and changes that lead to it.
 use Rattle.std.proofs.Common.{◌≡◌, ℕ, suc, ◌^◌, Bool, true, false, ◌&&◌, ◌||◌, List, [], ◌∷◌, ◌++◌, map, refl, ap, ◌∙◌, arith, nat_lt, nat_le, ◌==◌}
+use Rattle.std.proofs.lemmas.Bool.{and_from, and_parts}
 use Rattle.std.specs.List.{list_all}
 use Rattle.std.proofs.lemmas.Bool.Decides.{nat_tests}
 use Rattle.std.proofs.lemmas.List.{map-append}
@@ -15,14 +16,13 @@ use Rattle.gql_graph.specs.declared.change.Change.{Change}
 use Rattle.gql_graph.specs.declared.change.Change.TheVariants as change
 use Rattle.gql_change.specs.Plans.{LeadTo}
 use Rattle.gql_change.specs.Insertion.{is_used_up}
-use Rattle.gql_change.proofs.StoringLemmas.{both_true, left_true, right_true}
 
 -- one change more
 pub leads_on : (g h : PropertyGraph) (cs : List Change) (c : Change) → LeadTo g cs h → can_act c h ≡ true → LeadTo g (cs ++ c ∷ []) (changed c h)
-leads_on g h [] c l q = (both_true (can_act c g) true (ap (can_act c) l.1 ∙ q) refl, ap (changed c) l.1)
+leads_on g h [] c l q = (and_from (can_act c g) true (ap (can_act c) l.1 ∙ q) refl, ap (changed c) l.1)
 leads_on g h (d ∷ ds) c l q =
-    let more : LeadTo (changed d g) (ds ++ c ∷ []) (changed c h) = leads_on (changed d g) h ds c (right_true (can_act d g) (can_act_each ds (changed d g)) l.0, l.1) q in
-    (both_true (can_act d g) (can_act_each (ds ++ c ∷ []) (changed d g)) (left_true (can_act d g) (can_act_each ds (changed d g)) l.0) more.0, more.1)
+    let more : LeadTo (changed d g) (ds ++ c ∷ []) (changed c h) = leads_on (changed d g) h ds c ((and_parts (can_act d g) (can_act_each ds (changed d g)) l.0).1, l.1) q in
+    (and_from (can_act d g) (can_act_each (ds ++ c ∷ []) (changed d g)) ((and_parts (can_act d g) (can_act_each ds (changed d g)) l.0).0) more.0, more.1)
 
 -- numbers
 below_next : (n : ℕ) → nat_lt n (suc n) ≡ true
@@ -35,26 +35,26 @@ room_left : (n : ℕ) → is_used_up n ≡ false → nat_lt (suc n) (2 ^ 32) ≡
 room_left n h = grind (arith, nat_tests, h)
 
 ascend_next : (low : ℕ) (ns : List ℕ) (next : ℕ) → numbers_ascend low ns next ≡ true → numbers_ascend low (ns ++ next ∷ []) (suc next) ≡ true
-ascend_next low [] next h = both_true (nat_lt low next) (nat_lt next (suc next)) h (below_next next)
+ascend_next low [] next h = and_from (nat_lt low next) (nat_lt next (suc next)) h (below_next next)
 ascend_next low (n ∷ ns) next h =
-    both_true (nat_lt low n) (numbers_ascend n (ns ++ next ∷ []) (suc next)) (left_true (nat_lt low n) (numbers_ascend n ns next) h)
-    (ascend_next n ns next (right_true (nat_lt low n) (numbers_ascend n ns next) h))
+    and_from (nat_lt low n) (numbers_ascend n (ns ++ next ∷ []) (suc next)) ((and_parts (nat_lt low n) (numbers_ascend n ns next) h).0)
+    (ascend_next n ns next ((and_parts (nat_lt low n) (numbers_ascend n ns next) h).1))
 
 module _ {X : Type 0} (key : X → ℕ) where
   numbers_next : (xs : List X) (x : X) (next : ℕ) → key x ≡ next → is_used_up next ≡ false → are_numbers (map key xs) next ≡ true → are_numbers (map key (xs ++ x ∷ [])) (suc next) ≡ true
   numbers_next xs x next same room h =
-      both_true (numbers_ascend 0 (map key (xs ++ x ∷ [])) (suc next)) (nat_lt (suc next) (2 ^ 32))
+      and_from (numbers_ascend 0 (map key (xs ++ x ∷ [])) (suc next)) (nat_lt (suc next) (2 ^ 32))
       (ap (λ ns. numbers_ascend 0 ns (suc next)) (map-append key xs (x ∷ []) ∙ ap (λ n. map key xs ++ n ∷ []) same)
-      ∙ ascend_next 0 (map key xs) next (left_true (numbers_ascend 0 (map key xs) next) (nat_lt next (2 ^ 32)) h))
+      ∙ ascend_next 0 (map key xs) next ((and_parts (numbers_ascend 0 (map key xs) next) (nat_lt next (2 ^ 32)) h).0))
       (room_left next room)
 
 all_on : {X : Type 0} (p : X → Bool) (xs : List X) (x : X) → list_all p xs ≡ true → p x ≡ true → list_all p (xs ++ x ∷ []) ≡ true
-all_on p [] x h q = both_true (p x) true q refl
-all_on p (y ∷ ys) x h q = both_true (p y) (list_all p (ys ++ x ∷ [])) (left_true (p y) (list_all p ys) h) (all_on p ys x (right_true (p y) (list_all p ys) h) q)
+all_on p [] x h q = and_from (p x) true q refl
+all_on p (y ∷ ys) x h q = and_from (p y) (list_all p (ys ++ x ∷ [])) ((and_parts (p y) (list_all p ys) h).0) (all_on p ys x ((and_parts (p y) (list_all p ys) h).1) q)
 
 all_weaker : {X : Type 0} (p q : X → Bool) → ((x : X) → p x ≡ true → q x ≡ true) → (xs : List X) → list_all p xs ≡ true → list_all q xs ≡ true
 all_weaker p q more [] h = refl
-all_weaker p q more (x ∷ xs) h = both_true (q x) (list_all q xs) (more x (left_true (p x) (list_all p xs) h)) (all_weaker p q more xs (right_true (p x) (list_all p xs) h))
+all_weaker p q more (x ∷ xs) h = and_from (q x) (list_all q xs) (more x ((and_parts (p x) (list_all p xs) h).0)) (all_weaker p q more xs ((and_parts (p x) (list_all p xs) h).1))
 
 -- a node that is there stays, and the new one is there
 either : (b r s : Bool) → (r ≡ true → s ≡ true) → (b || r) ≡ true → (b || s) ≡ true
@@ -80,18 +80,18 @@ among_new (s ∷ ss) r n h = second (s.number.0 == n.0) (is_among (ss ++ r ∷ [
 module _ (nodes more : List NodeRecord) (kept : (n : NodeId) → is_among nodes n ≡ true → is_among more n ≡ true) where
   ends_stay : (e : Ends) → are_ends nodes e ≡ true → are_ends more e ≡ true
   ends_stay (Directed s t) h =
-      both_true (is_among more s) (is_among more t) (kept s (left_true (is_among nodes s) (is_among nodes t) h)) (kept t (right_true (is_among nodes s) (is_among nodes t) h))
+      and_from (is_among more s) (is_among more t) (kept s ((and_parts (is_among nodes s) (is_among nodes t) h).0)) (kept t ((and_parts (is_among nodes s) (is_among nodes t) h).1))
   ends_stay (Undirected l m) h =
-      let two = left_true (is_among nodes l && is_among nodes m) (nat_le l.0 m.0) h in
-      both_true (is_among more l && is_among more m) (nat_le l.0 m.0)
-      (both_true (is_among more l) (is_among more m) (kept l (left_true (is_among nodes l) (is_among nodes m) two)) (kept m (right_true (is_among nodes l) (is_among nodes m) two)))
-      (right_true (is_among nodes l && is_among nodes m) (nat_le l.0 m.0) h)
+      let two = (and_parts (is_among nodes l && is_among nodes m) (nat_le l.0 m.0) h).0 in
+      and_from (is_among more l && is_among more m) (nat_le l.0 m.0)
+      (and_from (is_among more l) (is_among more m) (kept l ((and_parts (is_among nodes l) (is_among nodes m) two).0)) (kept m ((and_parts (is_among nodes l) (is_among nodes m) two).1)))
+      ((and_parts (is_among nodes l && is_among nodes m) (nat_le l.0 m.0) h).1)
 
   edge_stays : (r : EdgeRecord) → is_edge_record nodes r ≡ true → is_edge_record more r ≡ true
   edge_stays r h =
-      both_true (texts_ascend r.labels && are_properties r.properties) (are_ends more r.ends)
-      (left_true (texts_ascend r.labels && are_properties r.properties) (are_ends nodes r.ends) h)
-      (ends_stay r.ends (right_true (texts_ascend r.labels && are_properties r.properties) (are_ends nodes r.ends) h))
+      and_from (texts_ascend r.labels && are_properties r.properties) (are_ends more r.ends)
+      ((and_parts (texts_ascend r.labels && are_properties r.properties) (are_ends nodes r.ends) h).0)
+      (ends_stay r.ends ((and_parts (texts_ascend r.labels && are_properties r.properties) (are_ends nodes r.ends) h).1))
 
 abbrev node_key : NodeRecord → ℕ
 node_key r = r.number.0
@@ -101,36 +101,36 @@ edge_key r = r.number.0
 
 module _ (g : PropertyGraph) (one : is_graph g ≡ true) where
   nodes_are : are_nodes g.nodes g.next_node ≡ true
-  nodes_are = left_true (are_nodes g.nodes g.next_node) (are_edges g.nodes g.edges g.next_edge) one
+  nodes_are = (and_parts (are_nodes g.nodes g.next_node) (are_edges g.nodes g.edges g.next_edge) one).0
 
   edges_are : are_edges g.nodes g.edges g.next_edge ≡ true
-  edges_are = right_true (are_nodes g.nodes g.next_node) (are_edges g.nodes g.edges g.next_edge) one
+  edges_are = (and_parts (are_nodes g.nodes g.next_node) (are_edges g.nodes g.edges g.next_edge) one).1
 
   pub node_can_act : (r : NodeRecord) → is_used_up g.next_node ≡ false → is_node_record r ≡ true → r.number.0 ≡ g.next_node → can_act (change.NewNode r) g ≡ true
   node_can_act r room fit same =
-      let numbers = left_true (are_numbers (map node_key g.nodes) g.next_node) (list_all is_node_record g.nodes) nodes_are in
-      let records = right_true (are_numbers (map node_key g.nodes) g.next_node) (list_all is_node_record g.nodes) nodes_are in
-      let edge_numbers = left_true (are_numbers (map edge_key g.edges) g.next_edge) (list_all (is_edge_record g.nodes) g.edges) edges_are in
-      let edge_records = right_true (are_numbers (map edge_key g.edges) g.next_edge) (list_all (is_edge_record g.nodes) g.edges) edges_are in
-      both_true (suits (change.NewNode r) g) (is_graph (changed (change.NewNode r) g))
-      (both_true (r.number.0 == g.next_node) (nat_lt (suc g.next_node) (2 ^ 32)) (same_number r.number.0 g.next_node same) (room_left g.next_node room))
-      (both_true (are_nodes (g.nodes ++ r ∷ []) (suc g.next_node)) (are_edges (g.nodes ++ r ∷ []) g.edges g.next_edge)
-      (both_true (are_numbers (map node_key (g.nodes ++ r ∷ [])) (suc g.next_node)) (list_all is_node_record (g.nodes ++ r ∷ []))
+      let numbers = (and_parts (are_numbers (map node_key g.nodes) g.next_node) (list_all is_node_record g.nodes) nodes_are).0 in
+      let records = (and_parts (are_numbers (map node_key g.nodes) g.next_node) (list_all is_node_record g.nodes) nodes_are).1 in
+      let edge_numbers = (and_parts (are_numbers (map edge_key g.edges) g.next_edge) (list_all (is_edge_record g.nodes) g.edges) edges_are).0 in
+      let edge_records = (and_parts (are_numbers (map edge_key g.edges) g.next_edge) (list_all (is_edge_record g.nodes) g.edges) edges_are).1 in
+      and_from (suits (change.NewNode r) g) (is_graph (changed (change.NewNode r) g))
+      (and_from (r.number.0 == g.next_node) (nat_lt (suc g.next_node) (2 ^ 32)) (same_number r.number.0 g.next_node same) (room_left g.next_node room))
+      (and_from (are_nodes (g.nodes ++ r ∷ []) (suc g.next_node)) (are_edges (g.nodes ++ r ∷ []) g.edges g.next_edge)
+      (and_from (are_numbers (map node_key (g.nodes ++ r ∷ [])) (suc g.next_node)) (list_all is_node_record (g.nodes ++ r ∷ []))
       (numbers_next node_key g.nodes r g.next_node same room numbers) (all_on is_node_record g.nodes r records fit))
-      (both_true (are_numbers (map edge_key g.edges) g.next_edge) (list_all (is_edge_record (g.nodes ++ r ∷ [])) g.edges)
+      (and_from (are_numbers (map edge_key g.edges) g.next_edge) (list_all (is_edge_record (g.nodes ++ r ∷ [])) g.edges)
       edge_numbers
       (all_weaker (is_edge_record g.nodes) (is_edge_record (g.nodes ++ r ∷ [])) (edge_stays g.nodes (g.nodes ++ r ∷ []) (λ n. among_on g.nodes r n)) g.edges edge_records)))
 
   pub edge_can_act : (r : EdgeRecord) → is_used_up g.next_edge ≡ false → is_edge_record g.nodes r ≡ true → r.number.0 ≡ g.next_edge → can_act (change.NewEdge r) g ≡ true
   edge_can_act r room fit same =
-      let edge_numbers = left_true (are_numbers (map edge_key g.edges) g.next_edge) (list_all (is_edge_record g.nodes) g.edges) edges_are in
-      let edge_records = right_true (are_numbers (map edge_key g.edges) g.next_edge) (list_all (is_edge_record g.nodes) g.edges) edges_are in
-      both_true (suits (change.NewEdge r) g) (is_graph (changed (change.NewEdge r) g))
-      (both_true (r.number.0 == g.next_edge) (nat_lt (suc g.next_edge) (2 ^ 32)) (same_number r.number.0 g.next_edge same) (room_left g.next_edge room))
-      (both_true (are_nodes g.nodes g.next_node) (are_edges g.nodes (g.edges ++ r ∷ []) (suc g.next_edge)) nodes_are
-      (both_true (are_numbers (map edge_key (g.edges ++ r ∷ [])) (suc g.next_edge)) (list_all (is_edge_record g.nodes) (g.edges ++ r ∷ []))
+      let edge_numbers = (and_parts (are_numbers (map edge_key g.edges) g.next_edge) (list_all (is_edge_record g.nodes) g.edges) edges_are).0 in
+      let edge_records = (and_parts (are_numbers (map edge_key g.edges) g.next_edge) (list_all (is_edge_record g.nodes) g.edges) edges_are).1 in
+      and_from (suits (change.NewEdge r) g) (is_graph (changed (change.NewEdge r) g))
+      (and_from (r.number.0 == g.next_edge) (nat_lt (suc g.next_edge) (2 ^ 32)) (same_number r.number.0 g.next_edge same) (room_left g.next_edge room))
+      (and_from (are_nodes g.nodes g.next_node) (are_edges g.nodes (g.edges ++ r ∷ []) (suc g.next_edge)) nodes_are
+      (and_from (are_numbers (map edge_key (g.edges ++ r ∷ [])) (suc g.next_edge)) (list_all (is_edge_record g.nodes) (g.edges ++ r ∷ []))
       (numbers_next edge_key g.edges r g.next_edge same room edge_numbers) (all_on (is_edge_record g.nodes) g.edges r edge_records fit)))
 
 -- a change of a graph leaves one
 pub still_graph : (c : Change) (g : PropertyGraph) → can_act c g ≡ true → is_graph (changed c g) ≡ true
-still_graph c g h = right_true (suits c g) (is_graph (changed c g)) h
+still_graph c g h = (and_parts (suits c g) (is_graph (changed c g)) h).1

@@ -23,7 +23,7 @@ use Rattle.gql_ast.specs.declared.refusal.ElemKind.TheVariants as sort
 use Rattle.gql_ast.specs.declared.refusal.Refusal.{Refusal}
 use Rattle.gql_ast.specs.declared.refusal.Refusal.TheVariants as refusal
 use Rattle.gql_change.specs.Storing.{PropertyList}
-use Rattle.gql_change.specs.Changing.{Changed, inserted}
+use Rattle.gql_change.specs.Changing.{Changed, changed_by_insert}
 
 abbrev graph_of : List NodeRecord → List EdgeRecord → ℕ → ℕ → PropertyGraph
 graph_of nodes edges next_node next_edge = record { nodes = nodes; edges = edges; next_node = next_node; next_edge = next_edge }
@@ -66,7 +66,7 @@ abbrev path : Fill → List InsertStep → InsertPath
 path start steps = record { start = start; steps = steps }
 
 abbrev inserted_into : PropertyGraph → ColumnList → List Datum → List InsertPath → Result Changed Refusal
-inserted_into g columns row ps = inserted g [] columns (row ∷ []) ps
+inserted_into g columns row ps = changed_by_insert g [] columns (row ∷ []) ps
 
 -- (a:A {n: 1})-[:T]->(b:A {n: 2})
 pub two_nodes : inserted_into empty [] [] (path (mapped (codes "a") (item (codes "n") (digits_of (codes "1")) ∷ [])) (step arrow.Right None (mapped (codes "b") (item (codes "n") (digits_of (codes "2")) ∷ [])) ∷ []) ∷ [])
@@ -112,7 +112,7 @@ null_makes_none = refl
 abbrev some_column : ColumnList
 some_column = (codes "x", kind.Plain) ∷ []
 
-a_node_each : inserted empty [] some_column ((integer (pos 7) ∷ []) ∷ (null ∷ []) ∷ []) (path (mapped (codes "a") (item (codes "n") (expr.Name (codes "x")) ∷ [])) [] ∷ [])
+a_node_each : changed_by_insert empty [] some_column ((integer (pos 7) ∷ []) ∷ (null ∷ []) ∷ []) (path (mapped (codes "a") (item (codes "n") (expr.Name (codes "x")) ∷ [])) [] ∷ [])
     ≡ Ok (graph_of (node_record 1 (codes "A" ∷ []) ((codes "n", integer (pos 7)) ∷ []) ∷ node_record 2 (codes "A" ∷ []) [] ∷ []) [] 3 1, (integer (pos 7) ∷ node 1 ∷ []) ∷ (null ∷ node 2 ∷ []) ∷ [])
 unfolding value_of
 a_node_each = refl

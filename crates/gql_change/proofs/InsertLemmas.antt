@@ -2,6 +2,7 @@
 -- is left of a row's spots says the same of it as the names do. Each node that a later spot refers to is one of the graph
 -- so far, since it was looked at or made; so each edge has its nodes.
 use Rattle.std.proofs.Common.{◌≡◌, ℕ, suc, ◌+◌, ◌<◌, Bool, true, false, cond, ◌||◌, List, [], ◌∷◌, ◌++◌, length, Option, Some, None, Ok, Err, refl, sym, ap, ◌∙◌, arith, length-append, ◌==◌, ◌&&◌, is_some, nat_le, nat_lt, ◌⊎◌, inl, inr}
+use Rattle.std.proofs.lemmas.Bool.{and_from, and_parts}
 use Rattle.std.specs.List.{list_all}
 use Rattle.std.proofs.lemmas.Bool.Decides.{nat_tests}
 use Rattle.gql_values3.specs.Datum.{Datum, null, node, edge}
@@ -20,23 +21,23 @@ use Rattle.gql_ast.specs.declared.change.Fill.{Fill}
 use Rattle.gql_ast.specs.declared.filler.MapItem.{MapItem}
 use Rattle.gql_ast.specs.declared.refusal.ElemKind.{ElemKind}
 use Rattle.gql_ast.specs.declared.refusal.ElemKind.TheVariants as sort
-use Rattle.gql_eval.specs.Places.{place_among}
+use Rattle.gql_eval.specs.Machinery.Places.{place_among}
 use Rattle.gql_eval.proofs.ScopeLemmas.{place_below}
 use Rattle.gql_graph.specs.Edits.{with_nodes, can_act}
 use Rattle.gql_graph.specs.declared.change.Change.{Change}
 use Rattle.gql_graph.specs.declared.change.Change.TheVariants as change
 use Rattle.gql_change.specs.Plans.{LeadTo}
 use Rattle.gql_change.specs.Storing.{PropertyList}
-use Rattle.gql_change.specs.Insertion.{Making, Made, ◌>>>◌, is_used_up, first_values, later_values, labels_given, node_number, new_node, number_under, make_node, past_spot, ends_between}
-use Rattle.gql_change.specs.Roles.{Question, questions, datum_at, role_at, role_of}
-use Rattle.gql_change.specs.Works.{work_node, node_of_spot, gives_column, with_node, edge_begun, properties_given, longer_row}
+use Rattle.gql_change.specs.Insertion.{Making, OrFull, ◌>>>◌, is_used_up, first_values, later_values, labels_given, node_number, new_node, number_under, make_node, past_spot, ends_between}
+use Rattle.gql_change.specs.Machinery.Roles.{Question, questions, datum_at, role_at, role_of}
+use Rattle.gql_change.specs.Machinery.InsertByPlaces.{insert_node, node_of_spot, gives_column, with_node, edge_begun, properties_given, longer_row}
 use Rattle.gql_change.specs.declared.role.Role.{Role}
 use Rattle.gql_change.specs.declared.role.Role.TheVariants as role
-use Rattle.gql_change.specs.declared.spot.Spot.{Spot}
-use Rattle.gql_change.specs.declared.spot.Spot.TheVariants as spot
-use Rattle.gql_change.specs.declared.work.Work.{Work}
+use Rattle.gql_change.specs.declared.row_spots.Spot.{Spot}
+use Rattle.gql_change.specs.declared.row_spots.Spot.TheVariants as spot
+use Rattle.gql_change.specs.declared.insert_state.InsertState.{InsertState}
 use Rattle.gql_change.proofs.PlaceOfName.{column_placed}
-use Rattle.gql_change.proofs.StoringLemmas.{both_true, texts_ascend-label_set, are_properties-property_set}
+use Rattle.gql_change.proofs.StoringLemmas.{texts_ascend-label_set, are_properties-property_set}
 use Rattle.gql_change.proofs.GraphGrowth.{leads_on, among_on, among_new, node_can_act, still_graph}
 use Rattle.gql_change.proofs.NamedPlaces.{datum_named, datum_before, datum_last, kind_at, kind_last, back_empty, refers_to, is_reference, edge_not_referred}
 
@@ -49,8 +50,8 @@ abbrev pub spots_with : List Question → List PropertyList → List Spot
 spots_with [] vs = []
 spots_with (q ∷ qs) vs = spot_with q.0 (first_values vs) ∷ spots_with qs (later_values vs)
 
-abbrev pub work_of : List Change → Making → Spots → Work
-work_of cs m ss = record {
+abbrev pub state_with : List Change → Making → Spots → InsertState
+state_with cs m ss = record {
   changes = cs;
   next_node = m.graph.next_node;
   next_edge = m.graph.next_edge;
@@ -91,20 +92,20 @@ abbrev pub Sure : PropertyGraph → List Datum → List Question → Type 0
 Sure g row qs = (i : ℕ) → refers_to i qs ≡ true → i < length row → IsNodeIn g (datum_at row i)
 
 -- Two makings agree: the same refusal, or what belongs together.
-abbrev pub Agrees : {A B : Type 0} → (A → B → Type 0) → Made A → Made B → Type 0
+abbrev pub Agrees : {A B : Type 0} → (A → B → Type 0) → OrFull A → OrFull B → Type 0
 Agrees P (Ok x) (Ok y) = P x y
 Agrees P (Err j) (Err k) = j ≡ k
 Agrees P (Ok x) (Err k) = ⊥
 Agrees P (Err j) (Ok y) = ⊥
 
-pub then_agrees : {A B C D : Type 0} (P : A → B → Type 0) (Q : C → D → Type 0) (r : Made A) (q : Made B) (f : A → Made C) (h : B → Made D)
+pub then_agrees : {A B C D : Type 0} (P : A → B → Type 0) (Q : C → D → Type 0) (r : OrFull A) (q : OrFull B) (f : A → OrFull C) (h : B → OrFull D)
     → Agrees P r q → ((x : A) (y : B) → P x y → Agrees Q (f x) (h y)) → Agrees Q (r >>> f) (q >>> h)
 then_agrees P Q (Ok x) (Ok y) f h p more = more x y p
 then_agrees P Q (Err j) (Err k) f h p more = p
 then_agrees P Q (Ok x) (Err k) f h p more = absurd p
 then_agrees P Q (Err j) (Ok y) f h p more = absurd p
 
-pub unless_used_up : {A B : Type 0} (P : A → B → Type 0) (used : Bool) (k : ElemKind) (x : Made A) (y : Made B) → (used ≡ false → Agrees P x y)
+pub unless_used_up : {A B : Type 0} (P : A → B → Type 0) (used : Bool) (k : ElemKind) (x : OrFull A) (y : OrFull B) → (used ≡ false → Agrees P x y)
     → Agrees P (cond used (Err k) x) (cond used (Err k) y)
 unless_used_up P true k x y h = refl
 unless_used_up P false k x y h = h refl
@@ -127,15 +128,15 @@ module _ (g0 : PropertyGraph) where
     pub kept : (n : NodeId) → is_among g0.nodes n ≡ true → is_among m.graph.nodes n ≡ true
 
   -- behind a node: its number is a node's
-  pub record Behind (ss : Spots) (x : Work × ℕ) (y : Making × ℕ) : Type 0 where
+  pub record Behind (ss : Spots) (x : InsertState × ℕ) (y : Making × ℕ) : Type 0 where
     pub changes : List Change
-    pub work : x.0 ≡ work_of changes y.0 ss
+    pub state : x.0 ≡ state_with changes y.0 ss
     pub number : x.1 ≡ y.1
     pub good : Good y.0 changes ss
     pub there : is_among y.0.graph.nodes (record { 0 = y.1 }) ≡ true
 
   -- and behind a node the numbers of edges are those before, and so are the nodes that were there
-  pub record AtNode (m : Making) (ss : Spots) (x : Work × ℕ) (y : Making × ℕ) : Type 0 where
+  pub record AtNode (m : Making) (ss : Spots) (x : InsertState × ℕ) (y : Making × ℕ) : Type 0 where
     pub behind : Behind ss x y
     pub edges : y.0.graph.next_edge ≡ m.graph.next_edge
     pub more : (n : NodeId) → is_among m.graph.nodes n ≡ true → is_among y.0.graph.nodes n ≡ true
@@ -144,7 +145,7 @@ module _ (g0 : PropertyGraph) where
   node_joins : (m : Making) (cs : List Change) (ss0 : Spots) (f : Fill) → Good m cs ss0 → is_used_up m.graph.next_node ≡ false → can_act (change.NewNode (new_node m f)) m.graph ≡ true
   node_joins m cs ss0 f good room =
       node_can_act m.graph good.graph (new_node m f) room
-      (both_true _ _ (texts_ascend-label_set (labels_given f.labels)) (are_properties-property_set (first_values m.values) (first_kept m.values good.storable))) refl
+      (and_from _ _ (texts_ascend-label_set (labels_given f.labels)) (are_properties-property_set (first_values m.values) (first_kept m.values good.storable))) refl
 
   abbrev grown : Making → Fill → PropertyGraph
   grown m f = with_nodes m.graph (m.graph.nodes ++ new_node m f ∷ []) (suc m.graph.next_node)
@@ -166,7 +167,7 @@ module _ (g0 : PropertyGraph) where
       record {
         behind = record {
           changes = cs ++ change.NewNode (new_node m f) ∷ [];
-          work = let more : m.graph.next_node + 1 ≡ suc m.graph.next_node = omega arith in ap counted more;
+          state = let more : m.graph.next_node + 1 ≡ suc m.graph.next_node = omega arith in ap counted more;
           number = refl;
           good = record {
             leads = leads_on g0 m.graph cs (change.NewNode (new_node m f)) good.leads acts;
@@ -183,7 +184,7 @@ module _ (g0 : PropertyGraph) where
         more = λ n h. among_on m.graph.nodes (new_node m f) n h;
       }
     where
-      counted : ℕ → Work
+      counted : ℕ → InsertState
       counted n = record {
         changes = cs ++ change.NewNode (new_node m f) ∷ [];
         next_node = n;
@@ -213,19 +214,11 @@ module _ (g0 : PropertyGraph) where
   longer : (row : List Datum) (d : Datum) (cs : ColumnList) (c : List ℕ × ColumnKind) → length row ≡ length cs → length (row ++ d ∷ []) ≡ length (cs ++ c ∷ [])
   longer row d cs c h = omega (arith, length-append row (d ∷ []), length-append cs (c ∷ []), h)
 
-  second_true : (b s : Bool) → s ≡ true → (b || s) ≡ true
-  second_true true s h = refl
-  second_true false s h = h
-
-  first_true : (b s : Bool) → b ≡ true → (b || s) ≡ true
-  first_true true s h = refl
-  first_true false s h = absurd (cc)
-
   equal_number : (n : ℕ) → (n == n) ≡ true
   equal_number n = grind (arith, nat_tests)
 
   module _ (m : Making) (cs : List Change) (ss : Spots) (x : List ℕ) (ls : Option (List (List ℕ))) (is : Option (List MapItem)) where
-    abbrev named_work : Bool → Option ℕ → Made (Work × ℕ)
+    abbrev named_work : Bool → Option ℕ → OrFull (InsertState × ℕ)
     named_work b o = node_of_spot (spot_with (role_at kind.Node o) (first_values m.values)) (fill (Some x) ls is) (record {
       changes = cs;
       next_node = m.graph.next_node;
@@ -234,7 +227,7 @@ module _ (g0 : PropertyGraph) where
       spots = spots_with (questions (columns_by b m.columns kind.Node x) ss) (later_values m.values);
     })
 
-    abbrev named_making : Bool → Made (Making × ℕ)
+    abbrev named_making : Bool → OrFull (Making × ℕ)
     named_making b =
         cond b (Ok (record { graph = m.graph; columns = columns_by b m.columns kind.Node x; row = row_by b m.row null; values = later_values m.values }, number_under m (Some x)))
         (cond (is_used_up m.graph.next_node) (Err sort.Node)
@@ -244,19 +237,19 @@ module _ (g0 : PropertyGraph) where
     referred : (i : ℕ) (ss0 : Spots) → Good m cs ss0 → place_among m.columns x ≡ Some i → wrong_in_spots m.columns ss ≡ []
         → Sure m.graph m.row ((role.Refers i, []) ∷ questions m.columns ss) → Agrees (AtNode m ss) (named_work true (Some i)) (named_making true)
     referred i ss0 good place kinds sure =
-        let it : IsNodeIn m.graph (datum_at m.row i) = sure i (first_true (i == i) (refers_to i (questions m.columns ss)) (equal_number i)) (omega (arith, place_below m.columns x i place, good.width)) in
+        let it : IsNodeIn m.graph (datum_at m.row i) = sure i ((and_parts (i == i) (refers_to i (questions m.columns ss)) (equal_number i)).0) (omega (arith, place_below m.columns x i place, good.width)) in
         let named : number_under m (Some x) ≡ node_number (datum_at m.row i) = ap node_number (datum_named m.columns m.row x i place) in
         record {
           behind = record {
             changes = cs;
-            work = refl;
+            state = refl;
             number = sym named;
             good = record {
               leads = good.leads;
               graph = good.graph;
               width = good.width;
               kinds = kinds;
-              sure = λ j r h. sure j (second_true (j == i) (refers_to j (questions m.columns ss)) r) h;
+              sure = λ j r h. sure j ((and_parts (j == i) (refers_to j (questions m.columns ss)) r).1) h;
               storable = later_kept m.values good.storable;
               kept = good.kept;
             };
@@ -288,7 +281,7 @@ module _ (g0 : PropertyGraph) where
         (longer m.row (node m.graph.next_node) m.columns (x, kind.Node) good.width) sure)
 
     -- the spot of an edge
-    abbrev edge_work : Bool → Option ℕ → Work
+    abbrev edge_work : Bool → Option ℕ → InsertState
     edge_work b o = record {
       changes = cs;
       next_node = m.graph.next_node;
@@ -301,7 +294,7 @@ module _ (g0 : PropertyGraph) where
     edge_making b = record { graph = m.graph; columns = columns_by b m.columns kind.Edge x; row = row_by b m.row (edge m.graph.next_edge); values = later_values m.values }
 
     edge_named : (b : Bool) (o : Option ℕ) (ss0 : Spots) → Good m cs ss0 → b ≡ is_some o → wrong_in_spots (columns_by b m.columns kind.Edge x) ss ≡ []
-        → Sure m.graph m.row (questions (columns_by b m.columns kind.Edge x) ss) → (edge_work b o ≡ work_of cs (edge_making b) ss) × Good (edge_making b) cs ss
+        → Sure m.graph m.row (questions (columns_by b m.columns kind.Edge x) ss) → (edge_work b o ≡ state_with cs (edge_making b) ss) × Good (edge_making b) cs ss
     edge_named true None ss0 good same kinds sure = absurd (cc)
     edge_named false (Some i) ss0 good same kinds sure = absurd (cc)
     edge_named true (Some i) ss0 good same kinds sure = (
@@ -337,7 +330,7 @@ module _ (g0 : PropertyGraph) where
         at_end i (inr h) r = absurd (let e : true ≡ false = sym r ∙ unreferred i (h ∙ good.width) in cc)
 
   pub node_agrees : (m : Making) (cs : List Change) (ss : Spots) (v : Option (List ℕ)) (ls : Option (List (List ℕ))) (is : Option (List MapItem)) → Good m cs ((kind.Node, fill v ls is) ∷ ss)
-      → Agrees (AtNode m ss) (work_node (fill v ls is) (work_of cs m ((kind.Node, fill v ls is) ∷ ss))) (make_node m (fill v ls is))
+      → Agrees (AtNode m ss) (insert_node (fill v ls is) (state_with cs m ((kind.Node, fill v ls is) ∷ ss))) (make_node m (fill v ls is))
   node_agrees m cs ss None ls is good =
       unless_used_up (AtNode m ss) (is_used_up m.graph.next_node) sort.Node
       (Ok (
@@ -358,7 +351,7 @@ module _ (g0 : PropertyGraph) where
 
   -- an edge that takes its number
   pub edge_spot : (m : Making) (cs : List Change) (ss : Spots) (v : Option (List ℕ)) (ls : Option (List (List ℕ))) (is : Option (List MapItem)) → Good m cs ((kind.Edge, fill v ls is) ∷ ss)
-      → (edge_begun (work_of cs m ((kind.Edge, fill v ls is) ∷ ss)) ≡ work_of cs (past_spot m m.graph kind.Edge v (edge m.graph.next_edge)) ss) × Good (past_spot m m.graph kind.Edge v (edge m.graph.next_edge)) cs ss
+      → (edge_begun (state_with cs m ((kind.Edge, fill v ls is) ∷ ss)) ≡ state_with cs (past_spot m m.graph kind.Edge v (edge m.graph.next_edge)) ss) × Good (past_spot m m.graph kind.Edge v (edge m.graph.next_edge)) cs ss
   edge_spot m cs ss None ls is good = (
     refl,
     record {
@@ -373,7 +366,7 @@ module _ (g0 : PropertyGraph) where
   )
   edge_spot m cs ss (Some x) ls is good =
       edge_named m cs ss x ls is (is_column m.columns x) (place_among m.columns x) ((kind.Edge, fill (Some x) ls is) ∷ ss) good (column_placed m.columns x) good.kinds
-      (λ i r h. good.sure i (second_true (is_reference i (role_at kind.Edge (place_among m.columns x))) (refers_to i (questions (with_variable m.columns kind.Edge (Some x)) ss)) r) h)
+      (λ i r h. good.sure i ((and_parts (is_reference i (role_at kind.Edge (place_among m.columns x))) (refers_to i (questions (with_variable m.columns kind.Edge (Some x)) ss)) r).1) h)
 
   pub edge_values : (cs : ColumnList) (v : Option (List ℕ)) (ps : PropertyList) → properties_given (spot_with (role_of cs kind.Edge v) ps) ≡ ps
   edge_values cs None ps = refl
@@ -381,11 +374,11 @@ module _ (g0 : PropertyGraph) where
 
   -- the ends are nodes, and the lower one stands first
   ordered : (nodes : List NodeRecord) (a b : NodeId) → is_among nodes a ≡ true → is_among nodes b ≡ true → nat_le a.0 b.0 ≡ true → are_ends nodes (Undirected a b) ≡ true
-  ordered nodes a b p q r = both_true (is_among nodes a && is_among nodes b) (nat_le a.0 b.0) (both_true (is_among nodes a) (is_among nodes b) p q) r
+  ordered nodes a b p q r = and_from (is_among nodes a && is_among nodes b) (nat_le a.0 b.0) (and_from (is_among nodes a) (is_among nodes b) p q) r
 
   pub ends_there : (nodes : List NodeRecord) (w : Arrow) (a b : ℕ) → is_among nodes (record { 0 = a }) ≡ true → is_among nodes (record { 0 = b }) ≡ true → are_ends nodes (ends_between w a b) ≡ true
-  ends_there nodes arrow.Right a b p q = both_true (is_among nodes (record { 0 = a })) (is_among nodes (record { 0 = b })) p q
-  ends_there nodes arrow.Left a b p q = both_true (is_among nodes (record { 0 = b })) (is_among nodes (record { 0 = a })) q p
+  ends_there nodes arrow.Right a b p q = and_from (is_among nodes (record { 0 = a })) (is_among nodes (record { 0 = b })) p q
+  ends_there nodes arrow.Left a b p q = and_from (is_among nodes (record { 0 = b })) (is_among nodes (record { 0 = a })) q p
   ends_there nodes arrow.Undirected a b p q = by (nat_le a b) refl
     where
       by : (t : Bool) → nat_le a b ≡ t → are_ends nodes (cond t (Undirected (record { 0 = a }) (record { 0 = b })) (Undirected (record { 0 = b }) (record { 0 = a }))) ≡ true

@@ -1,6 +1,7 @@
 -- What is evaluated by places is what the definition evaluates by names; where it succeeds, the values may be kept, and the
 -- nodes of incoming columns that spots refer to are there.
 use Rattle.std.proofs.Common.{◌≡◌, ℕ, ◌+◌, ◌<◌, Bool, true, false, cond, ◌||◌, List, [], ◌∷◌, ◌++◌, length, Option, Some, None, Result, Ok, Err, refl, sym, ap, ◌∙◌, arith, is_some, ◌==◌, nat_lt, append_assoc, append-nil, ◌⊎◌, inl, inr}
+use Rattle.std.proofs.lemmas.Bool.{and_from}
 use Rattle.std.specs.Prelude.{option_map, find}
 use Rattle.std.proofs.lemmas.Bool.Decides.{nat_tests}
 use Rattle.gql_values3.specs.Datum.{Datum, null, boolean, integer, text, list, node, edge, path}
@@ -22,20 +23,19 @@ use Rattle.gql_ast.specs.declared.change.Fill.{Fill}
 use Rattle.gql_ast.specs.declared.filler.MapItem.{MapItem}
 use Rattle.gql_ast.specs.declared.fault.DataFault.{DataFault}
 use Rattle.gql_ast.specs.declared.fault.DataFault.TheVariants as fault
-use Rattle.gql_eval.specs.Places.{place_among}
+use Rattle.gql_eval.specs.Machinery.Places.{place_among}
 use Rattle.gql_eval.proofs.ScopeLemmas.{place_below}
-use Rattle.gql_change.specs.Noting.{earlier}
+use Rattle.gql_change.specs.Machinery.Noting.{earlier}
 use Rattle.gql_change.specs.Storing.{PropertyList, stored}
 use Rattle.gql_change.specs.Insertion.{items_in, refers, map_values, node_there, endpoint, spot_values, spots_values}
-use Rattle.gql_change.specs.Roles.{Question, questions, datum_at, role_at, role_of, looked_at, item_value, spot_of, line_of}
+use Rattle.gql_change.specs.Machinery.Roles.{Question, questions, datum_at, role_at, role_of, looked_at, item_value, spot_of, line_of}
 use Rattle.gql_change.specs.declared.role.Role.{Role}
 use Rattle.gql_change.specs.declared.role.Role.TheVariants as role
-use Rattle.gql_change.specs.declared.spot.Line.{Line}
-use Rattle.gql_change.specs.declared.spot.Spot.{Spot}
-use Rattle.gql_change.specs.declared.spot.Spot.TheVariants as spot
+use Rattle.gql_change.specs.declared.row_spots.Line.{Line}
+use Rattle.gql_change.specs.declared.row_spots.Spot.{Spot}
+use Rattle.gql_change.specs.declared.row_spots.Spot.TheVariants as spot
 use Rattle.gql_change.proofs.PlaceOfName.{a_column, no_column, column_placed}
 use Rattle.gql_change.proofs.NamedPlaces.{datum_named, place_in_two, refers_to, is_reference}
-use Rattle.gql_change.proofs.StoringLemmas.{both_true}
 use Rattle.gql_change.proofs.InsertLemmas.{spot_with, spots_with, IsNodeIn, are_kept, all_kept}
 
 -- columns that begin with others
@@ -234,7 +234,7 @@ module _ (g : PropertyGraph) (params : List (List ℕ × Datum)) (incoming : Col
   map_kept [] ps h = ap are_kept (let e : ps ≡ [] = cc in e)
   map_kept (i ∷ is) ps h =
       let both = first_gives (item_value g params incoming row i) (map_values g params incoming row is) ps h in
-      ap are_kept both.4 ∙ both_true (is_storable both.0.1 64) (are_kept both.1)
+      ap are_kept both.4 ∙ and_from (is_storable both.0.1 64) (are_kept both.1)
       (item_kept (value_of g params (row_scope incoming row) (tree_of i.value)) i.name both.0 both.2) (map_kept is both.1 both.3)
 
   nothing_kept : (r : Result (Option Elem) DataFault) (ps : PropertyList) → (r >>= node_there g params incoming row) ≡ Ok ps → are_kept ps ≡ true

@@ -2,11 +2,10 @@ pub mod ApplyLemmas
 pub mod RisingLemmas
 pub mod TakingOut
 pub mod ListSteps
-pub mod GoingLemmas
+pub mod DeletedNumbers
 pub mod DeletionLemmas
 pub mod DeletionExamples
 pub mod PlaceOfName
-pub mod StepLemmas
 pub mod FillingLemmas
 pub mod StoringLemmas
 pub mod GraphGrowth
@@ -19,7 +18,6 @@ pub mod InsertRows
 pub mod QuestionLemmas
 pub mod PlaceLemmas
 pub mod AssigningSteps
-pub mod StableSort
 pub mod ConflictLemmas
 pub mod CopyLemmas
 pub mod AssignedLemmas

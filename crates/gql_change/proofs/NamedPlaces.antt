@@ -11,11 +11,11 @@ use Rattle.gql_ast.specs.InsertColumns.{Spots, with_variable}
 use Rattle.gql_ast.specs.Outputs.{kind_of_name}
 use Rattle.gql_ast.specs.Scope.{row_scope, datum_of_name, datum_in}
 use Rattle.gql_ast.specs.Endpoints.{is_node, wrong_endpoint, wrong_in_spots}
-use Rattle.gql_eval.specs.Places.{place_among}
-use Rattle.gql_eval.specs.ScopeMeaning.{column_entry}
+use Rattle.gql_eval.specs.Machinery.Places.{place_among}
+use Rattle.gql_eval.specs.Machinery.ScopeMeaning.{column_entry}
 use Rattle.gql_eval.proofs.ScopeLemmas.{at_place, entry_at_place, place_below}
-use Rattle.gql_change.specs.Roles.{datum_at, role_at, role_of, Question, questions}
-use Rattle.gql_change.specs.Noting.{earlier}
+use Rattle.gql_change.specs.Machinery.Roles.{datum_at, role_at, role_of, Question, questions}
+use Rattle.gql_change.specs.Machinery.Noting.{earlier}
 use Rattle.gql_change.specs.declared.role.Role.{Role}
 use Rattle.gql_change.specs.declared.role.Role.TheVariants as role
 use Rattle.gql_change.proofs.PlaceOfName.{a_column}

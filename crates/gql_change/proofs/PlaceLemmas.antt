@@ -10,8 +10,9 @@ use Rattle.gql_values3.specs.Datum.{Datum}
 use Rattle.gql_values3.specs.Meaning.{datum_of}
 use Rattle.gql_values3.specs.Texts.{same_text}
 use Rattle.gql_values3.specs.declared.value.Value.{Value}
+use Rattle.gql_eval.proofs.EachSteps.{drop_here}
 use Rattle.gql_change.specs.Storing.{PropertyList, by_order, put_property, without_property, put_label}
-use Rattle.gql_change.specs.Places.{further, one_further, place_among, put_at, joined_at, IsWithin}
+use Rattle.gql_change.specs.Machinery.Places.{further, one_further, place_in_order, put_at, joined_at, IsWithin}
 
 -- what a pair of the code means
 abbrev pub shown : List ℕ × Value → List ℕ × Datum
@@ -29,10 +30,10 @@ put_case Greater (Ok i) x v p ps rest h = ap (λ qs. shown p ∷ qs) h
 put_case Greater (Err i) x v p ps rest h = ap (λ qs. shown p ∷ qs) h
 
 pub put_shown : (x : List ℕ) (v : Value) (ps : List (List ℕ × Value))
-    → map shown (put_at (place_among x (map name_of ps)) (x, v) ps) ≡ put_property x (datum_of v) (map shown ps)
+    → map shown (put_at (place_in_order x (map name_of ps)) (x, v) ps) ≡ put_property x (datum_of v) (map shown ps)
 put_shown x v [] = refl
 put_shown x v (p ∷ ps) =
-    put_case (slice_cmp nat_cmp x p.0) (place_among x (map name_of ps)) x v p ps (put_property x (datum_of v) (map shown ps)) (put_shown x v ps)
+    put_case (slice_cmp nat_cmp x p.0) (place_in_order x (map name_of ps)) x v p ps (put_property x (datum_of v) (map shown ps)) (put_shown x v ps)
 
 joined_case : (o : Ordering) (r : Result ℕ ℕ) (l k : List ℕ) (ks rest : List (List ℕ)) → joined_at r l ks ≡ rest
     → joined_at (by_order o (Err 0) (Ok 0) (one_further r)) l (k ∷ ks) ≡ by_order o (l ∷ k ∷ ks) (k ∷ ks) (k ∷ rest)
@@ -41,9 +42,9 @@ joined_case Equal r l k ks rest h = refl
 joined_case Greater (Ok i) l k ks rest h = ap (λ ls. k ∷ ls) h
 joined_case Greater (Err i) l k ks rest h = ap (λ ls. k ∷ ls) h
 
-pub label_joined : (l : List ℕ) (ks : List (List ℕ)) → joined_at (place_among l ks) l ks ≡ put_label l ks
+pub label_joined : (l : List ℕ) (ks : List (List ℕ)) → joined_at (place_in_order l ks) l ks ≡ put_label l ks
 label_joined l [] = refl
-label_joined l (k ∷ ks) = joined_case (slice_cmp nat_cmp l k) (place_among l ks) l k ks (put_label l ks) (label_joined l ks)
+label_joined l (k ∷ ks) = joined_case (slice_cmp nat_cmp l k) (place_in_order l ks) l k ks (put_label l ks) (label_joined l ks)
 
 within_case : (o : Ordering) (r : Result ℕ ℕ) (n : ℕ) → IsWithin r n → IsWithin (by_order o (Err 0) (Ok 0) (one_further r)) (suc n)
 within_case Less r n h = omega arith
@@ -51,13 +52,13 @@ within_case Equal r n h = omega arith
 within_case Greater (Ok i) n h = omega arith
 within_case Greater (Err i) n h = omega arith
 
-pub place_within : {A : Type 0} (key : A → List ℕ) (x : List ℕ) (xs : List A) → IsWithin (place_among x (map key xs)) (length xs)
+pub place_within : {A : Type 0} (key : A → List ℕ) (x : List ℕ) (xs : List A) → IsWithin (place_in_order x (map key xs)) (length xs)
 place_within key x [] = omega arith
-place_within key x (y ∷ ys) = within_case (slice_cmp nat_cmp x (key y)) (place_among x (map key ys)) (length ys) (place_within key x ys)
+place_within key x (y ∷ ys) = within_case (slice_cmp nat_cmp x (key y)) (place_in_order x (map key ys)) (length ys) (place_within key x ys)
 
 -- the place, as far as a loop has come
 abbrev pub place_from : {A : Type 0} → (A → List ℕ) → List ℕ → List A → ℕ → Result ℕ ℕ
-place_from key x xs i = further i (place_among x (map key (drop i xs)))
+place_from key x xs i = further i (place_in_order x (map key (drop i xs)))
 
 step_case : (o : Ordering) (i : ℕ) (r : Result ℕ ℕ) → further i (by_order o (Err 0) (Ok 0) (one_further r)) ≡ by_order o (Err i) (Ok i) (further (i + 1) r)
 step_case Less i r = ap (λ n. Err n) (omega arith)
@@ -65,24 +66,21 @@ step_case Equal i r = ap (λ n. Ok n) (omega arith)
 step_case Greater i (Ok j) = ap (λ n. Ok n) (omega arith)
 step_case Greater i (Err j) = ap (λ n. Err n) (omega arith)
 
-pub drop_here : {A : Type 0} (xs : List A) (i : ℕ) (x : A) → i < length xs → x ≡ get_or xs i x → drop i xs ≡ x ∷ drop (i + 1) xs
-drop_here xs i x h here = let one : i + 1 ≡ suc i = omega arith in rw one (drop-cons xs i x h ∙ ap (λ y. y ∷ drop (suc i) xs) (sym here))
-
 pub place_step : {A : Type 0} (key : A → List ℕ) (x : List ℕ) (xs : List A) (i : ℕ) (y : A) → i < length xs → y ≡ get_or xs i y
     → place_from key x xs i ≡ by_order (slice_cmp nat_cmp x (key y)) (Err i) (Ok i) (place_from key x xs (i + 1))
 place_step key x xs i y h here =
-    ap (λ ys. further i (place_among x (map key ys))) (drop_here xs i y h here)
-    ∙ step_case (slice_cmp nat_cmp x (key y)) i (place_among x (map key (drop (i + 1) xs)))
+    ap (λ ys. further i (place_in_order x (map key ys))) (drop_here xs i y h here)
+    ∙ step_case (slice_cmp nat_cmp x (key y)) i (place_in_order x (map key (drop (i + 1) xs)))
 
-pub place_none : {A : Type 0} (key : A → List ℕ) (x : List ℕ) (xs : List A) → place_from key x xs 0 ≡ place_among x (map key xs)
-place_none key x xs = from_zero (place_among x (map key xs))
+pub place_none : {A : Type 0} (key : A → List ℕ) (x : List ℕ) (xs : List A) → place_from key x xs 0 ≡ place_in_order x (map key xs)
+place_none key x xs = from_zero (place_in_order x (map key xs))
   where
     from_zero : (r : Result ℕ ℕ) → further 0 r ≡ r
     from_zero (Ok i) = ap (λ n. Ok n) (omega arith)
     from_zero (Err i) = ap (λ n. Err n) (omega arith)
 
 pub place_end : {A : Type 0} (key : A → List ℕ) (x : List ℕ) (xs : List A) (i : ℕ) → i ≡ length xs → place_from key x xs i ≡ Err i
-place_end key x xs i h = ap (λ ys. further i (place_among x (map key ys))) (over xs i h) ∙ ap (λ n. Err n) (omega arith)
+place_end key x xs i h = ap (λ ys. further i (place_in_order x (map key ys))) (over xs i h) ∙ ap (λ n. Err n) (omega arith)
   where
     over : {A : Type 0} (xs : List A) (i : ℕ) → i ≡ length xs → drop i xs ≡ []
     over [] zero h = refl

@@ -6,8 +6,8 @@ use Rattle.std.specs.Str.{bytes_eq}
 use Rattle.gql_values3.specs.Texts.{same_text}
 use Rattle.gql_values3.specs.declared.table.ColumnKind.{ColumnKind}
 use Rattle.gql_ast.specs.ClauseColumns.{ColumnList, is_column}
-use Rattle.gql_eval.specs.Places.{place_among}
-use Rattle.gql_change.specs.Noting.{earlier, place_if_same}
+use Rattle.gql_eval.specs.Machinery.Places.{place_among}
+use Rattle.gql_change.specs.Machinery.Noting.{earlier, place_if_same}
 
 there : (b : Bool) (o : Option ℕ) (r : Bool) → r ≡ is_some o → (b || r) ≡ is_some (cond b (Some 0) (option_map suc o))
 there true o r h = refl

@@ -4,7 +4,7 @@ use Rattle.gql_ast.specs.ClauseColumns.{ColumnList}
 use Rattle.gql_ast.specs.InsertColumns.{Spots, insert_spots, path_spots, spot_columns, with_variable}
 use Rattle.gql_ast.specs.declared.change.InsertPath.{InsertPath}
 use Rattle.gql_change.specs.Insertion.{items_in}
-use Rattle.gql_change.specs.Roles.{Question, questions, role_of}
+use Rattle.gql_change.specs.Machinery.Roles.{Question, questions, role_of}
 
 questions_append : (cs : ColumnList) (xs ys : Spots) → questions cs (xs ++ ys) ≡ questions cs xs ++ questions (spot_columns cs xs) ys
 questions_append cs [] ys = refl

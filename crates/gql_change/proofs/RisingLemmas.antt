@@ -1,5 +1,6 @@
 -- Numbers that strictly ascend: which are among them, and that the numbers which are among them tell them all.
 use Rattle.std.proofs.Common.{◌≡◌, ◌≢◌, ℕ, zero, suc, ◌<◌, ◌≤◌, Bool, true, false, cond, eqb, List, [], ◌∷◌, map, length, get_or, Result, Ok, Err, refl, sym, ap, ◌∙◌, ◌⊎◌, inl, inr, arith}
+use Rattle.std.proofs.lemmas.Bool.{and_from, and_parts}
 use Rattle.std.specs.Prelude.{◌||◌, filter, nat_lt, is_ok}
 use Rattle.std.specs.List.{dedup, dedup_from}
 use Rattle.std.specs.List.Sorted.{IsStrictlyIncreasing, IsPermutation, IsSorted, IsBinarySearchResult}
@@ -8,9 +9,8 @@ use Rattle.std.proofs.lemmas.Bool.Decides.{nat_tests}
 use Rattle.std.proofs.lemmas.List.Sorted.{list_any-IsPermutation, searched}
 use Rattle.std.proofs.lemmas.Map.Keys.{IsStrictlyIncreasing-dedup}
 use Rattle.gql_values3.specs.PropertyGraph.{numbers_ascend}
-use Rattle.gql_change.specs.Rising.{rises_above, rises}
-use Rattle.gql_change.specs.DeletionSteps.{has_number}
-use Rattle.gql_change.proofs.ApplyLemmas.{first_true, second_true, both_true}
+use Rattle.gql_change.specs.Machinery.Rising.{rises_above, rises}
+use Rattle.gql_change.specs.Machinery.DeletionSteps.{has_number}
 
 pub eqb_sym : (m n : ℕ) → eqb m n ≡ eqb n m
 eqb_sym m n = grind (arith, nat_tests)
@@ -39,10 +39,10 @@ not_true false h = refl
 pub among_above : (low : ℕ) (ns : List ℕ) (n : ℕ) → rises_above low ns ≡ true → has_number ns n ≡ true → low < n
 among_above low [] n up h = absurd (cc)
 among_above low (m ∷ ms) n up h =
-    let here : low < m = lt_of low m (first_true (nat_lt low m) (rises_above m ms) up) in
+    let here : low < m = lt_of low m ((and_parts (nat_lt low m) (rises_above m ms) up).0) in
     elim (or_cases (eqb n m) (has_number ms n) h) [
       | inl same ↦ omega (arith, eqb_same n m same, here)
-      | inr later ↦ omega (arith, among_above m ms n (second_true (nat_lt low m) (rises_above m ms) up) later, here)
+      | inr later ↦ omega (arith, among_above m ms n ((and_parts (nat_lt low m) (rises_above m ms) up).1) later, here)
     ]
 
 pub not_among : (low : ℕ) (ns : List ℕ) (n : ℕ) → rises_above low ns ≡ true → n ≤ low → has_number ns n ≡ false
@@ -50,13 +50,13 @@ not_among low ns n up le = not_true (has_number ns n) (λ h. omega (arith, among
 
 pub rises_tail : (low : ℕ) (ns : List ℕ) → rises_above low ns ≡ true → rises ns ≡ true
 rises_tail low [] up = refl
-rises_tail low (n ∷ ns) up = second_true (nat_lt low n) (rises_above n ns) up
+rises_tail low (n ∷ ns) up = (and_parts (nat_lt low n) (rises_above n ns) up).1
 
 rises_lower : (low m : ℕ) (ns : List ℕ) → low ≤ m → rises_above m ns ≡ true → rises_above low ns ≡ true
 rises_lower low m [] le up = refl
 rises_lower low m (n ∷ ns) le up =
-    both_true (nat_lt low n) (rises_above n ns) (to_lt low n (let here : m < n = lt_of m n (first_true (nat_lt m n) (rises_above n ns) up) in omega arith))
-    (second_true (nat_lt m n) (rises_above n ns) up)
+    and_from (nat_lt low n) (rises_above n ns) (to_lt low n (let here : m < n = lt_of m n ((and_parts (nat_lt m n) (rises_above n ns) up).0) in omega arith))
+    ((and_parts (nat_lt m n) (rises_above n ns) up).1)
 
 at_least : (y : ℕ) (ys : List ℕ) (x : ℕ) → rises_above y ys ≡ true → has_number (y ∷ ys) x ≡ true → y ≤ x
 at_least y ys x up h = elim (or_cases (eqb x y) (has_number ys x) h) [
@@ -89,23 +89,23 @@ same_numbers (x ∷ xs) (y ∷ ys) up vp same =
 pub rises_from_graph : (low : ℕ) (ns : List ℕ) (high : ℕ) → numbers_ascend low ns high ≡ true → rises_above low ns ≡ true
 rises_from_graph low [] high h = refl
 rises_from_graph low (n ∷ ns) high h =
-    both_true (nat_lt low n) (rises_above n ns) (first_true (nat_lt low n) (numbers_ascend n ns high) h) (rises_from_graph n ns high (second_true (nat_lt low n) (numbers_ascend n ns high) h))
+    and_from (nat_lt low n) (rises_above n ns) ((and_parts (nat_lt low n) (numbers_ascend n ns high) h).0) (rises_from_graph n ns high ((and_parts (nat_lt low n) (numbers_ascend n ns high) h).1))
 
 module _ {X : Type 0} (key : X → ℕ) (p : X → Bool) where
   pub rises-filter : (low : ℕ) (xs : List X) → rises_above low (map key xs) ≡ true → rises_above low (map key (filter p xs)) ≡ true
   rises-filter low [] up = refl
   rises-filter low (x ∷ xs) up =
-      by_case (p x) (first_true (nat_lt low (key x)) (rises_above (key x) (map key xs)) up) (rises-filter (key x) xs (second_true (nat_lt low (key x)) (rises_above (key x) (map key xs)) up))
+      by_case (p x) ((and_parts (nat_lt low (key x)) (rises_above (key x) (map key xs)) up).0) (rises-filter (key x) xs ((and_parts (nat_lt low (key x)) (rises_above (key x) (map key xs)) up).1))
     where
       by_case : (b : Bool) → nat_lt low (key x) ≡ true → rises_above (key x) (map key (filter p xs)) ≡ true → rises_above low (map key (cond b (x ∷ filter p xs) (filter p xs))) ≡ true
-      by_case true here rest = both_true (nat_lt low (key x)) (rises_above (key x) (map key (filter p xs))) here rest
+      by_case true here rest = and_from (nat_lt low (key x)) (rises_above (key x) (map key (filter p xs))) here rest
       by_case false here rest = rises_lower low (key x) (map key (filter p xs)) (let lt = lt_of low (key x) here in omega arith) rest
 
 -- what a sort and a `dedup` leave
 increasing : (x : ℕ) (xs : List ℕ) → IsStrictlyIncreasing (x ∷ xs) → rises_above x xs ≡ true
 increasing x [] up = refl
 increasing x (y ∷ ys) up =
-    both_true (nat_lt x y) (rises_above y ys) (to_lt x y (let h = up 0 (omega arith) in omega (arith, h)))
+    and_from (nat_lt x y) (rises_above y ys) (to_lt x y (let h = up 0 (omega arith) in omega (arith, h)))
     (increasing y ys (λ k lt. grind (arith, up (suc k), lt)))
 
 rises_of : (xs : List ℕ) → IsStrictlyIncreasing xs → rises xs ≡ true
@@ -139,9 +139,9 @@ module _ (xs sorted done : List ℕ) (moved : IsPermutation xs sorted) (up : IsS
 -- what a binary search finds
 above_at : (low : ℕ) (ns : List ℕ) (j : ℕ) → rises_above low ns ≡ true → j < length ns → low < get_or ns j 0
 above_at low [] j up lt = absurd (omega arith)
-above_at low (n ∷ ns) zero up lt = lt_of low n (first_true (nat_lt low n) (rises_above n ns) up)
+above_at low (n ∷ ns) zero up lt = lt_of low n ((and_parts (nat_lt low n) (rises_above n ns) up).0)
 above_at low (n ∷ ns) (suc j) up lt =
-    omega (arith, lt_of low n (first_true (nat_lt low n) (rises_above n ns) up), above_at n ns j (second_true (nat_lt low n) (rises_above n ns) up) (omega arith))
+    omega (arith, lt_of low n ((and_parts (nat_lt low n) (rises_above n ns) up).0), above_at n ns j ((and_parts (nat_lt low n) (rises_above n ns) up).1) (omega arith))
 
 rises_le : (ns : List ℕ) → rises ns ≡ true → (i j : ℕ) → i ≤ j → j < length ns → get_or ns i 0 ≤ get_or ns j 0
 rises_le [] up i j le lt = absurd (omega arith)

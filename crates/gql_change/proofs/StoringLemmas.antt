@@ -1,5 +1,6 @@
 -- What is stored stays in order: names and labels ascend, and the values of properties may be kept.
 use Rattle.std.proofs.Common.{◌≡◌, ℕ, Bool, true, false, cond, not, List, [], ◌∷◌, map, refl, ap, ◌∙◌}
+use Rattle.std.proofs.lemmas.Bool.{and_from, and_parts}
 use Rattle.std.specs.Prelude.{◌&&◌, filter}
 use Rattle.std.specs.List.{list_all}
 use Rattle.std.specs.declared.cmp.Ordering.{Ordering}
@@ -13,18 +14,6 @@ use Rattle.gql_values3.specs.Texts.{same_text, ascend_above, texts_ascend}
 use Rattle.gql_values3.specs.PropertyGraph.{is_storable, is_property, are_properties}
 use Rattle.gql_change.specs.Storing.{PropertyList, by_order, put_property, without_property, with_property, put_label, without_label, label_set, property_set}
 
-pub both_true : (a b : Bool) → a ≡ true → b ≡ true → (a && b) ≡ true
-both_true true b p q = q
-both_true false b p q = absurd (cc)
-
-pub left_true : (a b : Bool) → (a && b) ≡ true → a ≡ true
-left_true true b h = refl
-left_true false b h = h
-
-pub right_true : (a b : Bool) → (a && b) ≡ true → b ≡ true
-right_true true b h = h
-right_true false b h = absurd (cc)
-
 less_if : (o : Ordering) → is_lt o ≡ true → o ≡ Less
 less_if Less p = refl
 less_if Equal p = absurd (cc)
@@ -35,18 +24,18 @@ text_cmp a b = slice_cmp nat_cmp a b
 
 -- the first text is above the bound
 pub first_above : (low k : List ℕ) (ks : List (List ℕ)) → ascend_above low (k ∷ ks) ≡ true → text_cmp low k ≡ Less
-first_above low k ks h = less_if (text_cmp low k) (left_true (is_lt (text_cmp low k)) (ascend_above k ks) h)
+first_above low k ks h = less_if (text_cmp low k) ((and_parts (is_lt (text_cmp low k)) (ascend_above k ks) h).0)
 
 -- a lower bound serves too
 pub lower : (low k : List ℕ) (ks : List (List ℕ)) → text_cmp low k ≡ Less → ascend_above k ks ≡ true → ascend_above low ks ≡ true
 lower low k [] p h = refl
 lower low k (j ∷ js) p h =
-    both_true (is_lt (text_cmp low j)) (ascend_above j js) (ap is_lt (nat_list_cmp_total.trans low k j p (first_above k j js h)))
-    (right_true (is_lt (text_cmp k j)) (ascend_above j js) h)
+    and_from (is_lt (text_cmp low j)) (ascend_above j js) (ap is_lt (nat_list_cmp_total.trans low k j p (first_above k j js h)))
+    ((and_parts (is_lt (text_cmp k j)) (ascend_above j js) h).1)
 
 pub above_ascends : (low : List ℕ) (ks : List (List ℕ)) → ascend_above low ks ≡ true → texts_ascend ks ≡ true
 above_ascends low [] h = refl
-above_ascends low (k ∷ ks) h = right_true (is_lt (text_cmp low k)) (ascend_above k ks) h
+above_ascends low (k ∷ ks) h = (and_parts (is_lt (text_cmp low k)) (ascend_above k ks) h).1
 
 turned : (a b : List ℕ) → text_cmp a b ≡ Greater → text_cmp b a ≡ Less
 turned a b p = nat_list_cmp_total.antisymm b a ∙ ap ordering_reverse p
@@ -55,20 +44,20 @@ put_above_case : (o : Ordering) (low l k : List ℕ) (ks : List (List ℕ)) → 
     → (text_cmp k l ≡ Less → ascend_above k ks ≡ true → ascend_above k (put_label l ks) ≡ true)
     → ascend_above low (by_order o (l ∷ k ∷ ks) (k ∷ ks) (k ∷ put_label l ks)) ≡ true
 put_above_case Less low l k ks p q h more =
-    both_true (is_lt (text_cmp low l)) (is_lt (text_cmp l k) && ascend_above k ks) (ap is_lt q)
-    (both_true (is_lt (text_cmp l k)) (ascend_above k ks) (ap is_lt p) (right_true (is_lt (text_cmp low k)) (ascend_above k ks) h))
+    and_from (is_lt (text_cmp low l)) (is_lt (text_cmp l k) && ascend_above k ks) (ap is_lt q)
+    (and_from (is_lt (text_cmp l k)) (ascend_above k ks) (ap is_lt p) ((and_parts (is_lt (text_cmp low k)) (ascend_above k ks) h).1))
 put_above_case Equal low l k ks p q h more = h
 put_above_case Greater low l k ks p q h more =
-    both_true (is_lt (text_cmp low k)) (ascend_above k (put_label l ks)) (left_true (is_lt (text_cmp low k)) (ascend_above k ks) h)
-    (more (turned l k p) (right_true (is_lt (text_cmp low k)) (ascend_above k ks) h))
+    and_from (is_lt (text_cmp low k)) (ascend_above k (put_label l ks)) ((and_parts (is_lt (text_cmp low k)) (ascend_above k ks) h).0)
+    (more (turned l k p) ((and_parts (is_lt (text_cmp low k)) (ascend_above k ks) h).1))
 
 put_above : (low l : List ℕ) (ks : List (List ℕ)) → text_cmp low l ≡ Less → ascend_above low ks ≡ true → ascend_above low (put_label l ks) ≡ true
-put_above low l [] q h = both_true (is_lt (text_cmp low l)) true (ap is_lt q) refl
+put_above low l [] q h = and_from (is_lt (text_cmp low l)) true (ap is_lt q) refl
 put_above low l (k ∷ ks) q h = put_above_case (text_cmp l k) low l k ks refl q h (λ r m. put_above k l ks r m)
 
 put_case : (o : Ordering) (l k : List ℕ) (ks : List (List ℕ)) → text_cmp l k ≡ o → ascend_above k ks ≡ true
     → texts_ascend (by_order o (l ∷ k ∷ ks) (k ∷ ks) (k ∷ put_label l ks)) ≡ true
-put_case Less l k ks p h = both_true (is_lt (text_cmp l k)) (ascend_above k ks) (ap is_lt p) h
+put_case Less l k ks p h = and_from (is_lt (text_cmp l k)) (ascend_above k ks) (ap is_lt p) h
 put_case Equal l k ks p h = h
 put_case Greater l k ks p h = put_above k l ks (turned l k p) h
 
@@ -80,10 +69,10 @@ kept_above_case : (b : Bool) (low k : List ℕ) (ks rest : List (List ℕ)) → 
     → ((bound : List ℕ) → ascend_above bound ks ≡ true → ascend_above bound rest ≡ true)
     → ascend_above low (cond b (k ∷ rest) rest) ≡ true
 kept_above_case true low k ks rest h more =
-    both_true (is_lt (text_cmp low k)) (ascend_above k rest) (left_true (is_lt (text_cmp low k)) (ascend_above k ks) h)
-    (more k (right_true (is_lt (text_cmp low k)) (ascend_above k ks) h))
+    and_from (is_lt (text_cmp low k)) (ascend_above k rest) ((and_parts (is_lt (text_cmp low k)) (ascend_above k ks) h).0)
+    (more k ((and_parts (is_lt (text_cmp low k)) (ascend_above k ks) h).1))
 kept_above_case false low k ks rest h more =
-    more low (lower low k ks (first_above low k ks h) (right_true (is_lt (text_cmp low k)) (ascend_above k ks) h))
+    more low (lower low k ks (first_above low k ks h) ((and_parts (is_lt (text_cmp low k)) (ascend_above k ks) h).1))
 
 kept_above : (p : List ℕ → Bool) (low : List ℕ) (ks : List (List ℕ)) → ascend_above low ks ≡ true → ascend_above low (filter p ks) ≡ true
 kept_above p low [] h = refl
@@ -132,36 +121,36 @@ values_fit ps = list_all (λ (p : List ℕ × Datum). is_property p.1) ps
 
 values_put_case : (o : Ordering) (x : List ℕ) (d : Datum) (p : List ℕ × Datum) (ps rest : PropertyList) → is_property d ≡ true → values_fit (p ∷ ps) ≡ true → values_fit rest ≡ true
     → values_fit (by_order o ((x, d) ∷ p ∷ ps) ((x, d) ∷ ps) (p ∷ rest)) ≡ true
-values_put_case Less x d p ps rest k h more = both_true (is_property d) (values_fit (p ∷ ps)) k h
-values_put_case Equal x d p ps rest k h more = both_true (is_property d) (values_fit ps) k (right_true (is_property p.1) (values_fit ps) h)
-values_put_case Greater x d p ps rest k h more = both_true (is_property p.1) (values_fit rest) (left_true (is_property p.1) (values_fit ps) h) more
+values_put_case Less x d p ps rest k h more = and_from (is_property d) (values_fit (p ∷ ps)) k h
+values_put_case Equal x d p ps rest k h more = and_from (is_property d) (values_fit ps) k ((and_parts (is_property p.1) (values_fit ps) h).1)
+values_put_case Greater x d p ps rest k h more = and_from (is_property p.1) (values_fit rest) ((and_parts (is_property p.1) (values_fit ps) h).0) more
 
 values_put : (x : List ℕ) (d : Datum) (ps : PropertyList) → is_property d ≡ true → values_fit ps ≡ true → values_fit (put_property x d ps) ≡ true
-values_put x d [] k h = both_true (is_property d) true k refl
+values_put x d [] k h = and_from (is_property d) true k refl
 values_put x d (p ∷ ps) k h =
-    values_put_case (text_cmp x p.0) x d p ps (put_property x d ps) k h (values_put x d ps k (right_true (is_property p.1) (values_fit ps) h))
+    values_put_case (text_cmp x p.0) x d p ps (put_property x d ps) k h (values_put x d ps k ((and_parts (is_property p.1) (values_fit ps) h).1))
 
 pub list_all_kept : {A : Type 0} (q : A → Bool) (b : Bool) (x : A) (xs : List A) → q x ≡ true → list_all q xs ≡ true → list_all q (cond b (x ∷ xs) xs) ≡ true
-list_all_kept q true x xs h k = both_true (q x) (list_all q xs) h k
+list_all_kept q true x xs h k = and_from (q x) (list_all q xs) h k
 list_all_kept q false x xs h k = k
 
 -- what all have, all have that are kept
 pub list_all-filter : {A : Type 0} (q p : A → Bool) (xs : List A) → list_all q xs ≡ true → list_all q (filter p xs) ≡ true
 list_all-filter q p [] h = refl
 list_all-filter q p (x ∷ xs) h =
-    list_all_kept q (p x) x (filter p xs) (left_true (q x) (list_all q xs) h) (list_all-filter q p xs (right_true (q x) (list_all q xs) h))
+    list_all_kept q (p x) x (filter p xs) ((and_parts (q x) (list_all q xs) h).0) (list_all-filter q p xs ((and_parts (q x) (list_all q xs) h).1))
 
 pub are_properties-put : (x : List ℕ) (d : Datum) (ps : PropertyList) → is_property d ≡ true → are_properties ps ≡ true → are_properties (put_property x d ps) ≡ true
 are_properties-put x d ps k h =
-    both_true (texts_ascend (names (put_property x d ps))) (values_fit (put_property x d ps))
-    (ap texts_ascend (names-put x d ps) ∙ texts_ascend-put_label x (names ps) (left_true (texts_ascend (names ps)) (values_fit ps) h))
-    (values_put x d ps k (right_true (texts_ascend (names ps)) (values_fit ps) h))
+    and_from (texts_ascend (names (put_property x d ps))) (values_fit (put_property x d ps))
+    (ap texts_ascend (names-put x d ps) ∙ texts_ascend-put_label x (names ps) ((and_parts (texts_ascend (names ps)) (values_fit ps) h).0))
+    (values_put x d ps k ((and_parts (texts_ascend (names ps)) (values_fit ps) h).1))
 
 pub are_properties-without : (x : List ℕ) (ps : PropertyList) → are_properties ps ≡ true → are_properties (without_property x ps) ≡ true
 are_properties-without x ps h =
-    both_true (texts_ascend (names (without_property x ps))) (values_fit (without_property x ps))
-    (ap texts_ascend (names-without x ps) ∙ texts_ascend-without_label x (names ps) (left_true (texts_ascend (names ps)) (values_fit ps) h))
-    (list_all-filter (λ (p : List ℕ × Datum). is_property p.1) (λ (p : List ℕ × Datum). not (same_text x p.0)) ps (right_true (texts_ascend (names ps)) (values_fit ps) h))
+    and_from (texts_ascend (names (without_property x ps))) (values_fit (without_property x ps))
+    (ap texts_ascend (names-without x ps) ∙ texts_ascend-without_label x (names ps) ((and_parts (texts_ascend (names ps)) (values_fit ps) h).0))
+    (list_all-filter (λ (p : List ℕ × Datum). is_property p.1) (λ (p : List ℕ × Datum). not (same_text x p.0)) ps ((and_parts (texts_ascend (names ps)) (values_fit ps) h).1))
 
 pub are_properties-with : (x : List ℕ) (d : Datum) (ps : PropertyList) → is_storable d 64 ≡ true → are_properties ps ≡ true → are_properties (with_property x d ps) ≡ true
 are_properties-with x null ps k h = are_properties-without x ps h
@@ -178,4 +167,4 @@ pub are_properties-property_set : (ps : PropertyList) → list_all (λ (p : List
 are_properties-property_set [] h = refl
 are_properties-property_set (p ∷ ps) h =
     let rest = list_all (λ (q : List ℕ × Datum). is_storable q.1 64) ps in
-    are_properties-with p.0 p.1 (property_set ps) (left_true (is_storable p.1 64) rest h) (are_properties-property_set ps (right_true (is_storable p.1 64) rest h))
+    are_properties-with p.0 p.1 (property_set ps) ((and_parts (is_storable p.1 64) rest h).0) (are_properties-property_set ps ((and_parts (is_storable p.1 64) rest h).1))

@@ -1,5 +1,6 @@
 -- One change for an element: it leads from the graph behind all acts on the others to the graph behind them all.
 use Rattle.std.proofs.Common.{◌≡◌, ℕ, ◌<◌, ◌≤◌, Bool, true, false, cond, List, [], ◌∷◌, ◌++◌, map, refl, sym, ap, subst, ◌∙◌, arith, Option, Some, None, eqb-true, eq-eqb}
+use Rattle.std.proofs.lemmas.Bool.{and_from, and_parts}
 use Rattle.std.specs.Prelude.{◌==◌, find, is_some, option_map, nat_lt, ◌^◌}
 use Rattle.std.specs.List.{AllByRecursion}
 use Rattle.std.proofs.lemmas.List.{map-id}
@@ -21,10 +22,9 @@ use Rattle.gql_graph.specs.declared.change.Change.{Change}
 use Rattle.gql_graph.specs.declared.change.Change.TheVariants as change
 use Rattle.gql_change.specs.AssignedGraph.{acts_on, properties_after, labels_after, node_after, edge_after, assigned}
 use Rattle.gql_change.specs.Plans.{LeadTo}
-use Rattle.gql_change.specs.Swaps.{swap_edge, swaps, all_fit, others}
+use Rattle.gql_change.specs.Machinery.Swaps.{swap_edge, swaps, all_fit, others}
 use Rattle.gql_change.specs.declared.assignment.Act.{Act}
 use Rattle.gql_change.specs.declared.assignment.Assignment.{Assignment}
-use Rattle.gql_change.proofs.StoringLemmas.{both_true, left_true, right_true}
 use Rattle.gql_change.proofs.AssignedLemmas.{map-map, map_same, all_weaker, acts_on-others, node_with, edge_with, node_numbers, edge_numbers, is_graph-assigned}
 
 -- An item of ascending numbers is the one that its number finds.
@@ -38,8 +38,8 @@ module _ {X : Type 0} (key : X → ℕ) (n : ℕ) where
   above : (low k high : ℕ) (xs : List X) → low ≤ k → numbers_ascend k (map key xs) high ≡ true → AllByRecursion (λ x. low < key x) xs
   above low k high [] le h = tt
   above low k high (x ∷ xs) le h =
-      let first : k < key x = grind (arith, nat_tests, left_true (nat_lt k (key x)) (numbers_ascend (key x) (map key xs) high) h) in
-      (omega arith, above low (key x) high xs (omega arith) (right_true (nat_lt k (key x)) (numbers_ascend (key x) (map key xs) high) h))
+      let first : k < key x = grind (arith, nat_tests, (and_parts (nat_lt k (key x)) (numbers_ascend (key x) (map key xs) high) h).0) in
+      (omega arith, above low (key x) high xs (omega arith) ((and_parts (nat_lt k (key x)) (numbers_ascend (key x) (map key xs) high) h).1))
 
   apart : (y z : X) → key y < key z → (key z == n) ≡ true → (key y == n) ≡ false
   apart y z h p = let same : key z ≡ n = eqb-true (key z) n p in grind (arith, nat_tests)
@@ -51,7 +51,7 @@ module _ {X : Type 0} (key : X → ℕ) (n : ℕ) where
   pub found_self : (low high : ℕ) (xs : List X) → numbers_ascend low (map key xs) high ≡ true → AllByRecursion (FindsItself xs) xs
   found_self low high [] h = tt
   found_self low high (y ∷ ys) h =
-      let rest = right_true (nat_lt low (key y)) (numbers_ascend (key y) (map key ys) high) h in
+      let rest = (and_parts (nat_lt low (key y)) (numbers_ascend (key y) (map key ys) high) h).1 in
       (λ p. ap (λ t. cond t (Some y) (found ys)) p, skip y ys ys (found_self (key y) high ys rest) (above (key y) (key y) high ys (omega arith) rest))
 
 is_some-map : {A B : Type 0} (f : A → B) (o : Option A) → is_some (option_map f o) ≡ is_some o
@@ -59,8 +59,8 @@ is_some-map f None = refl
 is_some-map f (Some x) = refl
 
 same_ends_itself : (e : Ends) → same_ends e e ≡ true
-same_ends_itself (Directed s t) = both_true (s.0 == s.0) (t.0 == t.0) (eq-eqb s.0 s.0 refl) (eq-eqb t.0 t.0 refl)
-same_ends_itself (Undirected l h) = both_true (l.0 == l.0) (h.0 == h.0) (eq-eqb l.0 l.0 refl) (eq-eqb h.0 h.0 refl)
+same_ends_itself (Directed s t) = and_from (s.0 == s.0) (t.0 == t.0) (eq-eqb s.0 s.0 refl) (eq-eqb t.0 t.0 refl)
+same_ends_itself (Undirected l h) = and_from (l.0 == l.0) (h.0 == h.0) (eq-eqb l.0 l.0 refl) (eq-eqb h.0 h.0 refl)
 
 has_ends_if : (g : PropertyGraph) (r old : EdgeRecord) → edge_of g r.number ≡ Some old → same_ends old.ends r.ends ≡ true → has_ends g r ≡ true
 has_ends_if g r old p q = rw p q
@@ -98,7 +98,7 @@ module _ (g : PropertyGraph) (one : is_graph g ≡ true) (xs : List Assignment) 
         (λ (x : NodeRecord). cond (x.number.0 == n.0) swapped_node (node_with (others (elem.Node n) xs) x) ≡ node_with xs x) g.nodes
         (λ x h. node_case (x.number.0 == n.0) x refl h)
         (found_self (λ (r : NodeRecord). r.number.0) n.0 0 g.next_node g.nodes
-        (left_true (numbers_ascend 0 (map (λ (r : NodeRecord). r.number.0) g.nodes) g.next_node) (nat_lt g.next_node (2 ^ 32)) (node_numbers g one))))
+        ((and_parts (numbers_ascend 0 (map (λ (r : NodeRecord). r.number.0) g.nodes) g.next_node) (nat_lt g.next_node (2 ^ 32)) (node_numbers g one)).0)))
 
     edges_stay : map (edge_with (others (elem.Node n) xs)) g.edges ≡ map (edge_with xs) g.edges
     edges_stay = λ i. map (λ (x : EdgeRecord). edge_after (acts_on-others (elem.Edge x.number) (elem.Node n) xs refl i) x) g.edges
@@ -113,8 +113,8 @@ module _ (g : PropertyGraph) (one : is_graph g ≡ true) (xs : List Assignment) 
 
     node_leads : is_some (node_of g n) ≡ true → LeadTo (assigned (others (elem.Node n) xs) g) (change.SwapNode swapped_node ∷ []) (assigned xs g)
     node_leads there = (
-      both_true (can_act (change.SwapNode swapped_node) (assigned (others (elem.Node n) xs) g)) true
-          (both_true (has_node (assigned (others (elem.Node n) xs) g) n) (is_graph (changed (change.SwapNode swapped_node) (assigned (others (elem.Node n) xs) g)))
+      and_from (can_act (change.SwapNode swapped_node) (assigned (others (elem.Node n) xs) g)) true
+          (and_from (has_node (assigned (others (elem.Node n) xs) g) n) (is_graph (changed (change.SwapNode swapped_node) (assigned (others (elem.Node n) xs) g)))
           (node_there there) (ap is_graph node_changed ∙ is_graph-assigned g one xs fit)) refl,
       node_changed,
     )
@@ -157,7 +157,7 @@ module _ (g : PropertyGraph) (one : is_graph g ≡ true) (xs : List Assignment) 
         (λ (x : EdgeRecord). cond (x.number.0 == n.0) swapped_edge (edge_with (others (elem.Edge n) xs) x) ≡ edge_with xs x) g.edges
         (λ x h. edge_case (x.number.0 == n.0) x refl h)
         (found_self (λ (r : EdgeRecord). r.number.0) n.0 0 g.next_edge g.edges
-        (left_true (numbers_ascend 0 (map (λ (r : EdgeRecord). r.number.0) g.edges) g.next_edge) (nat_lt g.next_edge (2 ^ 32)) (edge_numbers g one))))
+        ((and_parts (numbers_ascend 0 (map (λ (r : EdgeRecord). r.number.0) g.edges) g.next_edge) (nat_lt g.next_edge (2 ^ 32)) (edge_numbers g one)).0)))
 
     nodes_stay : map (node_with (others (elem.Edge n) xs)) g.nodes ≡ map (node_with xs) g.nodes
     nodes_stay = λ i. map (λ (x : NodeRecord). node_after (acts_on-others (elem.Node x.number) (elem.Edge n) xs refl i) x) g.nodes
@@ -173,8 +173,8 @@ module _ (g : PropertyGraph) (one : is_graph g ≡ true) (xs : List Assignment) 
 
     edge_leads : LeadTo (assigned (others (elem.Edge n) xs) g) (change.SwapEdge swapped_edge ∷ []) (assigned xs g)
     edge_leads = (
-      both_true (can_act (change.SwapEdge swapped_edge) (assigned (others (elem.Edge n) xs) g)) true
-          (both_true (has_ends (assigned (others (elem.Edge n) xs) g) swapped_edge) (is_graph (changed (change.SwapEdge swapped_edge) (assigned (others (elem.Edge n) xs) g)))
+      and_from (can_act (change.SwapEdge swapped_edge) (assigned (others (elem.Edge n) xs) g)) true
+          (and_from (has_ends (assigned (others (elem.Edge n) xs) g) swapped_edge) (is_graph (changed (change.SwapEdge swapped_edge) (assigned (others (elem.Edge n) xs) g)))
           edge_there (ap is_graph edge_changed ∙ is_graph-assigned g one xs fit)) refl,
       edge_changed,
     )
@@ -193,8 +193,8 @@ module _ (g : PropertyGraph) (one : is_graph g ≡ true) (xs : List Assignment) 
 pub leads_append : (g h k : PropertyGraph) (cs ds : List Change) → LeadTo g cs h → LeadTo h ds k → LeadTo g (cs ++ ds) k
 leads_append g h k [] ds p q = subst (λ (x : PropertyGraph). LeadTo x ds k) (sym p.1) q
 leads_append g h k (c ∷ cs) ds p q =
-    let rest = leads_append (changed c g) h k cs ds (right_true (can_act c g) (can_act_each cs (changed c g)) p.0, p.1) q in
-    (both_true (can_act c g) (can_act_each (cs ++ ds) (changed c g)) (left_true (can_act c g) (can_act_each cs (changed c g)) p.0) rest.0, rest.1)
+    let rest = leads_append (changed c g) h k cs ds ((and_parts (can_act c g) (can_act_each cs (changed c g)) p.0).1, p.1) q in
+    (and_from (can_act c g) (can_act_each (cs ++ ds) (changed c g)) ((and_parts (can_act c g) (can_act_each cs (changed c g)) p.0).0) rest.0, rest.1)
 
 -- nothing is done
 pub nothing_leads : (g : PropertyGraph) → LeadTo g [] (assigned [] g)

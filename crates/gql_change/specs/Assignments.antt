@@ -18,7 +18,7 @@ use Rattle.gql_ast.specs.declared.change.RemoveItem.TheVariants as remove_item
 use Rattle.gql_ast.specs.declared.change.SetItem.{SetItem}
 use Rattle.gql_ast.specs.declared.change.SetItem.TheVariants as set_item
 use Rattle.gql_ast.specs.declared.fault.DataFault.{DataFault}
-use Rattle.gql_change.specs.RowSteps.{RowList, each_some}
+use Rattle.gql_eval.specs.RowLists.{RowList, each_some}
 use Rattle.gql_change.specs.Storing.{stored}
 use Rattle.gql_change.specs.declared.assignment.Act.{Act}
 use Rattle.gql_change.specs.declared.assignment.Act.TheVariants as act

@@ -16,7 +16,7 @@ use Rattle.gql_ast.specs.declared.fault.DataFault.TheVariants as fault
 use Rattle.gql_ast.specs.declared.refusal.ElemKind.{ElemKind}
 use Rattle.gql_ast.specs.declared.refusal.Refusal.{Refusal}
 use Rattle.gql_ast.specs.declared.refusal.Refusal.TheVariants as refusal
-use Rattle.gql_change.specs.RowSteps.{RowList}
+use Rattle.gql_eval.specs.RowLists.{RowList}
 use Rattle.gql_change.specs.Assignments.{set_assignments, remove_assignments}
 use Rattle.gql_change.specs.AssignedGraph.{assigned}
 use Rattle.gql_change.specs.Conflicts.{conflict_among}
@@ -33,9 +33,9 @@ abbrev pub unless_fault : {A : Type 0} → Result A DataFault → (A → Result 
 unless_fault (Ok x) f = f x
 unless_fault (Err e) f = Err (refusal.Fault e)
 
-abbrev pub unless_refused : Option Refusal → Changed → Result Changed Refusal
-unless_refused None c = Ok c
-unless_refused (Some r) c = Err r
+abbrev pub refused_by : Option Refusal → Changed → Result Changed Refusal
+refused_by None c = Ok c
+refused_by (Some r) c = Err r
 
 -- numbers that are used up refuse it (E24)
 abbrev pub unless_full : Result Changed ElemKind → Result Changed Refusal
@@ -52,20 +52,20 @@ abbrev pub has_endpoints : ColumnList → RowList → List InsertPath → Bool
 has_endpoints columns rows ps = list_all (λ (row : List Datum). length row == length columns) rows && is_empty (wrong_in_spots columns (insert_spots ps))
 
 module _ (g : PropertyGraph) (params : List (List ℕ × Datum)) (columns : ColumnList) (rows : RowList) where
-  abbrev pub inserted : List InsertPath → Result Changed Refusal
-  inserted ps = unless_fault (rows_values g params columns ps rows) (λ values. unless_full (make_rows columns ps g rows values))
+  abbrev pub changed_by_insert : List InsertPath → Result Changed Refusal
+  changed_by_insert ps = unless_fault (rows_values g params columns ps rows) (λ values. unless_full (make_rows columns ps g rows values))
 
   -- SET and REMOVE keep the rows
   abbrev pub changed_by_assignments : Result (List Assignment) DataFault → Result Changed Refusal
-  changed_by_assignments given = unless_fault given (λ list. unless_refused (conflict_among list) (assigned list g, rows))
+  changed_by_assignments given = unless_fault given (λ list. refused_by (conflict_among list) (assigned list g, rows))
 
   -- and so does DELETE: a deleted element stays in them
   abbrev pub changed_by_deletion : Detachment → List (List ℕ) → Result Changed Refusal
   changed_by_deletion d names =
-      unless_refused (first_left d (named_elements columns names rows) g g.nodes) (deleted d (named_elements columns names rows) g, rows)
+      refused_by (first_left d (named_elements columns names rows) g g.nodes) (deleted d (named_elements columns names rows) g, rows)
 
   abbrev pub change_of : ChangeClause → Result Changed Refusal
-  change_of (change.Insert ps) = if has_endpoints columns rows ps then inserted ps else Err (refusal.Fault fault.WrongKind)
+  change_of (change.Insert ps) = if has_endpoints columns rows ps then changed_by_insert ps else Err (refusal.Fault fault.WrongKind)
   change_of (change.Set is) = changed_by_assignments (set_assignments g params columns is rows)
   change_of (change.Remove is) = changed_by_assignments (remove_assignments g params columns is rows)
   change_of (change.Delete d names) = changed_by_deletion d names

@@ -2,6 +2,7 @@
 -- edges, and then by the property's name; of the first two neighbours of one property that differ, the former is the
 -- property's first value and the latter the first that differs from it.
 use Rattle.std.specs.Prelude.{Bool, true, false, not, ◌&&◌, ◌==◌, List, [], ◌∷◌, Option, Some, None, if◌then◌else◌}
+use Rattle.std.specs.Option.{option_or}
 use Rattle.std.specs.declared.cmp.Ordering.{Ordering}
 use Rattle.std.specs.declared.cmp.Ordering.TheVariants.{Less, Equal, Greater}
 use Rattle.std.specs.Ordering.{is_lt, nat_cmp, ordering_then}
@@ -13,6 +14,7 @@ use Rattle.gql_values3.specs.declared.element.Elem.{Elem}
 use Rattle.gql_values3.specs.declared.element.Elem.TheVariants as elem
 use Rattle.gql_ast.specs.declared.refusal.Refusal.{Refusal}
 use Rattle.gql_ast.specs.declared.refusal.Refusal.TheVariants as refusal
+use Rattle.gql_eval.specs.StableSort.{stably_sorted}
 use Rattle.gql_change.specs.declared.assignment.Act.{Act}
 use Rattle.gql_change.specs.declared.assignment.Act.TheVariants as act
 use Rattle.gql_change.specs.declared.assignment.Assignment.{Assignment}
@@ -34,15 +36,12 @@ act_cmp a b = Equal
 abbrev pub assignment_cmp : Assignment → Assignment → Ordering
 assignment_cmp a b = ordering_then (elem_cmp a.target b.target) (act_cmp a.act b.act)
 
--- before the first that is above it
-abbrev pub insert_assignment : Assignment → List Assignment → List Assignment
-insert_assignment a [] = a ∷ []
-insert_assignment a (b ∷ bs) = if is_lt (assignment_cmp b a) then b ∷ insert_assignment a bs else a ∷ b ∷ bs
+abbrev pub comes_before : Assignment → Assignment → Bool
+comes_before a b = is_lt (assignment_cmp a b)
 
 -- in order; ties stay as they stood
 abbrev pub in_order : List Assignment → List Assignment
-in_order [] = []
-in_order (a ∷ more) = insert_assignment a (in_order more)
+in_order given = stably_sorted comes_before given
 
 abbrev pub same_elem : Elem → Elem → Bool
 same_elem (elem.Node m) (elem.Node n) = m.0 == n.0
@@ -64,15 +63,11 @@ act_conflict e _ _ = None
 abbrev pub conflict_of : Assignment → Assignment → Option Refusal
 conflict_of a b = if same_elem a.target b.target then act_conflict a.target a.act b.act else None
 
-abbrev pub or_else : {A : Type 0} → Option A → Option A → Option A
-or_else (Some x) b = Some x
-or_else None b = b
-
 -- the first two neighbours that differ
 abbrev pub neighbours_conflict : List Assignment → Option Refusal
 neighbours_conflict [] = None
 neighbours_conflict (a ∷ []) = None
-neighbours_conflict (a ∷ b ∷ bs) = or_else (conflict_of a b) (neighbours_conflict (b ∷ bs))
+neighbours_conflict (a ∷ b ∷ bs) = option_or (conflict_of a b) (neighbours_conflict (b ∷ bs))
 
 abbrev pub conflict_among : List Assignment → Option Refusal
 conflict_among given = neighbours_conflict (in_order given)

@@ -16,8 +16,9 @@ use Rattle.gql_ast.specs.declared.change.Detachment.{Detachment}
 use Rattle.gql_ast.specs.declared.change.Detachment.TheVariants as detachment
 use Rattle.gql_ast.specs.declared.refusal.Refusal.{Refusal}
 use Rattle.gql_ast.specs.declared.refusal.Refusal.TheVariants as refusal
-use Rattle.gql_change.specs.RowSteps.{RowList}
-use Rattle.gql_change.specs.Conflicts.{same_elem, or_else}
+use Rattle.gql_eval.specs.RowLists.{RowList}
+use Rattle.std.specs.Option.{option_or}
+use Rattle.gql_change.specs.Conflicts.{same_elem}
 
 -- the element that a value is
 abbrev pub elements_in : Datum → List Elem
@@ -54,7 +55,7 @@ left_on n (Some r) = Some (refusal.Edges n.number r.number)
 abbrev pub first_left : Detachment → List Elem → PropertyGraph → List NodeRecord → Option Refusal
 first_left d es g [] = None
 first_left d es g (n ∷ ns) =
-    if is_named es (elem.Node n.number) then or_else (left_on n (edge_left d es g n)) (first_left d es g ns) else first_left d es g ns
+    if is_named es (elem.Node n.number) then option_or (left_on n (edge_left d es g n)) (first_left d es g ns) else first_left d es g ns
 
 abbrev pub deleted : Detachment → List Elem → PropertyGraph → PropertyGraph
 deleted d es g = record {

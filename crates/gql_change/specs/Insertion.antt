@@ -29,7 +29,7 @@ use Rattle.gql_ast.specs.declared.fault.DataFault.{DataFault}
 use Rattle.gql_ast.specs.declared.fault.DataFault.TheVariants as fault
 use Rattle.gql_ast.specs.declared.refusal.ElemKind.{ElemKind}
 use Rattle.gql_ast.specs.declared.refusal.ElemKind.TheVariants as sort
-use Rattle.gql_change.specs.RowSteps.{RowList}
+use Rattle.gql_eval.specs.RowLists.{RowList}
 use Rattle.gql_graph.specs.Edits.{with_nodes, with_edges}
 use Rattle.gql_change.specs.Storing.{PropertyList, stored, label_set, property_set}
 
@@ -107,11 +107,11 @@ number_under m None = 0
 number_under m (Some x) = node_number (datum_of_name (row_scope m.columns m.row) x)
 
 -- a making whose refusal is that the numbers of a sort are used up
-abbrev pub Made : Type 0 → Type 0
-Made A = Result A ElemKind
+abbrev pub OrFull : Type 0 → Type 0
+OrFull A = Result A ElemKind
 
 infixl 10 ◌>>>◌
-abbrev pub ◌>>>◌ : {A B : Type 0} → Made A → (A → Made B) → Made B
+abbrev pub ◌>>>◌ : {A B : Type 0} → OrFull A → (A → OrFull B) → OrFull B
 (Ok x) >>> f = f x
 (Err e) >>> f = Err e
 
@@ -132,7 +132,7 @@ new_node m f = record {
 }
 
 -- a node: one that stands already, or a new one
-abbrev pub make_node : Making → Fill → Made (Making × ℕ)
+abbrev pub make_node : Making → Fill → OrFull (Making × ℕ)
 make_node m f =
     if refers m.columns f.variable then Ok (past_spot m m.graph kind.Node f.variable null, number_under m f.variable)
     else (if is_used_up m.graph.next_node then Err sort.Node
@@ -153,8 +153,8 @@ new_edge m f ends = record {
 }
 
 -- the edge joins the graph once both its nodes are there
-abbrev pub joined : EdgeRecord → Making × ℕ → Making × ℕ
-joined r made = (
+abbrev pub with_edge_made : EdgeRecord → Making × ℕ → Making × ℕ
+with_edge_made r made = (
   record {
     graph = with_edges made.0.graph (made.0.graph.edges ++ r ∷ []) (suc made.0.graph.next_edge);
     columns = made.0.columns;
@@ -165,25 +165,25 @@ joined r made = (
 )
 
 -- an edge takes its number before the node behind it does; a is the node before it
-abbrev pub make_step : InsertStep → Making × ℕ → Made (Making × ℕ)
+abbrev pub make_step : InsertStep → Making × ℕ → OrFull (Making × ℕ)
 make_step s at =
     if is_used_up at.0.graph.next_edge then Err sort.Edge
     else (make_node (past_spot at.0 at.0.graph kind.Edge s.edge.variable (edge at.0.graph.next_edge)) s.node
-    >>> λ made. Ok (joined (new_edge at.0 s.edge (ends_between s.arrow at.1 made.1)) made))
+    >>> λ made. Ok (with_edge_made (new_edge at.0 s.edge (ends_between s.arrow at.1 made.1)) made))
 
-abbrev pub make_steps : List InsertStep → Making × ℕ → Made (Making × ℕ)
+abbrev pub make_steps : List InsertStep → Making × ℕ → OrFull (Making × ℕ)
 make_steps [] at = Ok at
 make_steps (s ∷ ss) at = make_step s at >>> make_steps ss
 
-abbrev pub make_path : Making → InsertPath → Made Making
+abbrev pub make_path : Making → InsertPath → OrFull Making
 make_path m p = make_node m p.start >>> make_steps p.steps >>> λ at. Ok at.0
 
-abbrev pub make_paths : List InsertPath → Making → Made Making
+abbrev pub make_paths : List InsertPath → Making → OrFull Making
 make_paths [] m = Ok m
 make_paths (p ∷ ps) m = make_path m p >>> make_paths ps
 
 -- the rows with what was made for them, and the graph behind them all
-abbrev pub make_rows : ColumnList → List InsertPath → PropertyGraph → RowList → List (List PropertyList) → Made (PropertyGraph × RowList)
+abbrev pub make_rows : ColumnList → List InsertPath → PropertyGraph → RowList → List (List PropertyList) → OrFull (PropertyGraph × RowList)
 make_rows columns ps g [] values = Ok (g, [])
 make_rows columns ps g (row ∷ rows) [] = Ok (g, row ∷ rows)
 make_rows columns ps g (row ∷ rows) (vs ∷ vss) =

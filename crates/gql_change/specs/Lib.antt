@@ -1,9 +1,4 @@
-pub mod RowSteps
 pub mod Storing
-pub mod Places
-pub mod Swaps
-pub mod Building
-pub mod BuildingState
 pub mod Assignments
 pub mod Conflicts
 pub mod AssignedGraph
@@ -11,10 +6,4 @@ pub mod Deletion
 pub mod Insertion
 pub mod Changing
 pub mod Plans
-pub mod DeletionSteps
-pub mod Rising
-pub mod Noting
-pub mod Roles
-pub mod Works
-pub mod Makes
-pub mod Endpoints
+pub mod Machinery

@@ -7,7 +7,7 @@ use Rattle.gql_eval.specs.declared.error.EvalError.{EvalError}
 use Rattle.gql_eval.specs.declared.error.EvalError.TheVariants as error
 use Rattle.gql_graph.specs.Edits.{can_act_each, changed_by_each}
 use Rattle.gql_graph.specs.declared.change.Change.{Change}
-use Rattle.gql_change.specs.RowSteps.{RowList}
+use Rattle.gql_eval.specs.RowLists.{RowList}
 use Rattle.gql_change.specs.Changing.{Changed}
 use Rattle.gql_change.specs.declared.fault.ChangeFault.{ChangeFault}
 use Rattle.gql_change.specs.declared.fault.ChangeFault.TheVariants as fault
@@ -17,14 +17,14 @@ abbrev pub LeadTo : PropertyGraph → List Change → PropertyGraph → Type 0
 LeadTo g cs h = IsTrue (can_act_each cs g) × (changed_by_each cs g ≡ h)
 
 -- a refusal is the definition's; want of memory is the one free answer
-abbrev pub Refuses : {Y : Type 0} → ChangeFault → Result Y Refusal → Type 0
-Refuses fault.OutOfMemory given = Unit {0}
-Refuses (fault.Refused r) given = given ≡ Err r
+abbrev pub Fails : {Y : Type 0} → ChangeFault → Result Y Refusal → Type 0
+Fails fault.OutOfMemory given = Unit {0}
+Fails (fault.Refused r) given = given ≡ Err r
 
 -- changes that lead to the definition's graph, and its rows
 abbrev pub Plans : {X : Type 0} → (X → List Change × RowList) → PropertyGraph → Result X ChangeFault → Result Changed Refusal → Type 0
 Plans view g (Ok x) given = (c : Changed) × (given ≡ Ok c) × LeadTo g (view x).0 c.0 × ((view x).1 ≡ c.1)
-Plans view g (Err e) given = Refuses e given
+Plans view g (Err e) given = Fails e given
 
 -- a data fault refuses the clause
 abbrev pub change_fault : EvalError → ChangeFault

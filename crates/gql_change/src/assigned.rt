@@ -3,10 +3,11 @@
 ghost use Rattle.std.specs.Prelude.{◌≡◌, IfOk, OnOk, IsTrue};
 ghost use Rattle.gql_values3.specs.PropertyGraph.{is_graph};
 ghost use Rattle.gql_change.specs.AssignedGraph.{assigned};
-ghost use Rattle.gql_change.specs.Building.{sorted, target_before, built, built_with, built_from};
-ghost use Rattle.gql_change.specs.BuildingState.{state_of};
+ghost use Rattle.gql_eval.specs.StableSort.{stably_sorted};
+ghost use Rattle.gql_change.specs.Machinery.Building.{target_before, built, built_with, built_from};
+ghost use Rattle.gql_change.specs.Machinery.BuildingState.{built_so_far};
 ghost use Rattle.gql_change.specs.Plans.{LeadTo};
-ghost use Rattle.gql_change.specs.Swaps.{all_fit};
+ghost use Rattle.gql_change.specs.Machinery.Swaps.{all_fit};
 
 use crate::assignment::{Act, Assignment};
 use crate::conflict::{element_order, same_element};
@@ -45,7 +46,7 @@ pub fn assigned_changes<V: View>(
 
 /// The assignments in the order of their elements. Those of one element stand as they stood.
 fn by_element(assignments: Vec<Assignment>) -> Result<Vec<Assignment>, OutOfMemory>
-    ensures { IfOk result (λ all. all.items ≡ sorted target_before assignments.items) }
+    ensures { IfOk result (λ all. all.items ≡ stably_sorted target_before assignments.items) }
 {
     let mut all = assignments;
     all.sort_by(|a, b| element_order(a.target, b.target))?;
@@ -86,7 +87,7 @@ fn add<V: View>(
     assignment: Assignment,
 ) -> Result<(), OutOfMemory>
     requires { IsTrue (is_graph (V.graph view.now)) }
-    ensures { OnOk result (state_of building.new ≡ built_with (V.graph view.now) (state_of building.old) assignment) }
+    ensures { OnOk result (built_so_far building.new ≡ built_with (V.graph view.now) (built_so_far building.old) assignment) }
 {
     let Assignment { target, act } = assignment;
     if !same_element(target, building.target) {

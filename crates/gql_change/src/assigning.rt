@@ -4,7 +4,7 @@ ghost use Rattle.std.specs.Prelude.{◌≡◌, ◌++◌, option_to_list, OnOk};
 ghost use Rattle.gql_values3.specs.Meaning.{datum_of};
 ghost use Rattle.gql_ast.specs.Scope.{row_scope};
 ghost use Rattle.gql_eval.specs.Gives.{Gives};
-ghost use Rattle.gql_change.specs.RowSteps.{each_some};
+ghost use Rattle.gql_eval.specs.RowLists.{each_some};
 ghost use Rattle.gql_change.specs.Assignments.{set_by, removed_by, set_assignments, remove_assignments};
 ghost use Rattle.gql_ast.specs.declared.change.SetItem.TheVariants as set_item;
 

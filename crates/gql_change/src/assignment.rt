@@ -1,3 +1,5 @@
+//! What SET and REMOVE do to elements, as data that is worked out before anything is changed.
+
 use gql_values3::{Elem, Text, Value};
 
 /// What SET or REMOVE does to one element.

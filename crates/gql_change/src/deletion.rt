@@ -2,11 +2,11 @@
 
 ghost use Rattle.std.specs.Prelude.{◌≡◌, [], IfOk, map, reverse};
 ghost use Rattle.gql_change.specs.Changing.{changed_by_deletion};
-ghost use Rattle.gql_change.specs.DeletionSteps.{Deletes, outs, edge_out, node_out};
+ghost use Rattle.gql_change.specs.Machinery.DeletionSteps.{Deletes, outs, edge_out, node_out};
 ghost use Rattle.gql_change.specs.Plans.{Plans};
 
+use crate::deleted_numbers::{deleted_edges, deleted_nodes};
 use crate::fault::ChangeFault;
-use crate::going::{going_edges, going_nodes};
 use crate::leftover::refusal_of;
 use crate::naming::named_elements;
 use gql_ast::Detachment;
@@ -41,8 +41,8 @@ fn plan_of_named<V: View>(
 {
     // What is looked at is a graph.
     let _count = view.node_count();
-    let nodes = going_nodes(alloc, view, named)?;
-    let edges = going_edges(alloc, view, named, &nodes, detachment)?;
+    let nodes = deleted_nodes(alloc, view, named)?;
+    let edges = deleted_edges(alloc, view, named, &nodes, detachment)?;
     match refusal_of(view, &nodes, &edges, detachment) {
         Some(refusal) => Err(ChangeFault::Refused(refusal)),
         None => Ok(outs(alloc, &nodes, &edges)?),

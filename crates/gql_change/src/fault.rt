@@ -1,3 +1,5 @@
+//! Why a clause that changes data is refused, and how causes from below become its causes.
+
 use gql_ast::Refusal;
 use gql_eval::EvalError;
 use gql_values3::OutOfMemory;

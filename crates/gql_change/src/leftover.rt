@@ -1,8 +1,8 @@
 //! Edges that a deletion would leave without a node.
 
 ghost use Rattle.std.specs.Prelude.{◌≡◌};
-ghost use Rattle.gql_change.specs.DeletionSteps.{has_number, other_edge, other_edges, refusal_of};
-ghost use Rattle.gql_change.specs.Rising.{IsRising};
+ghost use Rattle.gql_change.specs.Machinery.DeletionSteps.{has_number, other_edge, other_edges, refusal_of};
+ghost use Rattle.gql_change.specs.Machinery.Rising.{IsRising};
 
 use gql_ast::{Detachment, Refusal};
 use gql_values3::{EdgeId, NodeId, View};

@@ -5,43 +5,39 @@
 //! that the changes need, and `apply` makes them without any. It stands on `gql_eval` and `gql_graph`.
 #![tactic(auto)]
 
-pub mod acting;
-pub mod asked;
-pub mod assigned;
-pub mod assigning;
-pub mod assignment;
-pub mod columns;
-pub mod conflict;
-pub mod copying;
-pub mod deletion;
-pub mod fault;
-pub mod filling;
-pub mod going;
-pub mod insert;
-pub mod leftover;
-pub mod list;
-pub mod making;
-pub mod making_fault;
-pub mod map_values;
-pub mod names;
-pub mod naming;
-pub mod new_edge;
-pub mod new_node;
-pub mod planning;
-pub mod questions;
-pub mod role;
-pub mod set_clause;
-pub mod spot;
-pub mod spot_values;
-pub mod storing;
-pub mod supply;
-pub mod swapping;
-pub mod target;
-#[cfg(test)]
-mod test_clauses;
-#[cfg(test)]
-mod tests;
-pub mod work;
+mod acting;
+mod assigned;
+mod assigning;
+mod assignment;
+mod columns;
+mod conflict;
+mod copying;
+mod deleted_numbers;
+mod deletion;
+mod fault;
+mod filling;
+mod insert;
+mod insert_state;
+mod leftover;
+mod list;
+mod making;
+mod making_fault;
+mod map_values;
+mod names;
+mod naming;
+mod new_edge;
+mod new_node;
+mod planning;
+mod questions;
+mod remaining;
+mod role;
+mod row_spots;
+mod set_clause;
+mod spot_question;
+mod spot_values;
+mod storing;
+mod swapping;
+mod target;
 
 pub use acting::{apply, reserve, undo};
 pub use assignment::{Act, Assignment};

@@ -1,3 +1,5 @@
+//! Why a node or an edge of an INSERT is not made: its numbers are used up, or there is no memory.
+
 use crate::fault::ChangeFault;
 use gql_ast::{ElemKind, Refusal};
 use gql_values3::OutOfMemory;
@@ -23,7 +25,7 @@ impl From<OutOfMemory> for MakingFault {
 
 impl From<MakingFault> for ChangeFault {
     ghost use Rattle.std.specs.Prelude.{◌≡◌};
-    ghost use Rattle.gql_change.specs.Makes.{fault_of_making};
+    ghost use Rattle.gql_change.specs.Machinery.Makes.{fault_of_making};
 
     ghost from_gives = { λ error fault. fault ≡ fault_of_making error };
 

@@ -4,7 +4,7 @@ ghost use Rattle.std.specs.Prelude.{◌≡◌};
 ghost use Rattle.gql_values3.specs.Meaning.{datum_of};
 ghost use Rattle.gql_eval.specs.Gives.{Gives};
 ghost use Rattle.gql_change.specs.Insertion.{map_values};
-ghost use Rattle.gql_change.specs.Roles.{item_value, pair_of};
+ghost use Rattle.gql_change.specs.Machinery.Roles.{item_value, pair_of};
 ghost use Rattle.gql_change.specs.Storing.{stored};
 
 use crate::storing::is_storable;

@@ -1,7 +1,9 @@
+//! Columns that grow while a clause is read, indexed by their names.
+
 ghost use Rattle.std.specs.Prelude.{◌≡◌, [], ◌∷◌, ◌++◌, option_map, find, slice_get, IfOk};
 ghost use Rattle.gql_values3.specs.Texts.{same_text};
-ghost use Rattle.gql_eval.specs.Places.{place_among};
-ghost use Rattle.gql_change.specs.Noting.{Notes};
+ghost use Rattle.gql_eval.specs.Machinery.Places.{place_among};
+ghost use Rattle.gql_change.specs.Machinery.Noting.{Notes};
 
 use gql_values3::{ColumnKind, Columns, OutOfMemory, Text};
 use std::alloc::Global;
@@ -19,7 +21,7 @@ pub struct Names {
 impl Model for Names {
     ghost use Rattle.std.specs.Prelude.{List, ℕ};
     ghost use Rattle.gql_values3.specs.declared.table.ColumnKind.{ColumnKind};
-    ghost use Rattle.gql_eval.specs.Places.{ArePlaces};
+    ghost use Rattle.gql_eval.specs.Machinery.Places.{ArePlaces};
 
     ghost Value = { List (List ℕ × ColumnKind) };
 

@@ -5,7 +5,7 @@ ghost use Rattle.std.specs.List.{flat_map};
 ghost use Rattle.std.specs.Option.{option_to_list};
 ghost use Rattle.gql_values3.specs.Meaning.{datum_of};
 ghost use Rattle.gql_change.specs.Deletion.{named_elements};
-ghost use Rattle.gql_change.specs.DeletionSteps.{column_place, elements_at, row_elements};
+ghost use Rattle.gql_change.specs.Machinery.DeletionSteps.{column_place, elements_at, row_elements};
 
 use gql_values3::{ColumnKind, Columns, Elem, OutOfMemory, Row, Rows, Text, Value};
 use std::alloc::Global;

@@ -2,14 +2,14 @@
 
 ghost use Rattle.std.specs.Prelude.{◌≡◌, ◌+◌, IfOk, OnOk};
 ghost use Rattle.gql_change.specs.Insertion.{ends_between};
-ghost use Rattle.gql_change.specs.Makes.{Makes};
-ghost use Rattle.gql_change.specs.Works.{edge_added, edge_begun, edge_record, first_spot, gives_column, longer_row, properties_given, work_step};
+ghost use Rattle.gql_change.specs.Machinery.Makes.{Makes};
+ghost use Rattle.gql_change.specs.Machinery.InsertByPlaces.{edge_added, edge_begun, edge_record, first_spot, gives_column, longer_row, properties_given, insert_step};
 
 use crate::filling::{label_set, property_set};
+use crate::insert_state::InsertState;
 use crate::making_fault::MakingFault;
 use crate::new_node::{is_used_up, make_node, push_if};
-use crate::spot::Spot;
-use crate::work::Work;
+use crate::row_spots::Spot;
 use gql_ast::{Arrow, ElemKind, Fill, InsertStep};
 use gql_graph::Change;
 use gql_values3::{EdgeId, EdgeRecord, Ends, NodeId, OutOfMemory, Properties, Value};
@@ -18,31 +18,31 @@ use std::alloc::Global;
 /// The edge and the node of a step behind a node. The edge takes its number first, and joins the changes last.
 pub fn make_step(
     alloc: Global,
-    work: &mut Work,
+    state: &mut InsertState,
     step: &InsertStep,
     before: u32,
 ) -> Result<u32, MakingFault>
-    ensures { Makes (λ n. (work.new, n)) result (work_step step.now (work.old, before)) }
+    ensures { Makes (λ n. (state.new, n)) result (insert_step step.now (state.old, before)) }
 {
-    let number = work.next_edge;
+    let number = state.next_edge;
     if is_used_up(number) {
         return Err(MakingFault::Full(ElemKind::Edge));
     }
-    let properties = begin_edge(alloc, work)?;
-    let after = make_node(alloc, work, &step.node)?;
+    let properties = begin_edge(alloc, state)?;
+    let after = make_node(alloc, state, &step.node)?;
     let ends = ends_between(step.arrow, before, after);
     let record = edge_record(alloc, number, &step.edge, ends, properties)?;
-    add_edge(work, record, number + 1)?;
+    add_edge(state, record, number + 1)?;
     Ok(after)
 }
 
 /// Takes the spot of an edge, whose number goes into the row where it has a column; answers its properties.
-fn begin_edge(alloc: Global, work: &mut Work) -> Result<Properties, OutOfMemory>
-    ensures { IfOk result (λ ps. (ps ≡ properties_given (first_spot work.old.spots)) × (work.new ≡ edge_begun work.old)) }
+fn begin_edge(alloc: Global, state: &mut InsertState) -> Result<Properties, OutOfMemory>
+    ensures { IfOk result (λ ps. (ps ≡ properties_given (first_spot state.old.spots)) × (state.new ≡ edge_begun state.old)) }
 {
-    let (named, properties) = parts_of(alloc, work.spots.next());
-    let edge = Value::Edge(EdgeId(work.next_edge));
-    push_if(&mut work.row, named, edge)?;
+    let (named, properties) = parts_of(alloc, state.spots.next());
+    let edge = Value::Edge(EdgeId(state.next_edge));
+    push_if(&mut state.row, named, edge)?;
     Ok(properties)
 }
 
@@ -56,11 +56,11 @@ fn parts_of(alloc: Global, spot: Spot) -> (bool, Properties)
     }
 }
 
-fn add_edge(work: &mut Work, edge: EdgeRecord, next: u32) -> Result<(), OutOfMemory>
-    ensures { OnOk result (work.new ≡ edge_added edge next work.old) }
+fn add_edge(state: &mut InsertState, edge: EdgeRecord, next: u32) -> Result<(), OutOfMemory>
+    ensures { OnOk result (state.new ≡ edge_added edge next state.old) }
 {
-    work.changes.push(Change::NewEdge(edge))?;
-    work.next_edge = next;
+    state.changes.push(Change::NewEdge(edge))?;
+    state.next_edge = next;
     Ok(())
 }
 

@@ -4,46 +4,46 @@ ghost use Rattle.std.specs.Prelude.{◌≡◌, IfOk, OnOk};
 ghost use Rattle.gql_values3.specs.Datum.{Datum};
 ghost use Rattle.gql_values3.specs.Meaning.{datum_of};
 ghost use Rattle.gql_change.specs.Insertion.{is_used_up, node_number};
-ghost use Rattle.gql_change.specs.Makes.{Makes};
-ghost use Rattle.gql_change.specs.Roles.{datum_at};
-ghost use Rattle.gql_change.specs.Works.{longer_row, node_made, node_record, work_node};
+ghost use Rattle.gql_change.specs.Machinery.Makes.{Makes};
+ghost use Rattle.gql_change.specs.Machinery.Roles.{datum_at};
+ghost use Rattle.gql_change.specs.Machinery.InsertByPlaces.{longer_row, node_made, node_record, insert_node};
 
 use crate::filling::{label_set, property_set};
+use crate::insert_state::InsertState;
 use crate::making_fault::MakingFault;
-use crate::spot::Spot;
-use crate::work::Work;
+use crate::row_spots::Spot;
 use gql_ast::{ElemKind, Fill};
 use gql_graph::Change;
 use gql_values3::{NodeId, NodeRecord, OutOfMemory, Properties, Row, Value};
 use std::alloc::Global;
 
 /// The node of the next spot: one that stands already, or a new one.
-pub fn make_node(alloc: Global, work: &mut Work, fill: &Fill) -> Result<u32, MakingFault>
-    ensures { Makes (λ n. (work.new, n)) result (work_node fill.now work.old) }
+pub fn make_node(alloc: Global, state: &mut InsertState, fill: &Fill) -> Result<u32, MakingFault>
+    ensures { Makes (λ n. (state.new, n)) result (insert_node fill.now state.old) }
 {
-    match work.spots.next() {
-        Spot::Refers(place) => Ok(node_of_row(&work.row, place)),
-        Spot::New { named, properties } => new_node(alloc, work, named, fill, properties),
+    match state.spots.next() {
+        Spot::Refers(place) => Ok(node_of_row(&state.row, place)),
+        Spot::New { named, properties } => new_node(alloc, state, named, fill, properties),
     }
 }
 
 fn new_node(
     alloc: Global,
-    work: &mut Work,
+    state: &mut InsertState,
     named: bool,
     fill: &Fill,
     properties: Properties,
 ) -> Result<u32, MakingFault>
-    ensures { Makes (λ n. (work.new, n)) result (node_made named fill.now properties work.old) }
+    ensures { Makes (λ n. (state.new, n)) result (node_made named fill.now properties state.old) }
 {
-    let number = work.next_node;
+    let number = state.next_node;
     if is_used_up(number) {
         return Err(MakingFault::Full(ElemKind::Node));
     }
     let record = node_record(alloc, number, fill, properties)?;
-    work.changes.push(Change::NewNode(record))?;
-    push_if(&mut work.row, named, Value::Node(NodeId(number)))?;
-    work.next_node = number + 1;
+    state.changes.push(Change::NewNode(record))?;
+    push_if(&mut state.row, named, Value::Node(NodeId(number)))?;
+    state.next_node = number + 1;
     Ok(number)
 }
 

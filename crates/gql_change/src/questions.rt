@@ -2,13 +2,13 @@
 
 ghost use Rattle.std.specs.Prelude.{◌≡◌, [], ◌∷◌, ◌++◌, map, IfOk, OnOk};
 ghost use Rattle.gql_ast.specs.InsertColumns.{insert_spots, path_spots, spot_columns, with_variable};
-ghost use Rattle.gql_eval.specs.Places.{place_among};
+ghost use Rattle.gql_eval.specs.Machinery.Places.{place_among};
 ghost use Rattle.gql_change.specs.Insertion.{items_in};
-ghost use Rattle.gql_change.specs.Roles.{question_of, questions, role_of, role_there};
+ghost use Rattle.gql_change.specs.Machinery.Roles.{question_of, questions, role_of, role_there};
 
-use crate::asked::Asked;
 use crate::names::{Names, names_of};
 use crate::role::Role;
+use crate::spot_question::SpotQuestion;
 use gql_ast::{Fill, InsertPath, Map, MapItem};
 use gql_values3::{ColumnKind, Columns, OutOfMemory, Text};
 use std::alloc::Global;
@@ -18,7 +18,7 @@ pub fn questions_of<'a>(
     alloc: Global,
     columns: &Columns,
     paths: &'a [InsertPath],
-) -> Result<Vec<Asked<'a>>, OutOfMemory>
+) -> Result<Vec<SpotQuestion<'a>>, OutOfMemory>
     ensures { IfOk result (λ asked. map question_of asked.items ≡ questions columns.now (insert_spots paths.now)) }
 {
     let mut asked = Vec::new(alloc);
@@ -34,7 +34,7 @@ pub fn questions_of<'a>(
 fn ask_path<'a>(
     alloc: Global,
     names: Names,
-    asked: &mut Vec<Asked<'a>>,
+    asked: &mut Vec<SpotQuestion<'a>>,
     path: &'a InsertPath,
 ) -> Result<Names, OutOfMemory>
     ensures columns { IfOk result (λ more. more ≡ spot_columns names (path_spots path.now)) }
@@ -54,7 +54,7 @@ fn ask_path<'a>(
 fn ask<'a>(
     alloc: Global,
     names: Names,
-    asked: &mut Vec<Asked<'a>>,
+    asked: &mut Vec<SpotQuestion<'a>>,
     kind: ColumnKind,
     fill: &'a Fill,
 ) -> Result<Names, OutOfMemory>
@@ -63,7 +63,7 @@ fn ask<'a>(
 {
     let (more, role) = role_of(alloc, names, kind, &fill.variable)?;
     let items = items_of(&fill.map);
-    asked.push(Asked { role, items })?;
+    asked.push(SpotQuestion { role, items })?;
     Ok(more)
 }
 

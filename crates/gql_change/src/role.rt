@@ -1,3 +1,5 @@
+//! Whether a spot of an INSERT stands for a node that is there or for a new element.
+
 /// What the columns before a spot of an INSERT say of it.
 #[derive(Clone, Copy, Debug, PartialEq, Eq)]
 pub enum Role {

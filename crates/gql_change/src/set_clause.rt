@@ -3,11 +3,11 @@
 ghost use Rattle.std.specs.Prelude.{IsTrue};
 ghost use Rattle.gql_change.specs.AssignedGraph.{assigned};
 ghost use Rattle.gql_change.specs.Assignments.{set_assignments, remove_assignments};
-ghost use Rattle.gql_change.specs.Changing.{changed_by_assignments, unless_refused};
+ghost use Rattle.gql_change.specs.Changing.{changed_by_assignments, refused_by};
 ghost use Rattle.gql_change.specs.Conflicts.{conflict_among};
 ghost use Rattle.gql_change.specs.Plans.{Plans};
-ghost use Rattle.gql_change.specs.RowSteps.{RowList};
-ghost use Rattle.gql_change.specs.Swaps.{all_fit};
+ghost use Rattle.gql_eval.specs.RowLists.{RowList};
+ghost use Rattle.gql_change.specs.Machinery.Swaps.{all_fit};
 
 use crate::assigned::assigned_changes;
 use crate::assigning::{remove_assignments, set_assignments};
@@ -57,7 +57,7 @@ fn plan_assignments<V: View>(
     assignments: Vec<Assignment>,
 ) -> Result<Changes, ChangeFault>
     requires { IsTrue (all_fit (V.graph view.now) assignments.items) }
-    ensures { (rows : RowList) → Plans (λ c. (c, rows)) (V.graph view.now) result (unless_refused (conflict_among assignments.items) (assigned assignments.items (V.graph view.now), rows)) }
+    ensures { (rows : RowList) → Plans (λ c. (c, rows)) (V.graph view.now) result (refused_by (conflict_among assignments.items) (assigned assignments.items (V.graph view.now), rows)) }
 {
     match conflict_among(alloc, assignments.as_slice())? {
         Some(refusal) => Err(ChangeFault::Refused(refusal)),

@@ -5,14 +5,14 @@ ghost use Rattle.gql_values3.specs.Meaning.{datum_of};
 ghost use Rattle.gql_ast.specs.ElementTests.{element_in};
 ghost use Rattle.gql_ast.specs.Faults.{each};
 ghost use Rattle.gql_eval.specs.Gives.{Gives};
-ghost use Rattle.gql_eval.specs.Next.{next};
+ghost use Rattle.gql_eval.specs.Machinery.Next.{next};
 ghost use Rattle.gql_change.specs.Insertion.{node_there};
-ghost use Rattle.gql_change.specs.Roles.{datum_at, line_of, lines_of, looked_at, question_of, spot_of};
+ghost use Rattle.gql_change.specs.Machinery.Roles.{datum_at, line_of, lines_of, looked_at, question_of, spot_of};
 
-use crate::asked::Asked;
 use crate::map_values::map_values;
 use crate::role::Role;
-use crate::spot::{Line, Spot};
+use crate::row_spots::{Line, Spot};
+use crate::spot_question::SpotQuestion;
 use gql_ast::DataFault;
 use gql_eval::{EvalError, Heading};
 use gql_values3::{Params, Row, Rows, Sequence, Value, View};
@@ -25,7 +25,7 @@ pub fn lines_of<V: View>(
     heading: &Heading,
     rows: Rows,
     params: &Params,
-    asked: &[Asked],
+    asked: &[SpotQuestion],
 ) -> Result<Sequence<Line>, EvalError>
     ensures { Gives (λ ls. ls) result (lines_of (V.graph view.now) params.now heading.now (map question_of asked.now) rows) }
 {
@@ -44,7 +44,7 @@ fn line_of<V: View>(
     heading: &Heading,
     row: Row,
     params: &Params,
-    asked: &[Asked],
+    asked: &[SpotQuestion],
 ) -> Result<Line, EvalError>
     ensures { Gives (λ l. l) result (line_of (V.graph view.now) params.now heading.now row (map question_of asked.now)) }
 {
@@ -58,7 +58,7 @@ fn spots_of<V: View>(
     heading: &Heading,
     row: &Row,
     params: &Params,
-    asked: &[Asked],
+    asked: &[SpotQuestion],
 ) -> Result<Sequence<Spot>, EvalError>
     ensures { Gives (λ ss. ss) result (each (spot_of (V.graph view.now) params.now heading.now row.now) (map question_of asked.now)) }
 {
@@ -76,7 +76,7 @@ fn spot_of<V: View>(
     heading: &Heading,
     row: &Row,
     params: &Params,
-    asked: &Asked,
+    asked: &SpotQuestion,
 ) -> Result<Spot, EvalError>
     ensures { Gives (λ s. s) result (spot_of (V.graph view.now) params.now heading.now row.now (question_of asked.now)) }
 {

@@ -3,10 +3,10 @@
 ghost use Rattle.std.specs.Prelude.{◌≡◌, map, length, OnOk};
 ghost use Rattle.gql_values3.specs.Meaning.{datum_of};
 ghost use Rattle.gql_values3.specs.PropertyGraph.{is_storable};
-ghost use Rattle.gql_change.specs.Places.{place_among, IsWithin};
+ghost use Rattle.gql_change.specs.Machinery.Places.{place_in_order, IsWithin};
 ghost use Rattle.gql_change.specs.Storing.{put_property, without_property, with_property, put_label, without_label};
 
-use gql_graph::storable::is_property;
+use gql_graph::is_property;
 use gql_values3::{OutOfMemory, Text, Value};
 use std::cmp::Ordering;
 
@@ -83,7 +83,7 @@ pub fn take_label(labels: &mut Vec<Text>, label: &str)
 
 /// Where the name stands among the properties, or the place before which it belongs.
 fn property_place(properties: &[(Text, Value)], name: &Text) -> Result<usize, usize>
-    ensures place { result ≡ place_among name.now (map (λ p. p.0) properties.now) }
+    ensures place { result ≡ place_in_order name.now (map (λ p. p.0) properties.now) }
     ensures within { IsWithin result (length properties.now) }
 {
     for i in 0..properties.len() {
@@ -98,7 +98,7 @@ fn property_place(properties: &[(Text, Value)], name: &Text) -> Result<usize, us
 
 /// Where the label stands among the others, or the place before which it belongs.
 fn label_place(labels: &[Text], label: &Text) -> Result<usize, usize>
-    ensures place { result ≡ place_among label.now labels.now }
+    ensures place { result ≡ place_in_order label.now labels.now }
     ensures within { IsWithin result (length labels.now) }
 {
     for i in 0..labels.len() {

@@ -4,7 +4,7 @@ ghost use Rattle.std.specs.Prelude.{◌≡◌, ◌++◌, ◌∷◌, [], map, OnO
 ghost use Rattle.gql_values3.specs.Meaning.{datum_of};
 ghost use Rattle.gql_values3.specs.PropertyGraph.{is_graph};
 ghost use Rattle.gql_change.specs.AssignedGraph.{labels_after, properties_after};
-ghost use Rattle.gql_change.specs.Swaps.{swap_with, swaps};
+ghost use Rattle.gql_change.specs.Machinery.Swaps.{swap_with, swaps};
 
 use crate::assignment::Act;
 use crate::copying::{copy_labels, copy_properties};

@@ -18,8 +18,8 @@ use Rattle.gql_values3.specs.Datum.{is_null}
 use Rattle.gql_ast.specs.Aggregates.{addend, total, summed, distinct, considered}
 use Rattle.gql_ast.specs.declared.words.SetQuantifier.{SetQuantifier}
 use Rattle.gql_ast.specs.declared.words.SetQuantifier.TheVariants as quantifier
-use Rattle.gql_eval.specs.Kept.{kept}
-use Rattle.gql_eval.specs.WholeSum.{total_of}
+use Rattle.gql_eval.specs.Machinery.Kept.{kept}
+use Rattle.gql_eval.specs.Machinery.WholeSum.{total_of}
 
 -- the values from i on
 pub mapped_step : {A : Type 0} (f : A → Datum) (xs : List A) (i : ℕ) (x : A) → i < length xs → x ≡ get_or xs i x → map f (drop i xs) ≡ f x ∷ map f (drop (i + 1) xs)

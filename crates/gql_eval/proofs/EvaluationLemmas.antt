@@ -15,7 +15,7 @@ use Rattle.gql_ast.specs.Scope.{Scope, group_of, with_item, datum_of_name}
 use Rattle.gql_ast.specs.Aggregates.{aggregated, considered}
 use Rattle.gql_ast.specs.declared.words.Aggregate.{Aggregate}
 use Rattle.gql_ast.specs.declared.words.SetQuantifier.{SetQuantifier}
-use Rattle.gql_eval.specs.Next.{next}
+use Rattle.gql_eval.specs.Machinery.Next.{next}
 use Rattle.gql_ast.specs.Tree.{Tree, Links, no_links, more_links, link, aggregate}
 use Rattle.gql_ast.specs.Evaluation.{value_of, all_of, over_group, group_items}
 

@@ -6,7 +6,7 @@ use Rattle.std.specs.Str.{bytes_eq}
 use Rattle.std.specs.Cmp.Lexicographic.{nat_list_eq_equiv}
 use Rattle.gql_values3.specs.Texts.{same_text}
 use Rattle.gql_values3.specs.declared.table.ColumnKind.{ColumnKind}
-use Rattle.gql_eval.specs.Places.{place_among}
+use Rattle.gql_eval.specs.Machinery.Places.{place_among}
 
 -- the place of a name among columns that begin at a place
 abbrev pub placed : ℕ → List (List ℕ × ColumnKind) → List ℕ → Option ℕ

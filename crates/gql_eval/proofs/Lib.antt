@@ -8,3 +8,7 @@ pub mod OperationLemmas
 pub mod PartLemmas
 pub mod AggregateLemmas
 pub mod EvaluationLemmas
+pub mod ExtremeLemmas
+pub mod StableSort
+pub mod EachSteps
+pub mod RowFits

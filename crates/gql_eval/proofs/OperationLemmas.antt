@@ -19,8 +19,8 @@ use Rattle.gql_values3.specs.Truth.{negated}
 use Rattle.gql_ast.specs.Scope.{Scope}
 use Rattle.gql_ast.specs.Tree.{Tree}
 use Rattle.gql_ast.specs.Evaluation.{value_of}
-use Rattle.gql_eval.specs.Next.{next}
-use Rattle.gql_eval.specs.Operations.{of_operand, of_operands}
+use Rattle.gql_eval.specs.Machinery.Next.{next}
+use Rattle.gql_eval.specs.Machinery.Operations.{of_operand, of_operands}
 
 -- an expression of one operand
 abbrev pub IsOperation : Expr → Tree → Type 0

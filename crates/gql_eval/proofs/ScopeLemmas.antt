@@ -10,8 +10,8 @@ use Rattle.gql_values3.specs.declared.table.ColumnKind.{ColumnKind}
 use Rattle.gql_ast.specs.Scope.{Scope, Entry, entry_of, datum_in, group_in, row_scope, holds_group}
 use Rattle.gql_values3.specs.declared.table.Binding.{Binding}
 use Rattle.gql_eval.specs.declared.scope.Item.{Item}
-use Rattle.gql_eval.specs.Places.{place_among}
-use Rattle.gql_eval.specs.ScopeMeaning.{item_entry, column_entry}
+use Rattle.gql_eval.specs.Machinery.Places.{place_among}
+use Rattle.gql_eval.specs.Machinery.ScopeMeaning.{item_entry, column_entry}
 use Rattle.gql_eval.specs.Bound.{bound_scope, bound_entry, bound_datum, is_bound_group}
 
 -- the first that is there

@@ -1,12 +1,7 @@
 pub mod Gives
 pub mod Bound
-pub mod ScopeMeaning
-pub mod WholeSum
-pub mod JoinedTruth
-pub mod Kept
-pub mod Next
-pub mod Held
-pub mod Operations
-pub mod PatternTest
-pub mod Places
-pub mod Ranked
+pub mod CowValue
+pub mod Extremes
+pub mod RowLists
+pub mod StableSort
+pub mod Machinery

@@ -1,12 +1,14 @@
 //! Aggregates of values.
 
-ghost use Rattle.std.specs.Prelude.{◌≡◌, map, filter, not, IfOk};
+ghost use Rattle.std.specs.Prelude.{◌≡◌, ◌∷◌, map, filter, not, IfOk, List as ListOf};
 ghost use Rattle.gql_values3.specs.Meaning.{datum_of};
 ghost use Rattle.gql_values3.specs.Datum.{is_null};
 ghost use Rattle.gql_ast.specs.Aggregates.{considered, distinct, aggregated, addend, summed, lesser, greater, least, least_of, greatest, greatest_of};
-ghost use Rattle.gql_eval.specs.Kept.{kept};
-ghost use Rattle.gql_eval.specs.WholeSum.{total_of};
-ghost use Rattle.gql_eval.specs.Gives.{Gives};
+ghost use Rattle.gql_values3.specs.Datum.{Datum};
+ghost use Rattle.gql_eval.specs.Extremes.{IsLeast, IsGreatest};
+ghost use Rattle.gql_eval.specs.Machinery.Kept.{kept};
+ghost use Rattle.gql_eval.specs.Machinery.WholeSum.{total_of};
+ghost use Rattle.gql_eval.specs.Gives.{Gives, GivesExactly};
 
 use crate::arithmetic::count_value;
 use crate::distinct::distinct_values;
@@ -45,6 +47,13 @@ pub fn aggregate_of(
     aggregate_present(alloc, word, quantifier, present.as_slice())
 }
 
+/// A law of the definition, for all data: MIN is one of them, and none is less in the total order; MAX is one of them,
+/// and none is greater.
+pub fn extremes_of_values()
+    ensures least { (d : Datum) (ds : ListOf Datum) → IsLeast (least (d ∷ ds)) (d ∷ ds) }
+    ensures greatest { (d : Datum) (ds : ListOf Datum) → IsGreatest (greatest (d ∷ ds)) (d ∷ ds) }
+{}
+
 /// The aggregate of values of which none is NULL.
 fn aggregate_present(
     alloc: Global,
@@ -68,11 +77,11 @@ fn aggregate_left(alloc: Global, word: Aggregate, values: &[&Value]) -> Result<V
     ensures { Gives datum_of result (aggregated word (map (λ v. datum_of v.now) values.now)) }
 {
     match word {
-        Aggregate::Count => count_value(values.len()),
-        Aggregate::Sum => sum(values),
+        Aggregate::Count => Ok(count_value(values.len())?),
+        Aggregate::Sum => Ok(sum(values)?),
         Aggregate::Min => Ok(least_value(alloc, values)?),
         Aggregate::Max => Ok(greatest_value(alloc, values)?),
-        Aggregate::CollectList => list_value(copies(alloc, values)?),
+        Aggregate::CollectList => Ok(list_value(copies(alloc, values)?)?),
     }
 }
 
@@ -105,8 +114,8 @@ fn present_among<'a>(alloc: Global, values: &[&'a Value]) -> Result<Vec<&'a Valu
 
 /// SUM. What counts is whether the whole sum fits, so it is taken in 128 bits.
 #[tactic(auto, using(crate::proofs::AggregateLemmas::summed_whole))]
-fn sum(values: &[&Value]) -> Result<Value, EvalError>
-    ensures { Gives datum_of result (summed (map (λ v. datum_of v.now) values.now)) }
+fn sum(values: &[&Value]) -> Result<Value, DataFault>
+    ensures { GivesExactly datum_of result (summed (map (λ v. datum_of v.now) values.now)) }
 {
     match values {
         [] => Ok(Value::Null),
@@ -114,15 +123,15 @@ fn sum(values: &[&Value]) -> Result<Value, EvalError>
             let whole = whole_sum(values)?;
             match i64::try_from(whole) {
                 Ok(number) => Ok(Value::Int(number)),
-                Err(_) => Err(EvalError::Fault(DataFault::Overflow)),
+                Err(_) => Err(DataFault::Overflow),
             }
         }
     }
 }
 
 /// The sum of one value at least, without a limit.
-fn whole_sum(values: &[&Value]) -> Result<i128, EvalError>
-    ensures { Gives (λ z. z) result (total_of (map (λ v. datum_of v.now) values.now)) }
+fn whole_sum(values: &[&Value]) -> Result<i128, DataFault>
+    ensures { GivesExactly (λ z. z) result (total_of (map (λ v. datum_of v.now) values.now)) }
 {
     let mut whole: i128 = 0;
     for i in 0..values.len() {
@@ -132,12 +141,12 @@ fn whole_sum(values: &[&Value]) -> Result<i128, EvalError>
     Ok(whole)
 }
 
-fn addend_of(value: &Value) -> Result<i64, EvalError>
-    ensures { Gives (λ z. z) result (addend (datum_of value.now)) }
+fn addend_of(value: &Value) -> Result<i64, DataFault>
+    ensures { GivesExactly (λ z. z) result (addend (datum_of value.now)) }
 {
     match value {
         Value::Int(number) => Ok(*number),
-        _ => Err(EvalError::Fault(DataFault::WrongKind)),
+        _ => Err(DataFault::WrongKind),
     }
 }
 

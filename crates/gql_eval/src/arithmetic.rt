@@ -3,58 +3,57 @@
 ghost use Rattle.std.specs.Prelude.{◌≡◌, pos, ◌+ℤ◌, ◌-ℤ◌, ◌*ℤ◌};
 ghost use Rattle.gql_values3.specs.Meaning.{datum_of};
 ghost use Rattle.gql_ast.specs.Operators.{fitted, divided, remaining, counted};
-ghost use Rattle.gql_eval.specs.Gives.{Gives};
+ghost use Rattle.gql_eval.specs.Gives.{GivesExactly};
 
-use crate::error::EvalError;
 use gql_ast::DataFault;
 use gql_values3::Value;
 
-pub fn add(a: i64, b: i64) -> Result<Value, EvalError>
-    ensures { Gives datum_of result (fitted (a +ℤ b)) }
+pub fn add(a: i64, b: i64) -> Result<Value, DataFault>
+    ensures { GivesExactly datum_of result (fitted (a +ℤ b)) }
 {
     match a.checked_add(b) {
         Some(number) => Ok(Value::Int(number)),
-        None => Err(EvalError::Fault(DataFault::Overflow)),
+        None => Err(DataFault::Overflow),
     }
 }
 
-pub fn subtract(a: i64, b: i64) -> Result<Value, EvalError>
-    ensures { Gives datum_of result (fitted (a -ℤ b)) }
+pub fn subtract(a: i64, b: i64) -> Result<Value, DataFault>
+    ensures { GivesExactly datum_of result (fitted (a -ℤ b)) }
 {
     match a.checked_sub(b) {
         Some(number) => Ok(Value::Int(number)),
-        None => Err(EvalError::Fault(DataFault::Overflow)),
+        None => Err(DataFault::Overflow),
     }
 }
 
-pub fn multiply(a: i64, b: i64) -> Result<Value, EvalError>
-    ensures { Gives datum_of result (fitted (a *ℤ b)) }
+pub fn multiply(a: i64, b: i64) -> Result<Value, DataFault>
+    ensures { GivesExactly datum_of result (fitted (a *ℤ b)) }
 {
     match a.checked_mul(b) {
         Some(number) => Ok(Value::Int(number)),
-        None => Err(EvalError::Fault(DataFault::Overflow)),
+        None => Err(DataFault::Overflow),
     }
 }
 
 /// The quotient, cut towards zero.
-pub fn divide(a: i64, b: i64) -> Result<Value, EvalError>
-    ensures { Gives datum_of result (divided a b) }
+pub fn divide(a: i64, b: i64) -> Result<Value, DataFault>
+    ensures { GivesExactly datum_of result (divided a b) }
 {
     if b == 0 {
-        return Err(EvalError::Fault(DataFault::DivideByZero));
+        return Err(DataFault::DivideByZero);
     }
     match a.checked_div(b) {
         Some(number) => Ok(Value::Int(number)),
-        None => Err(EvalError::Fault(DataFault::Overflow)),
+        None => Err(DataFault::Overflow),
     }
 }
 
 /// What the quotient leaves, with the sign of `a`.
-pub fn remainder(a: i64, b: i64) -> Result<Value, EvalError>
-    ensures { Gives datum_of result (remaining a b) }
+pub fn remainder(a: i64, b: i64) -> Result<Value, DataFault>
+    ensures { GivesExactly datum_of result (remaining a b) }
 {
     if b == 0 {
-        return Err(EvalError::Fault(DataFault::DivideByZero));
+        return Err(DataFault::DivideByZero);
     }
     // The least integer has no quotient by -1 in 64 bits, and yet a remainder.
     if b == -1 {
@@ -64,11 +63,11 @@ pub fn remainder(a: i64, b: i64) -> Result<Value, EvalError>
 }
 
 /// A count as a value.
-pub fn count_value(count: usize) -> Result<Value, EvalError>
-    ensures { Gives datum_of result (counted count) }
+pub fn count_value(count: usize) -> Result<Value, DataFault>
+    ensures { GivesExactly datum_of result (counted count) }
 {
     match i64::try_from(count) {
         Ok(number) => Ok(Value::Int(number)),
-        Err(_) => Err(EvalError::Fault(DataFault::Overflow)),
+        Err(_) => Err(DataFault::Overflow),
     }
 }

@@ -8,7 +8,7 @@ ghost use Rattle.gql_values3.specs.Meaning.{datum_of};
 ghost use Rattle.gql_values3.specs.ValueOrder.{datum_cmp};
 ghost use Rattle.gql_ast.specs.Aggregates.{distinct};
 ghost use Rattle.gql_eval.specs.declared.ranked.Ranked.{Ranked};
-ghost use Rattle.gql_eval.specs.Ranked.{ranked_datum};
+ghost use Rattle.gql_eval.specs.Machinery.Ranked.{ranked_datum};
 
 use crate::ranked::Ranked;
 use gql_values3::{OutOfMemory, Value};

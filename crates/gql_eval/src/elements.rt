@@ -7,20 +7,19 @@ ghost use Rattle.gql_ast.specs.LabelMeaning.{label_of};
 ghost use Rattle.gql_ast.specs.ElementTests.{is_there, undeleted, element_in, property_value, labeled_value, is_directed, directed_value, is_end, end_value};
 ghost use Rattle.gql_values3.specs.Datum.{or_null};
 ghost use Rattle.gql_ast.specs.Evaluation.{quality_value};
-ghost use Rattle.gql_eval.specs.Gives.{Gives};
-ghost use Rattle.gql_eval.specs.Held.{held_datum};
-ghost use Rattle.gql_eval.specs.Next.{next};
+ghost use Rattle.gql_eval.specs.Gives.{GivesExactly};
+ghost use Rattle.gql_eval.specs.CowValue.{cow_datum};
+ghost use Rattle.gql_eval.specs.Machinery.Next.{next};
 
-use crate::error::EvalError;
-use crate::held::Held;
+use crate::cow::CowValue;
 use crate::labels::satisfies;
 use crate::truths::{names_truth, truth_of_value};
 use gql_ast::{DataFault, EdgeEnd, LabelExpr, Quality};
 use gql_values3::{Elem, Ends, NodeId, Text, Value, View};
 
 /// The element, if it is in the graph.
-fn alive<V: View>(view: &V, elem: Elem) -> Result<Elem, EvalError>
-    ensures { Gives (λ e. e) result (undeleted (V.graph view.now) elem) }
+fn alive<V: View>(view: &V, elem: Elem) -> Result<Elem, DataFault>
+    ensures { GivesExactly (λ e. e) result (undeleted (V.graph view.now) elem) }
 {
     let there = match elem {
         Elem::Node(node) => view.has_node(node),
@@ -29,31 +28,35 @@ fn alive<V: View>(view: &V, elem: Elem) -> Result<Elem, EvalError>
     if there {
         Ok(elem)
     } else {
-        Err(EvalError::Fault(DataFault::Deleted))
+        Err(DataFault::Deleted)
     }
 }
 
 /// The element that a value is; None is NULL.
-fn element<V: View>(view: &V, value: &Value) -> Result<Option<Elem>, EvalError>
-    ensures { Gives (λ e. e) result (element_in (V.graph view.now) (datum_of value.now)) }
+pub fn element_in<V: View>(view: &V, value: &Value) -> Result<Option<Elem>, DataFault>
+    ensures { GivesExactly (λ e. e) result (element_in (V.graph view.now) (datum_of value.now)) }
 {
     match value {
         Value::Null => Ok(None),
         Value::Node(node) => Ok(Some(alive(view, Elem::Node(*node))?)),
         Value::Edge(edge) => Ok(Some(alive(view, Elem::Edge(*edge))?)),
-        _ => Err(EvalError::Fault(DataFault::WrongKind)),
+        _ => Err(DataFault::WrongKind),
     }
 }
 
 /// `x.p`: a property that isn't there is NULL.
-pub fn property<'a, V: View>(view: &'a V, value: &Value, name: &Text) -> Result<Held<'a>, EvalError>
-    ensures { Gives held_datum result (property_value (V.graph view.now) (datum_of value.now) name.now) }
+pub fn property<'a, V: View>(
+    view: &'a V,
+    value: &Value,
+    name: &Text,
+) -> Result<CowValue<'a>, DataFault>
+    ensures { GivesExactly cow_datum result (property_value (V.graph view.now) (datum_of value.now) name.now) }
 {
     match value {
-        Value::Null => Ok(Held::Own(Value::Null)),
+        Value::Null => Ok(CowValue::Owned(Value::Null)),
         Value::Node(node) => property_of_element(view, Elem::Node(*node), name),
         Value::Edge(edge) => property_of_element(view, Elem::Edge(*edge), name),
-        _ => Err(EvalError::Fault(DataFault::WrongKind)),
+        _ => Err(DataFault::WrongKind),
     }
 }
 
@@ -63,15 +66,15 @@ fn property_of_element<'a, V: View>(
     view: &'a V,
     elem: Elem,
     name: &Text,
-) -> Result<Held<'a>, EvalError>
-    ensures { Gives held_datum result (next (undeleted (V.graph view.now) elem) (λ e. Ok (or_null (property_of (V.graph view.now) e name.now)))) }
+) -> Result<CowValue<'a>, DataFault>
+    ensures { GivesExactly cow_datum result (next (undeleted (V.graph view.now) elem) (λ e. Ok (or_null (property_of (V.graph view.now) e name.now)))) }
 {
     // An element with a property is there, so most are searched once.
     if let Some(found) = view.property(elem, name.as_str()) {
-        return Ok(Held::Lent(found));
+        return Ok(CowValue::Borrowed(found));
     }
     alive(view, elem)?;
-    Ok(Held::Own(Value::Null))
+    Ok(CowValue::Owned(Value::Null))
 }
 
 /// IS LABELED; None is NULL.
@@ -79,27 +82,27 @@ pub fn labeled<V: View>(
     view: &V,
     value: &Value,
     labels: &LabelExpr,
-) -> Result<Option<bool>, EvalError>
-    ensures { Gives (λ b. b) result (labeled_value (V.graph view.now) (datum_of value.now) (label_of labels.now)) }
+) -> Result<Option<bool>, DataFault>
+    ensures { GivesExactly (λ b. b) result (labeled_value (V.graph view.now) (datum_of value.now) (label_of labels.now)) }
 {
-    match element(view, value)? {
+    match element_in(view, value)? {
         None => Ok(None),
         Some(elem) => Ok(Some(satisfies(view, elem, labels))),
     }
 }
 
 /// IS DIRECTED; None is NULL.
-fn directed<V: View>(view: &V, value: &Value) -> Result<Option<bool>, EvalError>
-    ensures { Gives (λ b. b) result (directed_value (V.graph view.now) (datum_of value.now)) }
+fn directed<V: View>(view: &V, value: &Value) -> Result<Option<bool>, DataFault>
+    ensures { GivesExactly (λ b. b) result (directed_value (V.graph view.now) (datum_of value.now)) }
 {
     match value {
         Value::Null => Ok(None),
         Value::Edge(edge) => match view.ends(*edge) {
-            None => Err(EvalError::Fault(DataFault::Deleted)),
+            None => Err(DataFault::Deleted),
             Some(Ends::Directed { .. }) => Ok(Some(true)),
             Some(Ends::Undirected { .. }) => Ok(Some(false)),
         },
-        _ => Err(EvalError::Fault(DataFault::WrongKind)),
+        _ => Err(DataFault::WrongKind),
     }
 }
 
@@ -109,21 +112,21 @@ pub fn end<V: View>(
     which: EdgeEnd,
     value: &Value,
     edge: &Value,
-) -> Result<Option<bool>, EvalError>
-    ensures { Gives (λ b. b) result (end_value (V.graph view.now) which (datum_of value.now) (datum_of edge.now)) }
+) -> Result<Option<bool>, DataFault>
+    ensures { GivesExactly (λ b. b) result (end_value (V.graph view.now) which (datum_of value.now) (datum_of edge.now)) }
 {
     match (value, edge) {
         (Value::Null, _) | (_, Value::Null) => Ok(None),
         (Value::Node(node), Value::Edge(edge)) => {
             if !view.has_node(*node) {
-                return Err(EvalError::Fault(DataFault::Deleted));
+                return Err(DataFault::Deleted);
             }
             match view.ends(*edge) {
-                None => Err(EvalError::Fault(DataFault::Deleted)),
+                None => Err(DataFault::Deleted),
                 Some(ends) => Ok(Some(is_at(which, *node, ends))),
             }
         }
-        _ => Err(EvalError::Fault(DataFault::WrongKind)),
+        _ => Err(DataFault::WrongKind),
     }
 }
 
@@ -143,8 +146,8 @@ pub fn quality<V: View>(
     view: &V,
     quality: Quality,
     value: &Value,
-) -> Result<Option<bool>, EvalError>
-    ensures { Gives (λ b. b) result (quality_value (V.graph view.now) quality (datum_of value.now)) }
+) -> Result<Option<bool>, DataFault>
+    ensures { GivesExactly (λ b. b) result (quality_value (V.graph view.now) quality (datum_of value.now)) }
 {
     match quality {
         Quality::Null => Ok(Some(value.is_null())),

@@ -1,3 +1,5 @@
+//! Why an expression has no value: its fault, or want of memory.
+
 use gql_ast::DataFault;
 use gql_values3::OutOfMemory;
 
@@ -18,5 +20,16 @@ impl From<OutOfMemory> for EvalError {
 
     fn from(_error: OutOfMemory) -> EvalError {
         EvalError::OutOfMemory
+    }
+}
+
+impl From<DataFault> for EvalError {
+    ghost use Rattle.std.specs.Prelude.{◌≡◌};
+    ghost use Rattle.gql_eval.specs.declared.error.EvalError.TheVariants.{Fault as OfFault};
+
+    ghost from_gives = { λ fault e. e ≡ OfFault fault };
+
+    fn from(fault: DataFault) -> EvalError {
+        EvalError::Fault(fault)
     }
 }

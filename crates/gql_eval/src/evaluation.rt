@@ -1,3 +1,5 @@
+//! Evaluation: the recursion over an expression.
+
 ghost use Rattle.std.specs.Prelude.{◌≡◌, map, Ok};
 ghost use Rattle.gql_values3.specs.Meaning.{datum_of};
 ghost use Rattle.gql_ast.specs.Tree.{trees_of, links_of, listing, coalesce as coalesce_tree, sum as sum_tree, conjunction, disjunction, aggregate as aggregate_tree};
@@ -5,17 +7,17 @@ ghost use Rattle.gql_ast.specs.Meaning.{tree_of, link_of};
 ghost use Rattle.gql_ast.specs.Faults.{each};
 ghost use Rattle.gql_ast.specs.Scope.{with_item};
 ghost use Rattle.gql_ast.specs.Evaluation.{value_of, values_of};
-ghost use Rattle.gql_eval.specs.Held.{held_datum};
-ghost use Rattle.gql_eval.specs.ScopeMeaning.{scope_of};
+ghost use Rattle.gql_eval.specs.CowValue.{cow_datum};
+ghost use Rattle.gql_eval.specs.Machinery.ScopeMeaning.{scope_of};
 ghost use Rattle.gql_eval.specs.Gives.{Gives};
-ghost use Rattle.gql_eval.specs.Next.{next};
-ghost use Rattle.gql_eval.specs.Operations.{of_operand, of_operands};
+ghost use Rattle.gql_eval.specs.Machinery.Next.{next};
+ghost use Rattle.gql_eval.specs.Machinery.Operations.{of_operand, of_operands};
 
 use crate::aggregates::aggregate;
+use crate::cow::CowValue;
 use crate::error::EvalError;
 use crate::groups::{group_name, items_in};
-use crate::held::Held;
-use crate::leaves::{held_name, held_number, held_parameter, held_property};
+use crate::leaves::{cow_name, cow_number, cow_parameter, cow_property};
 use crate::making::list_value;
 use crate::operations::{binary_value, operation_value};
 use crate::operators::operate;
@@ -37,16 +39,16 @@ pub fn value_in<'a, V: View>(
     scope: &Scope<'a>,
     params: &'a Params,
     expr: &'a Expr,
-) -> Result<Held<'a>, EvalError>
-    ensures { Gives held_datum result (value_of (V.graph view.now) params.now (scope_of scope.now) (tree_of expr.now)) }
+) -> Result<CowValue<'a>, EvalError>
+    ensures { Gives cow_datum result (value_of (V.graph view.now) params.now (scope_of scope.now) (tree_of expr.now)) }
 {
     match expr {
-        Expr::Constant(value) => Ok(Held::Lent(value)),
-        Expr::Unknown | Expr::CountAll => Ok(Held::Own(Value::Null)),
-        Expr::Number(digits) => held_number(digits),
-        Expr::Parameter(name) => held_parameter(params, name),
-        Expr::Name(name) => held_name(alloc, scope, name),
-        Expr::Property(name, key) => held_property(alloc, view, scope, name, key),
+        Expr::Constant(value) => Ok(CowValue::Borrowed(value)),
+        Expr::Unknown | Expr::CountAll => Ok(CowValue::Owned(Value::Null)),
+        Expr::Number(digits) => cow_number(digits),
+        Expr::Parameter(name) => cow_parameter(params, name),
+        Expr::Name(name) => cow_name(alloc, scope, name),
+        Expr::Property(name, key) => cow_property(alloc, view, scope, name, key),
         Expr::Paren(part) => value_in(alloc, view, scope, params, part.expr()),
         Expr::List(parts) => listed(alloc, view, scope, params, parts.as_slice()),
         Expr::Aggregate(word, quantifier, part) => {
@@ -86,11 +88,11 @@ fn listed<'a, V: View>(
     scope: &Scope<'a>,
     params: &'a Params,
     parts: &'a [Expr],
-) -> Result<Held<'a>, EvalError>
-    ensures { Gives held_datum result (value_of (V.graph view.now) params.now (scope_of scope.now) (listing (trees_of (map tree_of parts.now)))) }
+) -> Result<CowValue<'a>, EvalError>
+    ensures { Gives cow_datum result (value_of (V.graph view.now) params.now (scope_of scope.now) (listing (trees_of (map tree_of parts.now)))) }
 {
     let items = values_in(alloc, view, scope, params, parts)?;
-    Ok(Held::Own(list_value(items)?))
+    Ok(CowValue::Owned(list_value(items)?))
 }
 
 /// What the expression makes of its operand.
@@ -104,11 +106,11 @@ fn operation<'a, V: View>(
     params: &'a Params,
     expr: &'a Expr,
     part: &'a Expr,
-) -> Result<Held<'a>, EvalError>
-    ensures { Gives held_datum result (next (value_of (V.graph view.now) params.now (scope_of scope.now) (tree_of part.now)) (of_operand (V.graph view.now) (scope_of scope.now) (tree_of expr.now))) }
+) -> Result<CowValue<'a>, EvalError>
+    ensures { Gives cow_datum result (next (value_of (V.graph view.now) params.now (scope_of scope.now) (tree_of part.now)) (of_operand (V.graph view.now) (scope_of scope.now) (tree_of expr.now))) }
 {
     let value = value_in(alloc, view, scope, params, part)?;
-    Ok(Held::Own(operation_value(alloc, view, scope, expr, value.value())?))
+    Ok(CowValue::Owned(operation_value(alloc, view, scope, expr, value.value())?))
 }
 
 /// What the expression makes of its two operands.
@@ -123,12 +125,12 @@ fn binary<'a, V: View>(
     expr: &'a Expr,
     a: &'a Expr,
     b: &'a Expr,
-) -> Result<Held<'a>, EvalError>
-    ensures { let value = value_of (V.graph view.now) params.now (scope_of scope.now) in Gives held_datum result (next (value (tree_of a.now)) (λ x. next (value (tree_of b.now)) (of_operands (tree_of expr.now) x))) }
+) -> Result<CowValue<'a>, EvalError>
+    ensures { let value = value_of (V.graph view.now) params.now (scope_of scope.now) in Gives cow_datum result (next (value (tree_of a.now)) (λ x. next (value (tree_of b.now)) (of_operands (tree_of expr.now) x))) }
 {
     let a = value_in(alloc, view, scope, params, a)?;
     let b = value_in(alloc, view, scope, params, b)?;
-    Ok(Held::Own(binary_value(expr, a.value(), b.value())?))
+    Ok(CowValue::Owned(binary_value(expr, a.value(), b.value())?))
 }
 
 /// The values of a list's items.
@@ -164,8 +166,8 @@ fn coalesce<'a, V: View>(
     params: &'a Params,
     first: &'a Expr,
     rest: &'a [Expr],
-) -> Result<Held<'a>, EvalError>
-    ensures { Gives held_datum result (value_of (V.graph view.now) params.now (scope_of scope.now) (coalesce_tree (tree_of first.now) (trees_of (map tree_of rest.now)))) }
+) -> Result<CowValue<'a>, EvalError>
+    ensures { Gives cow_datum result (value_of (V.graph view.now) params.now (scope_of scope.now) (coalesce_tree (tree_of first.now) (trees_of (map tree_of rest.now)))) }
 {
     let value = value_in(alloc, view, scope, params, first)?;
     if !value.value().is_null() {
@@ -178,7 +180,7 @@ fn coalesce<'a, V: View>(
             return Ok(value);
         }
     }
-    Ok(Held::Own(Value::Null))
+    Ok(CowValue::Owned(Value::Null))
 }
 
 /// A sum or a product, from the left.
@@ -192,15 +194,15 @@ fn chain<'a, V: View>(
     params: &'a Params,
     first: &'a Expr,
     steps: &'a [Step],
-) -> Result<Held<'a>, EvalError>
-    ensures { Gives held_datum result (value_of (V.graph view.now) params.now (scope_of scope.now) (sum_tree (tree_of first.now) (links_of (map link_of steps.now)))) }
+) -> Result<CowValue<'a>, EvalError>
+    ensures { Gives cow_datum result (value_of (V.graph view.now) params.now (scope_of scope.now) (sum_tree (tree_of first.now) (links_of (map link_of steps.now)))) }
 {
     let mut so_far = value_in(alloc, view, scope, params, first)?;
     let mut is_joined = false;
     for i in 0..steps.len() {
         let step = &steps[i];
         let side = value_in(alloc, view, scope, params, &step.operand)?;
-        so_far = Held::Own(operate(alloc, step.operator, so_far, is_joined, side.value())?);
+        so_far = CowValue::Owned(operate(alloc, step.operator, so_far, is_joined, side.value())?);
         is_joined = step.operator == Operator::Concatenate;
     }
     Ok(so_far)
@@ -217,20 +219,20 @@ fn all<'a, V: View>(
     params: &'a Params,
     first: &'a Expr,
     steps: &'a [Step],
-) -> Result<Held<'a>, EvalError>
-    ensures { Gives held_datum result (value_of (V.graph view.now) params.now (scope_of scope.now) (conjunction (tree_of first.now) (links_of (map link_of steps.now)))) }
+) -> Result<CowValue<'a>, EvalError>
+    ensures { Gives cow_datum result (value_of (V.graph view.now) params.now (scope_of scope.now) (conjunction (tree_of first.now) (links_of (map link_of steps.now)))) }
 {
     let value = value_in(alloc, view, scope, params, first)?;
     let mut truth = truth_of_value(value.value())?;
     for i in 0..steps.len() {
         if let Truth::False = truth {
-            return Ok(Held::Own(Value::Bool(false)));
+            return Ok(CowValue::Owned(Value::Bool(false)));
         }
         let step = &steps[i];
         let side = value_in(alloc, view, scope, params, &step.operand)?;
         truth = and3(truth, truth_of_value(side.value())?);
     }
-    Ok(Held::Own(truth_value(truth)))
+    Ok(CowValue::Owned(truth_value(truth)))
 }
 
 /// OR and XOR. A side after OR is skipped while the sides before it are True.
@@ -244,8 +246,8 @@ fn any<'a, V: View>(
     params: &'a Params,
     first: &'a Expr,
     steps: &'a [Step],
-) -> Result<Held<'a>, EvalError>
-    ensures { Gives held_datum result (value_of (V.graph view.now) params.now (scope_of scope.now) (disjunction (tree_of first.now) (links_of (map link_of steps.now)))) }
+) -> Result<CowValue<'a>, EvalError>
+    ensures { Gives cow_datum result (value_of (V.graph view.now) params.now (scope_of scope.now) (disjunction (tree_of first.now) (links_of (map link_of steps.now)))) }
 {
     let value = value_in(alloc, view, scope, params, first)?;
     let mut truth = truth_of_value(value.value())?;
@@ -257,7 +259,7 @@ fn any<'a, V: View>(
         let side = value_in(alloc, view, scope, params, &step.operand)?;
         truth = join_truths(step.operator, truth, truth_of_value(side.value())?);
     }
-    Ok(Held::Own(truth_value(truth)))
+    Ok(CowValue::Owned(truth_value(truth)))
 }
 
 /// An aggregate over the group that its argument names first. There is none over rows within a row.
@@ -272,16 +274,16 @@ fn over_group<'a, V: View>(
     word: Aggregate,
     quantifier: SetQuantifier,
     part: &'a Expr,
-) -> Result<Held<'a>, EvalError>
-    ensures { Gives held_datum result (value_of (V.graph view.now) params.now (scope_of scope.now) (aggregate_tree word quantifier (tree_of part.now))) }
+) -> Result<CowValue<'a>, EvalError>
+    ensures { Gives cow_datum result (value_of (V.graph view.now) params.now (scope_of scope.now) (aggregate_tree word quantifier (tree_of part.now))) }
 {
     let Some(name) = group_name(scope, part) else {
-        return Ok(Held::Own(Value::Null));
+        return Ok(CowValue::Owned(Value::Null));
     };
     let group = look_up(alloc, scope, name)?;
     let items = items_in(group.value());
     let values = over_items(alloc, view, scope, params, name, items, part)?;
-    Ok(Held::Own(aggregate(alloc, word, quantifier, values.as_slice())?))
+    Ok(CowValue::Owned(aggregate(alloc, word, quantifier, values.as_slice())?))
 }
 
 /// The values of an expression with the name standing for each of the items in turn.

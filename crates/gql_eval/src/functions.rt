@@ -1,3 +1,5 @@
+//! Functions of one value.
+
 ghost use Rattle.std.specs.Prelude.{◌≡◌, ◌∷◌, ◌++◌, map, length, IfOk, OnOk};
 ghost use Rattle.std.specs.List.{flat_map};
 ghost use Rattle.std.specs.Str.{chars};
@@ -5,7 +7,7 @@ ghost use Rattle.gql_values3.specs.Datum.{node, integer};
 ghost use Rattle.gql_values3.specs.Meaning.{datum_of};
 ghost use Rattle.gql_ast.specs.Operators.{applied, step_elements};
 ghost use Rattle.gql_ast.specs.declared.words.Function.TheVariants.{Abs as AbsWord};
-ghost use Rattle.gql_eval.specs.Gives.{Gives};
+ghost use Rattle.gql_eval.specs.Gives.{Gives, GivesExactly};
 
 use crate::arithmetic::{count_value, subtract};
 use crate::error::EvalError;
@@ -20,10 +22,10 @@ pub fn apply(alloc: Global, function: Function, value: &Value) -> Result<Value, 
 {
     match (function, value) {
         (_, Value::Null) => Ok(Value::Null),
-        (Function::Abs, Value::Int(number)) => absolute(*number),
-        (Function::CharLength, Value::Text(text)) => count_value(char_count(text.as_str())),
-        (Function::Cardinality, Value::List(items)) => count_value(items.len()),
-        (Function::PathLength, Value::Path(path)) => count_value(path.steps().len()),
+        (Function::Abs, Value::Int(number)) => Ok(absolute(*number)?),
+        (Function::CharLength, Value::Text(text)) => Ok(count_value(char_count(text.as_str()))?),
+        (Function::Cardinality, Value::List(items)) => Ok(count_value(items.len())?),
+        (Function::PathLength, Value::Path(path)) => Ok(count_value(path.steps().len())?),
         (Function::Elements, Value::Path(path)) => Ok(Value::List(elements(alloc, path)?)),
         _ => Err(EvalError::Fault(DataFault::WrongKind)),
     }
@@ -36,8 +38,8 @@ fn char_count(text: &str) -> usize
     text.chars().count()
 }
 
-fn absolute(number: i64) -> Result<Value, EvalError>
-    ensures { Gives datum_of result (applied AbsWord (integer number)) }
+fn absolute(number: i64) -> Result<Value, DataFault>
+    ensures { GivesExactly datum_of result (applied AbsWord (integer number)) }
 {
     if number < 0 {
         subtract(0, number)

@@ -7,7 +7,7 @@ ghost use Rattle.gql_ast.specs.Meaning.{tree_of, link_of};
 ghost use Rattle.gql_ast.specs.Scope.{group_of, is_group_name, names_in_trees, names_in_links};
 ghost use Rattle.gql_ast.specs.Evaluation.{group_items};
 ghost use Rattle.gql_values3.specs.Meaning.{datum_of};
-ghost use Rattle.gql_eval.specs.ScopeMeaning.{scope_of};
+ghost use Rattle.gql_eval.specs.Machinery.ScopeMeaning.{scope_of};
 
 use crate::scope::{Scope, names_group};
 use gql_ast::{Expr, Step};

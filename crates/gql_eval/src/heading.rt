@@ -1,5 +1,7 @@
+//! The columns of a table, indexed by their names.
+
 ghost use Rattle.std.specs.Prelude.{◌≡◌, IfOk};
-ghost use Rattle.gql_eval.specs.Places.{place_among, ArePlaces};
+ghost use Rattle.gql_eval.specs.Machinery.Places.{place_among, ArePlaces};
 
 use gql_values3::{ColumnKind, Columns, OutOfMemory, Text};
 use std::alloc::Global;
@@ -17,7 +19,7 @@ pub struct Heading {
 impl Model for Heading {
     ghost use Rattle.std.specs.Prelude.{List, ℕ};
     ghost use Rattle.gql_values3.specs.declared.table.ColumnKind.{ColumnKind};
-    ghost use Rattle.gql_eval.specs.Places.{ArePlaces};
+    ghost use Rattle.gql_eval.specs.Machinery.Places.{ArePlaces};
 
     ghost Value = { List (List ℕ × ColumnKind) };
 

@@ -1,3 +1,5 @@
+//! `||`, which joins two strings or two lists.
+
 ghost use Rattle.std.specs.Prelude.{◌≡◌, ◌++◌, map, nat_le, true, IfOk};
 ghost use Rattle.gql_values3.specs.Meaning.{datum_of};
 ghost use Rattle.gql_values3.specs.Nesting.{depth, depth_all};

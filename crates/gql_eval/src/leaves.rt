@@ -1,3 +1,5 @@
+//! Expressions without parts: numbers, parameters, names and properties.
+
 ghost use Rattle.std.specs.Prelude.{◌≡◌, pos, Ok};
 ghost use Rattle.std.specs.Str.{all_ascii_digits};
 ghost use Rattle.gql_values3.specs.Datum.{integer};
@@ -7,23 +9,23 @@ ghost use Rattle.gql_ast.specs.Scope.{datum_of_name};
 ghost use Rattle.gql_ast.specs.ElementTests.{property_value};
 ghost use Rattle.gql_ast.specs.Evaluation.{parameter_value};
 ghost use Rattle.gql_eval.specs.Gives.{Gives};
-ghost use Rattle.gql_eval.specs.Held.{held_datum};
-ghost use Rattle.gql_eval.specs.ScopeMeaning.{scope_of};
+ghost use Rattle.gql_eval.specs.CowValue.{cow_datum};
+ghost use Rattle.gql_eval.specs.Machinery.ScopeMeaning.{scope_of};
 
+use crate::cow::CowValue;
 use crate::elements::property;
 use crate::error::EvalError;
-use crate::held::Held;
 use crate::scope::{Scope, look_up};
 use gql_values3::{Params, Text, Value, View, int_of};
 use std::alloc::Global;
 
 /// The value of a parameter; one that isn't set is NULL.
-pub fn parameter<'a>(params: &'a Params, name: &Text) -> Held<'a>
-    ensures { held_datum result ≡ parameter_value params.now name.now }
+pub fn parameter<'a>(params: &'a Params, name: &Text) -> CowValue<'a>
+    ensures { cow_datum result ≡ parameter_value params.now name.now }
 {
     match params.get(name.as_str()) {
-        Some(value) => Held::Lent(value),
-        None => Held::Own(Value::Null),
+        Some(value) => CowValue::Borrowed(value),
+        None => CowValue::Owned(Value::Null),
     }
 }
 
@@ -56,39 +58,43 @@ fn are_digits(bytes: &[u8]) -> bool
 
 /// The value of a number.
 #[inline(never)]
-pub fn held_number<'a>(digits: &Text) -> Result<Held<'a>, EvalError>
-    ensures { Gives held_datum result (Ok (integer (pos (value_of_digits digits.now)))) }
+pub fn cow_number<'a>(digits: &Text) -> Result<CowValue<'a>, EvalError>
+    ensures { Gives cow_datum result (Ok (integer (pos (value_of_digits digits.now)))) }
 {
-    Ok(Held::Own(number_value(digits)?))
+    Ok(CowValue::Owned(number_value(digits)?))
 }
 
 /// The value of a parameter.
 #[inline(never)]
-pub fn held_parameter<'a>(params: &'a Params, name: &Text) -> Result<Held<'a>, EvalError>
-    ensures { Gives held_datum result (Ok (parameter_value params.now name.now)) }
+pub fn cow_parameter<'a>(params: &'a Params, name: &Text) -> Result<CowValue<'a>, EvalError>
+    ensures { Gives cow_datum result (Ok (parameter_value params.now name.now)) }
 {
     Ok(parameter(params, name))
 }
 
 /// What a name stands for.
 #[inline(never)]
-pub fn held_name<'a>(alloc: Global, scope: &Scope<'a>, name: &Text) -> Result<Held<'a>, EvalError>
-    ensures { Gives held_datum result (Ok (datum_of_name (scope_of scope.now) name.now)) }
+pub fn cow_name<'a>(
+    alloc: Global,
+    scope: &Scope<'a>,
+    name: &Text,
+) -> Result<CowValue<'a>, EvalError>
+    ensures { Gives cow_datum result (Ok (datum_of_name (scope_of scope.now) name.now)) }
 {
     Ok(look_up(alloc, scope, name)?)
 }
 
 /// A property of what a name stands for.
 #[inline(never)]
-pub fn held_property<'a, V: View>(
+pub fn cow_property<'a, V: View>(
     alloc: Global,
     view: &'a V,
     scope: &Scope<'a>,
     name: &Text,
     key: &Text,
-) -> Result<Held<'a>, EvalError>
-    ensures { Gives held_datum result (property_value (V.graph view.now) (datum_of_name (scope_of scope.now) name.now) key.now) }
+) -> Result<CowValue<'a>, EvalError>
+    ensures { Gives cow_datum result (property_value (V.graph view.now) (datum_of_name (scope_of scope.now) name.now) key.now) }
 {
     let element = look_up(alloc, scope, name)?;
-    property(view, element.value(), key)
+    Ok(property(view, element.value(), key)?)
 }

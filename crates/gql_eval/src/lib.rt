@@ -4,34 +4,40 @@
 //! value, or its first fault. It stands on the trees of `gql_ast` and on the values of `gql_values3`.
 #![tactic(auto)]
 
-pub mod aggregates;
-pub mod arithmetic;
-pub mod distinct;
-pub mod elements;
-pub mod error;
-pub mod evaluation;
-#[cfg(test)]
-mod examples;
-pub mod functions;
-pub mod groups;
-pub mod heading;
-pub mod held;
-pub mod joining;
-pub mod labels;
-pub mod leaves;
-pub mod making;
-pub mod operations;
-pub mod operators;
-pub mod pattern;
-pub mod predicates;
-pub mod ranked;
-pub mod rows;
-pub mod scope;
-pub mod truths;
+mod aggregates;
+mod arithmetic;
+mod cow;
+mod distinct;
+mod elements;
+mod error;
+mod evaluation;
+mod functions;
+mod groups;
+mod heading;
+mod joining;
+mod labels;
+mod leaves;
+mod making;
+mod operations;
+mod operators;
+mod pattern;
+mod predicates;
+mod ranked;
+mod rows;
+mod scope;
+mod truths;
 
-pub use aggregates::{aggregate, aggregate_of};
+pub use aggregates::{aggregate_of, extremes_of_values};
+pub use arithmetic::count_value;
+pub use cow::CowValue;
+pub use elements::element_in;
 pub use error::EvalError;
+pub use evaluation::value_in;
+pub use groups::group_name;
 pub use heading::Heading;
-pub use held::Held;
+pub use labels::satisfies;
+pub use leaves::number_value;
 pub use pattern::holds_in_pattern;
-pub use rows::{held_value, value, value_under};
+pub use rows::{value, value_under};
+pub use scope::{Header, Scope, look_up};
+pub use truths::truth_of_value;

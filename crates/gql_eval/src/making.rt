@@ -5,9 +5,8 @@ ghost use Rattle.gql_values3.specs.Datum.{data_of};
 ghost use Rattle.gql_values3.specs.Nesting.{depth, depth_all};
 ghost use Rattle.gql_values3.specs.Meaning.{datum_of};
 ghost use Rattle.gql_ast.specs.Operators.{made_list};
-ghost use Rattle.gql_eval.specs.Gives.{Gives};
+ghost use Rattle.gql_eval.specs.Gives.{GivesExactly};
 
-use crate::error::EvalError;
 use gql_ast::DataFault;
 use gql_values3::{List, Value};
 
@@ -21,14 +20,14 @@ pub const MOST_ITEMS: usize = 1_048_576;
 pub const MOST_DEPTH: u32 = 64;
 
 /// The list as a value, unless it is too long, or else nested too deep.
-pub fn list_value(items: List) -> Result<Value, EvalError>
-    ensures { Gives datum_of result (made_list items) }
+pub fn list_value(items: List) -> Result<Value, DataFault>
+    ensures { GivesExactly datum_of result (made_list items) }
 {
     if items.len() > MOST_ITEMS {
-        return Err(EvalError::Fault(DataFault::TooLarge));
+        return Err(DataFault::TooLarge);
     }
     if !are_within(items.as_slice(), MOST_DEPTH - 1) {
-        return Err(EvalError::Fault(DataFault::TooDeep));
+        return Err(DataFault::TooDeep);
     }
     Ok(Value::List(items))
 }

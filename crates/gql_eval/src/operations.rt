@@ -2,9 +2,9 @@
 
 ghost use Rattle.gql_values3.specs.Meaning.{datum_of};
 ghost use Rattle.gql_ast.specs.Meaning.{tree_of};
-ghost use Rattle.gql_eval.specs.ScopeMeaning.{scope_of};
-ghost use Rattle.gql_eval.specs.Gives.{Gives};
-ghost use Rattle.gql_eval.specs.Operations.{of_operand, of_operands};
+ghost use Rattle.gql_eval.specs.Machinery.ScopeMeaning.{scope_of};
+ghost use Rattle.gql_eval.specs.Gives.{Gives, GivesExactly};
+ghost use Rattle.gql_eval.specs.Machinery.Operations.{of_operand, of_operands};
 
 use crate::error::EvalError;
 use crate::functions::apply;
@@ -28,26 +28,26 @@ pub fn operation_value<V: View>(
 {
     match expr {
         Expr::Call(function, _) => apply(alloc, *function, value),
-        Expr::Signed(sign, _) => signed(*sign, value),
-        Expr::Is(_, sense, quality) => is_quality(view, *sense, *quality, value),
-        Expr::IsLabeled(_, sense, labels) => is_labeled(view, *sense, labels, value),
+        Expr::Signed(sign, _) => Ok(signed(*sign, value)?),
+        Expr::Is(_, sense, quality) => Ok(is_quality(view, *sense, *quality, value)?),
+        Expr::IsLabeled(_, sense, labels) => Ok(is_labeled(view, *sense, labels, value)?),
         Expr::IsEnd(_, sense, end, edge) => {
             let edge = look_up(alloc, scope, edge)?;
-            is_end(view, *sense, *end, value, edge.value())
+            Ok(is_end(view, *sense, *end, value, edge.value())?)
         }
-        Expr::Not(_) => negate(value),
+        Expr::Not(_) => Ok(negate(value)?),
         _ => Err(EvalError::Fault(DataFault::WrongKind)),
     }
 }
 
 /// What the expression makes of its two operands' values. Any other expression is of a wrong kind.
 #[inline(never)]
-pub fn binary_value(expr: &Expr, a: &Value, b: &Value) -> Result<Value, EvalError>
-    ensures { Gives datum_of result (of_operands (tree_of expr.now) (datum_of a.now) (datum_of b.now)) }
+pub fn binary_value(expr: &Expr, a: &Value, b: &Value) -> Result<Value, DataFault>
+    ensures { GivesExactly datum_of result (of_operands (tree_of expr.now) (datum_of a.now) (datum_of b.now)) }
 {
     match expr {
         Expr::Mod(_, _) => modulo(a, b),
         Expr::Compare(comparison, _, _) => compare(*comparison, a, b),
-        _ => Err(EvalError::Fault(DataFault::WrongKind)),
+        _ => Err(DataFault::WrongKind),
     }
 }

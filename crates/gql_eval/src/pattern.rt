@@ -1,3 +1,5 @@
+//! The truth of a predicate inside a path pattern.
+
 ghost use Rattle.std.specs.Prelude.{◌≡◌, ◌++◌, IfOk};
 ghost use Rattle.gql_ast.specs.Meaning.{tree_of};
 ghost use Rattle.gql_ast.specs.Scope.{row_scope};
@@ -5,9 +7,8 @@ ghost use Rattle.gql_ast.specs.TruthValues.{truth_in};
 ghost use Rattle.gql_ast.specs.Evaluation.{value_of, pattern_truth};
 ghost use Rattle.gql_eval.specs.Bound.{bound_scope};
 ghost use Rattle.gql_eval.specs.Gives.{Gives};
-ghost use Rattle.gql_eval.specs.Next.{next};
-ghost use Rattle.gql_eval.specs.PatternTest.{is_true_truth};
-ghost use Rattle.gql_eval.specs.ScopeMeaning.{scope_of};
+ghost use Rattle.gql_eval.specs.Machinery.Next.{next};
+ghost use Rattle.gql_eval.specs.Machinery.ScopeMeaning.{scope_of};
 
 use crate::error::EvalError;
 use crate::evaluation::value_in;
@@ -17,19 +18,19 @@ use gql_ast::Expr;
 use gql_values3::{Bound, Columns, OutOfMemory, Params, Row, Truth, View};
 use std::alloc::Global;
 
-/// Whether a predicate inside a path pattern holds: its value over the columns and then the bound variables is True.
-/// Every fault is Unknown, which doesn't hold.
-#[tactic(auto, unfolding(crate::specs::ScopeMeaning::scope_of, crate::specs::ScopeMeaning::rest_of))]
+/// The truth of a predicate inside a path pattern: of its value over the columns of the row and then the bound
+/// variables. Every fault is Unknown.
+#[tactic(auto, unfolding(crate::specs::Machinery::ScopeMeaning::scope_of, crate::specs::Machinery::ScopeMeaning::rest_of))]
 pub fn holds_in_pattern<V: View>(
     alloc: Global,
     view: &V,
     columns: &Columns,
     row: &Row,
-    bound: &Bound,
     params: &Params,
+    bound: &Bound,
     expr: &Expr,
-) -> Result<bool, OutOfMemory>
-    ensures { IfOk result (λ holds. holds ≡ is_true_truth (pattern_truth (V.graph view.now) params.now (row_scope columns.now row.now ++ bound_scope bound.now) (tree_of expr.now))) }
+) -> Result<Truth, OutOfMemory>
+    ensures { IfOk result (λ truth. truth ≡ pattern_truth (V.graph view.now) params.now (row_scope columns.now row.now ++ bound_scope bound.now) (tree_of expr.now)) }
 {
     let scope = Scope {
         front: &[],
@@ -38,9 +39,8 @@ pub fn holds_in_pattern<V: View>(
         bound: bound.as_slice(),
     };
     match truth_in_scope(alloc, view, &scope, params, expr) {
-        Ok(Truth::True) => Ok(true),
-        Ok(Truth::Unknown | Truth::False) => Ok(false),
-        Err(EvalError::Fault(_)) => Ok(false),
+        Ok(truth) => Ok(truth),
+        Err(EvalError::Fault(_)) => Ok(Truth::Unknown),
         Err(EvalError::OutOfMemory) => Err(OutOfMemory),
     }
 }
@@ -56,5 +56,5 @@ fn truth_in_scope<V: View>(
     ensures { Gives (λ t. t) result (next (value_of (V.graph view.now) params.now (scope_of scope.now) (tree_of expr.now)) truth_in) }
 {
     let value = value_in(alloc, view, scope, params, expr)?;
-    truth_of_value(value.value())
+    Ok(truth_of_value(value.value())?)
 }

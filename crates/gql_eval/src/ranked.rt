@@ -5,7 +5,7 @@ ghost use Rattle.std.specs.Ordering.{on, eq_by_cmp, as_partial_cmp};
 ghost use Rattle.std.specs.Cmp.{on_equiv, on_total, partial_equiv_from_equiv, partial_order_from_total, eq_by_cmp_equiv};
 ghost use Rattle.gql_values3.specs.ValueOrder.{datum_cmp};
 ghost use Rattle.gql_values3.proofs.OrderLaws.{datum_cmp_total};
-ghost use Rattle.gql_eval.specs.Ranked.{ranked_datum};
+ghost use Rattle.gql_eval.specs.Machinery.Ranked.{ranked_datum};
 
 use gql_values3::{Value, total_cmp};
 use std::cmp::Ordering;

@@ -1,14 +1,16 @@
+//! The value of an expression over a row: the entry points.
+
 ghost use Rattle.gql_values3.specs.Meaning.{datum_of};
 ghost use Rattle.gql_ast.specs.Meaning.{tree_of};
 ghost use Rattle.gql_ast.specs.Scope.{row_scope};
 ghost use Rattle.gql_ast.specs.Evaluation.{value_of};
 ghost use Rattle.gql_eval.specs.Gives.{Gives};
-ghost use Rattle.gql_eval.specs.Held.{held_datum};
+ghost use Rattle.gql_eval.specs.CowValue.{cow_datum};
 
+use crate::cow::CowValue;
 use crate::error::EvalError;
 use crate::evaluation::value_in;
 use crate::heading::Heading;
-use crate::held::Held;
 use crate::scope::{Header, Scope};
 use gql_ast::Expr;
 use gql_values3::{Columns, Params, Row, Value, View};
@@ -26,21 +28,21 @@ pub fn value<V: View>(
 ) -> Result<Value, EvalError>
     ensures { Gives datum_of result (value_of (V.graph view.now) params.now (row_scope columns.now row.now) (tree_of expr.now)) }
 {
-    let held = held_value(alloc, view, columns, row, params, expr)?;
+    let held = cow_value(alloc, view, columns, row, params, expr)?;
     Ok(held.into_value(alloc)?)
 }
 
 /// The same, without a copy of a value that stands in the graph, the row, the parameters or the expression.
-#[tactic(auto, using(crate::proofs::ScopeLemmas::append_none), unfolding(crate::specs::ScopeMeaning::scope_of, crate::specs::ScopeMeaning::rest_of))]
-pub fn held_value<'a, V: View>(
+#[tactic(auto, using(crate::proofs::ScopeLemmas::append_none), unfolding(crate::specs::Machinery::ScopeMeaning::scope_of, crate::specs::Machinery::ScopeMeaning::rest_of))]
+pub fn cow_value<'a, V: View>(
     alloc: Global,
     view: &'a V,
     columns: &'a Columns,
     row: &'a Row,
     params: &'a Params,
     expr: &'a Expr,
-) -> Result<Held<'a>, EvalError>
-    ensures { Gives held_datum result (value_of (V.graph view.now) params.now (row_scope columns.now row.now) (tree_of expr.now)) }
+) -> Result<CowValue<'a>, EvalError>
+    ensures { Gives cow_datum result (value_of (V.graph view.now) params.now (row_scope columns.now row.now) (tree_of expr.now)) }
 {
     let scope = Scope {
         front: &[],
@@ -52,7 +54,7 @@ pub fn held_value<'a, V: View>(
 }
 
 /// The same under a heading: for many columns, since a name is then not searched among them in each row.
-#[tactic(auto, using(crate::proofs::ScopeLemmas::append_none), unfolding(crate::specs::ScopeMeaning::scope_of, crate::specs::ScopeMeaning::rest_of))]
+#[tactic(auto, using(crate::proofs::ScopeLemmas::append_none), unfolding(crate::specs::Machinery::ScopeMeaning::scope_of, crate::specs::Machinery::ScopeMeaning::rest_of))]
 pub fn value_under<'a, V: View>(
     alloc: Global,
     view: &'a V,
@@ -60,8 +62,8 @@ pub fn value_under<'a, V: View>(
     row: &'a Row,
     params: &'a Params,
     expr: &'a Expr,
-) -> Result<Held<'a>, EvalError>
-    ensures { Gives held_datum result (value_of (V.graph view.now) params.now (row_scope heading.now row.now) (tree_of expr.now)) }
+) -> Result<CowValue<'a>, EvalError>
+    ensures { Gives cow_datum result (value_of (V.graph view.now) params.now (row_scope heading.now row.now) (tree_of expr.now)) }
 {
     let scope = Scope {
         front: &[],

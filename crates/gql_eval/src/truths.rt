@@ -1,3 +1,5 @@
+//! Truths, and values as truths.
+
 ghost use Rattle.std.specs.Prelude.{◌≡◌, Ok, Err};
 ghost use Rattle.std.specs.Bool.{OnTrue, OnFalse};
 ghost use Rattle.gql_values3.specs.declared.truth.Truth.{Truth};
@@ -6,22 +8,21 @@ ghost use Rattle.gql_ast.specs.Faults.{Given};
 ghost use Rattle.gql_values3.specs.Meaning.{datum_of};
 ghost use Rattle.gql_ast.specs.TruthValues.{truth_in, datum_of_truth};
 ghost use Rattle.gql_ast.specs.Evaluation.{sensed, is_truth, or_then};
-ghost use Rattle.gql_eval.specs.JoinedTruth.{joined_truth};
-ghost use Rattle.gql_eval.specs.Gives.{Gives};
+ghost use Rattle.gql_eval.specs.Machinery.JoinedTruth.{joined_truth};
+ghost use Rattle.gql_eval.specs.Gives.{GivesExactly};
 
-use crate::error::EvalError;
 use gql_ast::{DataFault, Operator, Quality, Sense};
 use gql_values3::{Truth, Value, or3, xor3};
 
 /// The truth of a condition: a boolean or NULL.
-pub fn truth_of_value(value: &Value) -> Result<Truth, EvalError>
-    ensures { Gives (λ t. t) result (truth_in (datum_of value.now)) }
+pub fn truth_of_value(value: &Value) -> Result<Truth, DataFault>
+    ensures { GivesExactly (λ t. t) result (truth_in (datum_of value.now)) }
 {
     match value {
         Value::Null => Ok(Truth::Unknown),
         Value::Bool(true) => Ok(Truth::True),
         Value::Bool(false) => Ok(Truth::False),
-        _ => Err(EvalError::Fault(DataFault::WrongKind)),
+        _ => Err(DataFault::WrongKind),
     }
 }
 

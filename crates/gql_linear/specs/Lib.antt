@@ -1,5 +1,6 @@
 pub mod NodeMatch
 pub mod QueryRun
+pub mod Gives
 pub mod Runs
 pub mod Causes
-pub mod RowNode
+pub mod Machinery

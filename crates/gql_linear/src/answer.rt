@@ -1,3 +1,5 @@
+//! What a query is answered with, or why it has no answer.
+
 use gql_ast::Refusal;
 use gql_change::ChangeFault;
 use gql_eval::EvalError;

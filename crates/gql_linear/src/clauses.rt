@@ -2,10 +2,10 @@
 
 ghost use Rattle.std.specs.Prelude.{◌≡◌, [], ◌∷◌, false, IfOk};
 ghost use Rattle.std.specs.List.{list_any};
-ghost use Rattle.gql_eval.specs.Gives.{Gives};
+ghost use Rattle.gql_eval.specs.Gives.{Gives as GivesOrFault};
 ghost use Rattle.gql_ast.specs.LastClause.{is_change};
 ghost use Rattle.gql_linear.specs.QueryRun.{beginning, read_clause, behind_clause, behind_clauses, with_change};
-ghost use Rattle.gql_linear.specs.Runs.{Acts};
+ghost use Rattle.gql_linear.specs.Gives.{Gives};
 ghost use Rattle.gql_change.specs.Changing.{change_of};
 ghost use Rattle.gql_ast.specs.InsertColumns.{change_columns};
 
@@ -28,7 +28,7 @@ pub fn table_behind<V: View>(
     clauses: &[Clause],
 ) -> Result<(Columns, Rows), RunFault>
     requires { list_any is_change clauses.now ≡ false }
-    ensures { Acts (λ t. record { graph = V.graph view.now; columns = t.0; rows = t.1 }) result (behind_clauses params.now (beginning (V.graph view.now)) clauses.now) }
+    ensures { Gives (λ t. record { graph = V.graph view.now; columns = t.0; rows = t.1 }) result (behind_clauses params.now (beginning (V.graph view.now)) clauses.now) }
 {
     let mut table = (Columns::new(alloc), one_row(alloc)?);
     for i in 0..clauses.len() {
@@ -39,18 +39,18 @@ pub fn table_behind<V: View>(
 }
 
 /// The columns and rows behind all clauses of a query, or its refusal. The graph becomes the one behind them.
-pub fn acted_on<G: Edit>(
+pub fn run_clauses<G: Edit>(
     alloc: Global,
     graph: &mut G,
     params: &Params,
     clauses: &[Clause],
 ) -> Result<(Columns, Rows), RunFault>
-    ensures { Acts (λ t. record { graph = G.View.graph graph.new; columns = t.0; rows = t.1 }) result (behind_clauses params.now (beginning (G.View.graph graph.old)) clauses.now) }
+    ensures { Gives (λ t. record { graph = G.View.graph graph.new; columns = t.0; rows = t.1 }) result (behind_clauses params.now (beginning (G.View.graph graph.old)) clauses.now) }
 {
     let mut table = (Columns::new(alloc), one_row(alloc)?);
     for at in 0..clauses.len() {
         let clause = &clauses[at];
-        table = act(alloc, graph, params, table, clause)?;
+        table = run_clause(alloc, graph, params, table, clause)?;
     }
     Ok(table)
 }
@@ -65,14 +65,14 @@ fn one_row(alloc: Global) -> Result<Rows, OutOfMemory>
 }
 
 /// What is behind one clause. A clause that reads leaves the graph.
-fn act<G: Edit>(
+fn run_clause<G: Edit>(
     alloc: Global,
     graph: &mut G,
     params: &Params,
     table: (Columns, Rows),
     clause: &Clause,
 ) -> Result<(Columns, Rows), RunFault>
-    ensures { Acts (λ t. record { graph = G.View.graph graph.new; columns = t.0; rows = t.1 }) result (behind_clause params.now (record { graph = G.View.graph graph.old; columns = table.0; rows = table.1 }) clause.now) }
+    ensures { Gives (λ t. record { graph = G.View.graph graph.new; columns = t.0; rows = t.1 }) result (behind_clause params.now (record { graph = G.View.graph graph.old; columns = table.0; rows = table.1 }) clause.now) }
 {
     match clause {
         Clause::Change(clause) => change(alloc, graph, params, table, clause),
@@ -93,7 +93,7 @@ fn change<G: Edit>(
     table: (Columns, Rows),
     clause: &ChangeClause,
 ) -> Result<(Columns, Rows), RunFault>
-    ensures { Acts (λ t. record { graph = G.View.graph graph.new; columns = t.0; rows = t.1 }) result (with_change (change_columns table.0 clause.now) (change_of (G.View.graph graph.old) params.now table.0 table.1 clause.now)) }
+    ensures { Gives (λ t. record { graph = G.View.graph graph.new; columns = t.0; rows = t.1 }) result (with_change (change_columns table.0 clause.now) (change_of (G.View.graph graph.old) params.now table.0 table.1 clause.now)) }
 {
     let (columns, rows) = table;
     let planned = plan(alloc, &*graph, &columns, rows, params, clause)?;
@@ -115,7 +115,7 @@ fn table_after<V: View>(
     table: (Columns, Rows),
     clause: &Clause,
 ) -> Result<(Columns, Rows), EvalError>
-    ensures { Gives (λ t. (t.0, t.1)) result (read_clause params.now (V.graph view.now) (table.0, table.1) clause.now) }
+    ensures { GivesOrFault (λ t. (t.0, t.1)) result (read_clause params.now (V.graph view.now) (table.0, table.1) clause.now) }
 {
     let (columns, rows) = table;
     match clause {

@@ -5,19 +5,15 @@
 //! tables are those of `gql_table`, and those that change data those of `gql_change`.
 #![tactic(auto)]
 
-pub mod answer;
-pub mod bound_node;
-pub mod candidates;
-pub mod clauses;
-pub mod conditions;
-pub mod new_node;
-pub mod node_match;
-pub mod query;
-pub mod row_nodes;
-#[cfg(test)]
-mod test_queries;
-#[cfg(test)]
-mod tests;
+mod answer;
+mod bound_node;
+mod candidates;
+mod clauses;
+mod conditions;
+mod new_node;
+mod node_match;
+mod query;
+mod row_nodes;
 
 pub use answer::{Answer, RunFault};
-pub use query::{changes_data, read_query, run_query};
+pub use query::{changes_data, run_reading_query, run_query};

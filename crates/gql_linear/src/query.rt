@@ -1,10 +1,12 @@
+//! The entry points: a query over a graph that it may change, or over one that it reads.
+
 ghost use Rattle.std.specs.Prelude.{◌≡◌, false, map, IfOk};
 ghost use Rattle.gql_values3.specs.PropertyGraph.{PropertyGraph};
 ghost use Rattle.gql_linear.specs.QueryRun.{query_run, shown_table, answer_table, changes_data};
 ghost use Rattle.gql_linear.specs.Runs.{Runs};
 
 use crate::answer::{Answer, RunFault};
-use crate::clauses::{acted_on, table_behind};
+use crate::clauses::{run_clauses, table_behind};
 use gql_ast::{Query, ends_in_change, is_change};
 use gql_graph::Edit;
 use gql_values3::{Columns, Names, OutOfMemory, Params, Rows, Table, View};
@@ -23,12 +25,12 @@ pub fn run_query<G: Edit>(
 ) -> Result<Answer, RunFault>
     ensures { Runs query.now result (G.View.graph graph.new) (query_run (G.View.graph graph.old) params.now query.now) }
 {
-    let (columns, rows) = acted_on(alloc, graph, params, query.clauses.as_slice())?;
+    let (columns, rows) = run_clauses(alloc, graph, params, query.clauses.as_slice())?;
     Ok(answered(alloc, query, columns, rows)?)
 }
 
 /// The same for a query in which no clause changes data, over the graph of a view.
-pub fn read_query<V: View>(
+pub fn run_reading_query<V: View>(
     alloc: Global,
     view: &V,
     params: &Params,

@@ -21,8 +21,8 @@ use Rattle.gql_ast.specs.declared.clause.LetItem.{LetItem}
 use Rattle.gql_ast.specs.declared.page.Page.{Page}
 use Rattle.gql_ast.specs.declared.page.Page.TheVariants as page
 use Rattle.gql_ast.specs.ClauseColumns.{ColumnList, let_columns, counter_column, for_columns}
-use Rattle.gql_eval.specs.Next.{next}
-use Rattle.gql_table.specs.Tables.{RowList}
+use Rattle.gql_eval.specs.Machinery.Next.{next}
+use Rattle.gql_eval.specs.RowLists.{RowList}
 use Rattle.gql_table.specs.Let.{let_row, let_rows}
 use Rattle.gql_table.specs.Filter.{filter_row, filter_rows, kept_if}
 use Rattle.gql_table.specs.For.{for_row, for_rows, item_rows, rows_over, start_count}
@@ -30,7 +30,8 @@ use Rattle.gql_table.specs.Paging.{Sortable}
 use Rattle.gql_table.specs.Projection.{output_alone}
 use Rattle.gql_table.specs.Clauses.{page_rows}
 use Rattle.gql_table.proofs.FitSteps.{each_keeps, each_some_keeps, given_is, next_gives, paged_keeps}
-use Rattle.gql_table.proofs.FitValues.{Fits, items_fit, one_fits, plain_fits, row_append, two_fit, value_fits}
+use Rattle.gql_table.proofs.FitValues.{items_fit, plain_fits, two_fit, value_fits}
+use Rattle.gql_eval.proofs.RowFits.{Fits, one_fits, row_append}
 
 -- rows that sort keys see as they are
 pub alone_keep : (Q : List Datum → Type 0) (rows : RowList) → All Q rows → All (λ (o : Sortable). Q o.0) (map output_alone rows)

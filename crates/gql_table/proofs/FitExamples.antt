@@ -10,9 +10,10 @@ use Rattle.gql_ast.specs.declared.clause.Clause.TheVariants as clause
 use Rattle.gql_ast.specs.declared.projection.ReturnItems.TheVariants as items
 use Rattle.gql_ast.specs.declared.words.SetQuantifier.TheVariants as quantifier
 use Rattle.gql_ast.specs.ClauseColumns.{ColumnList}
-use Rattle.gql_table.specs.Tables.{RowList}
+use Rattle.gql_eval.specs.RowLists.{RowList}
 use Rattle.gql_table.specs.Clauses.{table_after}
-use Rattle.gql_table.specs.Fitting.{names_serve, rows_fit}
+use Rattle.gql_table.specs.Fitting.{names_serve}
+use Rattle.gql_eval.specs.RowLists.{rows_fit}
 
 -- a list of nodes, and NULL, in a column of nodes
 pub nodes_fit : rows_fit ((codes "x", kind.Nodes) ∷ []) ((list (data_of (node 1 ∷ node 2 ∷ [])) ∷ []) ∷ (null ∷ []) ∷ []) ≡ true

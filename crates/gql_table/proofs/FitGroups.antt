@@ -13,12 +13,13 @@ use Rattle.gql_ast.specs.Evaluation.{value_of}
 use Rattle.gql_ast.specs.Outputs.{kind_of, kind_of_name}
 use Rattle.gql_ast.specs.RowAggregates.{row_aggregates}
 use Rattle.gql_ast.specs.ClauseColumns.{ColumnList}
-use Rattle.gql_eval.specs.Next.{next}
-use Rattle.gql_table.specs.Tables.{RowList}
+use Rattle.gql_eval.specs.Machinery.Next.{next}
+use Rattle.gql_eval.specs.RowLists.{RowList}
 use Rattle.gql_table.specs.Distinct.{same_row}
 use Rattle.gql_table.specs.Grouping.{Note, group_keys, group_part, group_parts, group_row, group_with, grouped_rows, groups_of, item_value, item_values, key_in, note_of, note_row, notes_at}
 use Rattle.gql_table.proofs.FitSteps.{cons_gives, each_keeps, given_is, next_gives}
-use Rattle.gql_table.proofs.FitValues.{Fits, plain_fits, value_fits}
+use Rattle.gql_table.proofs.FitValues.{plain_fits, value_fits}
+use Rattle.gql_eval.proofs.RowFits.{Fits}
 
 -- what was noted of the first row
 abbrev lead : List Note → Note

@@ -12,11 +12,11 @@ use Rattle.gql_ast.specs.declared.clause.Clause.TheVariants as clause
 use Rattle.gql_ast.specs.ClauseColumns.{ColumnList}
 use Rattle.gql_eval.specs.Gives.{Gives}
 use Rattle.gql_eval.specs.declared.error.EvalError.{EvalError}
-use Rattle.gql_table.specs.Tables.{RowList}
+use Rattle.gql_eval.specs.RowLists.{RowList, row_fits, rows_fit}
 use Rattle.gql_table.specs.Clauses.{columns_after, rows_after, table_after}
-use Rattle.gql_table.specs.Fitting.{names_serve, row_fits, rows_fit}
+use Rattle.gql_table.specs.Fitting.{names_serve}
 use Rattle.gql_table.proofs.FitSteps.{given_is, next_gives}
-use Rattle.gql_table.proofs.FitValues.{Fits}
+use Rattle.gql_eval.proofs.RowFits.{Fits}
 use Rattle.gql_table.proofs.FitClauses.{filter_rows_fit, for_rows_fit, let_rows_fit, page_rows_fit}
 use Rattle.gql_table.proofs.FitReturns.{returned_rows_fit}
 

@@ -23,15 +23,17 @@ use Rattle.gql_ast.specs.declared.words.SetQuantifier.{SetQuantifier}
 use Rattle.gql_ast.specs.declared.words.SetQuantifier.TheVariants as quantifier
 use Rattle.gql_ast.specs.ClauseColumns.{ColumnList}
 use Rattle.gql_ast.specs.Projections.{is_key, is_grouped, output_columns, output_trees}
-use Rattle.gql_table.specs.Tables.{RowList}
+use Rattle.gql_eval.specs.RowLists.{RowList}
 use Rattle.gql_table.specs.Distinct.{distinct_rows}
 use Rattle.gql_table.specs.Grouping.{grouped_rows}
 use Rattle.gql_table.specs.Paging.{Sortable, paged}
-use Rattle.gql_table.specs.Projection.{all_alone, distinct_outputs, grouped_outputs, output_of, output_row, outputs, plain_outputs, returned_rows, row_outputs, sort_columns}
-use Rattle.gql_table.specs.Fitting.{column_kinds, is_all}
+use Rattle.gql_table.specs.Projection.{all_alone, distinct_outputs, grouped_outputs, output_of, output_row, outputs, plain_outputs, returned_rows, row_outputs, sort_key_columns}
+use Rattle.gql_table.specs.Fitting.{is_all}
+use Rattle.gql_eval.specs.RowLists.{column_kinds}
 use Rattle.gql_table.proofs.AggregationLemmas.{no_name_has_one}
 use Rattle.gql_table.proofs.FitSteps.{distinct_keeps, each_keeps, given_is, next_gives, paged_keeps}
-use Rattle.gql_table.proofs.FitValues.{Fits, values_fit}
+use Rattle.gql_table.proofs.FitValues.{values_fit}
+use Rattle.gql_eval.proofs.RowFits.{Fits}
 use Rattle.gql_table.proofs.FitClauses.{alone_keep}
 use Rattle.gql_table.proofs.FitGroups.{grouped_rows_fit}
 
@@ -137,6 +139,6 @@ module _ (g : PropertyGraph) (params : List (List ℕ × Datum)) (columns : Colu
 
     pub returned_rows_fit : (rows outs : RowList) → All (Fits columns) rows → returned_rows g params columns r rows ≡ Ok outs → All (Fits (output_columns columns r.items)) outs
     returned_rows_fit rows outs all p =
-        let made = next_gives (outputs g params columns r rows) (paged g params (sort_columns columns r) r.order r.skip r.limit) outs p in
-        paged_keeps g params (sort_columns columns r) (Fits (output_columns columns r.items)) r.order r.skip r.limit made.0 outs
+        let made = next_gives (outputs g params columns r rows) (paged g params (sort_key_columns columns r) r.order r.skip r.limit) outs p in
+        paged_keeps g params (sort_key_columns columns r) (Fits (output_columns columns r.items)) r.order r.skip r.limit made.0 outs
         (outputs_case (is_grouped columns r) refl rows made.0 all made.1) made.2

@@ -1,5 +1,6 @@
 -- What all items have, all have that come of them: by a step for each, by a sort, behind a cut and in DISTINCT.
 use Rattle.std.proofs.Common.{◌≡◌, ℕ, Bool, not, List, [], ◌∷◌, map, filter, All, Option, Some, None, Result, Ok, Err, refl, sym, subst}
+use Rattle.std.specs.List.{flat_map}
 use Rattle.std.specs.Ordering.{is_lt}
 use Rattle.std.proofs.lemmas.Bool.{cond_both}
 use Rattle.std.proofs.lemmas.List.Elements.{All-nil, All-cons, All-head, All-tail, All-same, All-append, All-map, All-take, All-drop, All-filter}
@@ -13,10 +14,11 @@ use Rattle.gql_ast.specs.declared.fault.DataFault.{DataFault}
 use Rattle.gql_ast.specs.declared.page.SortItem.{SortItem}
 use Rattle.gql_ast.specs.declared.page.RowCount.{RowCount}
 use Rattle.gql_ast.specs.ClauseColumns.{ColumnList}
-use Rattle.gql_eval.specs.Next.{next}
-use Rattle.gql_table.specs.Tables.{RowList, each_some, joined_lists}
+use Rattle.gql_eval.specs.Machinery.Next.{next}
+use Rattle.gql_eval.specs.RowLists.{RowList, each_some}
 use Rattle.gql_table.specs.Distinct.{same_row, distinct_rows}
-use Rattle.gql_table.specs.Sorting.{inserted, sorted, sorted_by_keys, keys_cmp}
+use Rattle.gql_eval.specs.StableSort.{inserted_in_order, stably_sorted}
+use Rattle.gql_table.specs.Sorting.{sorted_by_keys, keys_cmp}
 use Rattle.gql_table.specs.Paging.{Sortable, count_if, cut, keyed, no_more_than, ordered, paged, without_first}
 
 -- a step that gave b was given something
@@ -44,28 +46,28 @@ module _ {A B : Type 0} (f : A → Result B DataFault) (P : A → Type 0) (Q : B
       All-same Q ys (given.0 ∷ given.1) given.4
       (All-cons Q given.0 given.1 (step x given.0 (All-head P x xs all) given.2) (each_keeps xs given.1 (All-tail P x xs all) given.3))
 
-pub joined_keeps : {B : Type 0} (Q : B → Type 0) (yss : List (List B)) → All (All Q) yss → All Q (joined_lists yss)
+pub joined_keeps : {B : Type 0} (Q : B → Type 0) (yss : List (List B)) → All (All Q) yss → All Q (flat_map (λ zs. zs) yss)
 joined_keeps Q [] all = All-nil Q
-joined_keeps Q (ys ∷ yss) all = All-append Q ys (joined_lists yss) (All-head (All Q) ys yss all) (joined_keeps Q yss (All-tail (All Q) ys yss all))
+joined_keeps Q (ys ∷ yss) all = All-append Q ys (flat_map (λ zs. zs) yss) (All-head (All Q) ys yss all) (joined_keeps Q yss (All-tail (All Q) ys yss all))
 
 module _ {A B : Type 0} (f : A → Result (List B) DataFault) (P : A → Type 0) (Q : B → Type 0) (step : (x : A) (ys : List B) → P x → f x ≡ Ok ys → All Q ys) where
   pub each_some_keeps : (xs : List A) (ys : List B) → All P xs → each_some f xs ≡ Ok ys → All Q ys
   each_some_keeps xs ys all p =
-      let given = next_gives (each f xs) (λ yss. Ok (joined_lists yss)) ys p in
-      All-same Q ys (joined_lists given.0) (given_is (joined_lists given.0) ys (Ok (joined_lists given.0)) refl given.2)
+      let given = next_gives (each f xs) (λ yss. Ok (flat_map (λ zs. zs) yss)) ys p in
+      All-same Q ys (flat_map (λ zs. zs) given.0) (given_is (flat_map (λ zs. zs) given.0) ys (Ok (flat_map (λ zs. zs) given.0)) refl given.2)
       (joined_keeps Q given.0 (each_keeps f P (All Q) step xs given.0 all given.1))
 
 module _ {X : Type 0} (before : X → X → Bool) (Q : X → Type 0) where
-  inserted_keeps : (x : X) (ys : List X) → Q x → All Q ys → All Q (inserted before x ys)
+  inserted_keeps : (x : X) (ys : List X) → Q x → All Q ys → All Q (inserted_in_order before x ys)
   inserted_keeps x [] here all = All-cons Q x [] here all
   inserted_keeps x (y ∷ ys) here all =
-      cond_both (before y x) (y ∷ inserted before x ys) (x ∷ y ∷ ys) (All Q)
-      (λ _. All-cons Q y (inserted before x ys) (All-head Q y ys all) (inserted_keeps x ys here (All-tail Q y ys all)))
+      cond_both (before y x) (y ∷ inserted_in_order before x ys) (x ∷ y ∷ ys) (All Q)
+      (λ _. All-cons Q y (inserted_in_order before x ys) (All-head Q y ys all) (inserted_keeps x ys here (All-tail Q y ys all)))
       (λ _. All-cons Q x (y ∷ ys) here all)
 
-  pub sorted_keeps : (xs : List X) → All Q xs → All Q (sorted before xs)
+  pub sorted_keeps : (xs : List X) → All Q xs → All Q (stably_sorted before xs)
   sorted_keeps [] all = all
-  sorted_keeps (x ∷ xs) all = inserted_keeps x (sorted before xs) (All-head Q x xs all) (sorted_keeps xs (All-tail Q x xs all))
+  sorted_keeps (x ∷ xs) all = inserted_keeps x (stably_sorted before xs) (All-head Q x xs all) (sorted_keeps xs (All-tail Q x xs all))
 
 pub distinct_keeps : (Q : List Datum → Type 0) (rows : RowList) → All Q rows → All Q (distinct_rows rows)
 distinct_keeps Q [] all = all

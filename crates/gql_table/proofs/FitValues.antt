@@ -16,27 +16,13 @@ use Rattle.gql_ast.specs.Outputs.{element_kind, kind_of, kind_of_name}
 use Rattle.gql_ast.specs.Evaluation.{value_of}
 use Rattle.gql_ast.specs.Faults.{each}
 use Rattle.gql_ast.specs.ClauseColumns.{ColumnList}
-use Rattle.gql_table.specs.Fitting.{row_fits}
+use Rattle.gql_eval.specs.RowLists.{row_fits}
+use Rattle.gql_eval.proofs.RowFits.{Fits, one_fits}
 use Rattle.gql_table.proofs.FitSteps.{cons_gives, given_is}
-
-abbrev pub Fits : ColumnList → List Datum → Type 0
-Fits columns row = row_fits columns row ≡ true
 
 pub plain_fits : (d : Datum) → fits_kind kind.Plain d ≡ true
 plain_fits null = refl
 plain_fits _ = refl
-
--- more columns, and as many values that fit them
-pub row_append : (columns more : ColumnList) (row ds : List Datum) → Fits columns row → Fits more ds → Fits (columns ++ more) (row ++ ds)
-row_append [] more [] ds p q = q
-row_append [] more (v ∷ row) ds p q = absurd (cc)
-row_append (c ∷ cs) more [] ds p q = absurd (cc)
-row_append (c ∷ cs) more (v ∷ row) ds p q =
-    let both = and_parts (fits_kind c.1 v) (row_fits cs row) p in
-    and_from (fits_kind c.1 v) (row_fits (cs ++ more) (row ++ ds)) both.0 (row_append cs more row ds both.1 q)
-
-pub one_fits : (x : List ℕ) (k : ColumnKind) (d : Datum) → fits_kind k d ≡ true → Fits ((x, k) ∷ []) (d ∷ [])
-one_fits x k d h = and_from (fits_kind k d) true h refl
 
 pub two_fit : (x y : List ℕ) (k l : ColumnKind) (d e : Datum) → fits_kind k d ≡ true → fits_kind l e ≡ true → Fits ((x, k) ∷ (y, l) ∷ []) (d ∷ e ∷ [])
 two_fit x y k l d e h i = and_from (fits_kind k d) (row_fits ((y, l) ∷ []) (e ∷ [])) h (one_fits y l e i)

@@ -5,11 +5,11 @@ use Rattle.gql_ast.specs.declared.fault.DataFault.{DataFault}
 use Rattle.gql_ast.specs.declared.clause.Counting.{Counting}
 use Rattle.gql_ast.specs.Operators.{counted}
 use Rattle.gql_eval.specs.Gives.{Fails}
-use Rattle.gql_eval.specs.Next.{next}
+use Rattle.gql_eval.specs.Machinery.Next.{next}
 use Rattle.gql_eval.specs.declared.error.EvalError.{EvalError}
-use Rattle.gql_table.specs.Tables.{RowList}
+use Rattle.gql_eval.specs.RowLists.{RowList}
 use Rattle.gql_table.specs.For.{item_rows}
-use Rattle.gql_table.proofs.EachLemmas.{fails_first, each_cons}
+use Rattle.gql_eval.proofs.EachSteps.{fails_first, each_cons}
 
 pub items_back : (ds : List Datum) → items_of (data_of ds) ≡ ds
 items_back [] = refl

@@ -4,10 +4,10 @@ use Rattle.std.proofs.Common.{◌≡◌, ℕ, suc, ◌<◌, Bool, true, false, c
 use Rattle.std.specs.Prelude.{filter, ◌||◌}
 use Rattle.std.proofs.lemmas.List.{map-append}
 use Rattle.gql_values3.specs.Datum.{Datum}
-use Rattle.gql_table.specs.Tables.{RowList}
+use Rattle.gql_eval.specs.RowLists.{RowList}
 use Rattle.gql_table.specs.Distinct.{same_row, distinct_rows}
-use Rattle.gql_table.specs.Places.{among, place, added}
-use Rattle.gql_table.specs.GroupPlan.{Gathered, joined, opened, gathered_rows}
+use Rattle.gql_table.specs.Machinery.Places.{among, place, added}
+use Rattle.gql_table.specs.Machinery.GroupPlan.{Gathered, joined_group, with_group, gathered_rows}
 use Rattle.gql_table.proofs.RowOrder.{same_row_exact, same_row_itself}
 use Rattle.gql_table.proofs.PlaceLemmas.{news, news_of_none, among_more, news_more, news_known, or_right, or_false_left, or_false_right, place_new, place_known, place_last}
 use Rattle.gql_table.proofs.ReturnLemmas.{map_long}
@@ -65,13 +65,13 @@ keys_joined_case true x one g gs more p = refl
 keys_joined_case false x one g gs more p = ap (λ y. y ∷ keys_of more) (sym p)
 
 -- a row's key joins the keys
-pub keys_joined : (gs : List Gathered) (k : List Datum) (r : List Datum) → keys_of (joined gs k r) ≡ added (keys_of gs) k
+pub keys_joined : (gs : List Gathered) (k : List Datum) (r : List Datum) → keys_of (joined_group gs k r) ≡ added (keys_of gs) k
 keys_joined [] k r = refl
 keys_joined (g ∷ gs) k r =
-    keys_joined_case (same_row g.0 k) g.0 (g.1 ++ r ∷ []) g gs (joined gs k r) refl
-    ∙ keys_case (same_row g.0 k) (among (keys_of gs) k) g.0 k (keys_of gs) (keys_of (joined gs k r)) (keys_joined gs k r)
+    keys_joined_case (same_row g.0 k) g.0 (g.1 ++ r ∷ []) g gs (joined_group gs k r) refl
+    ∙ keys_case (same_row g.0 k) (among (keys_of gs) k) g.0 k (keys_of gs) (keys_of (joined_group gs k r)) (keys_joined gs k r)
 
-apart_joined : (gs : List Gathered) (k r : List Datum) → Apart (keys_of gs) → Apart (keys_of (joined gs k r))
+apart_joined : (gs : List Gathered) (k r : List Datum) → Apart (keys_of gs) → Apart (keys_of (joined_group gs k r))
 apart_joined gs k r apart = subst Apart (sym (keys_joined gs k r)) (apart_case (keys_of gs) k (among (keys_of gs) k) refl apart)
 
 -- a row of another key changes no group
@@ -82,15 +82,15 @@ others_stay (g ∷ gs) k r ks rs p =
     let rest = others_stay gs k r ks rs (or_false_right (same_row g.0 k) (among (keys_of gs) k) p) in
     λ i. (g.0, g.1 ++ cond (sym other i) (r ∷ with_key g.0 ks rs) (with_key g.0 ks rs)) ∷ rest i
 
-joined_new : (gs : List Gathered) (k r : List Datum) → among (keys_of gs) k ≡ false → joined gs k r ≡ gs ++ (k, r ∷ []) ∷ []
+joined_new : (gs : List Gathered) (k r : List Datum) → among (keys_of gs) k ≡ false → joined_group gs k r ≡ gs ++ (k, r ∷ []) ∷ []
 joined_new [] k r p = refl
 joined_new (g ∷ gs) k r p =
     let other : same_row g.0 k ≡ false = or_false_left (same_row g.0 k) (among (keys_of gs) k) p in
-    ap (λ b. cond b ((g.0, g.1 ++ r ∷ []) ∷ gs) (g ∷ joined gs k r)) other ∙ ap (λ l. g ∷ l) (joined_new gs k r (or_false_right (same_row g.0 k) (among (keys_of gs) k) p))
+    ap (λ b. cond b ((g.0, g.1 ++ r ∷ []) ∷ gs) (g ∷ joined_group gs k r)) other ∙ ap (λ l. g ∷ l) (joined_new gs k r (or_false_right (same_row g.0 k) (among (keys_of gs) k) p))
 
 joins_case : (s : Bool) (g : Gathered) (gs : List Gathered) (k r : List Datum) (ks rs : RowList) → same_row g.0 k ≡ s → among (keys_of gs) g.0 ≡ false
-    → (s ≡ false → map (grown ks rs) (joined gs k r) ≡ map (grown (k ∷ ks) (r ∷ rs)) gs)
-    → map (grown ks rs) (cond s ((g.0, g.1 ++ r ∷ []) ∷ gs) (g ∷ joined gs k r))
+    → (s ≡ false → map (grown ks rs) (joined_group gs k r) ≡ map (grown (k ∷ ks) (r ∷ rs)) gs)
+    → map (grown ks rs) (cond s ((g.0, g.1 ++ r ∷ []) ∷ gs) (g ∷ joined_group gs k r))
     ≡ (g.0, g.1 ++ cond s (r ∷ with_key g.0 ks rs) (with_key g.0 ks rs)) ∷ map (grown (k ∷ ks) (r ∷ rs)) gs
 joins_case true g gs k r ks rs p apart more =
     let same : g.0 ≡ k = same_row_exact g.0 k p in
@@ -101,7 +101,7 @@ joins_case false g gs k r ks rs p apart more = ap (λ l. (g.0, g.1 ++ with_key g
 
 -- a row joins the group of its key
 joins : (gs : List Gathered) (k r : List Datum) (ks rs : RowList) → Apart (keys_of gs) → among (keys_of gs) k ≡ true
-    → map (grown ks rs) (joined gs k r) ≡ map (grown (k ∷ ks) (r ∷ rs)) gs
+    → map (grown ks rs) (joined_group gs k r) ≡ map (grown (k ∷ ks) (r ∷ rs)) gs
 joins [] k r ks rs apart p = absurd (cc)
 joins (g ∷ gs) k r ks rs apart p =
     joins_case (same_row g.0 k) g gs k r ks rs refl apart.0 (λ q. joins gs k r ks rs apart.1 (or_right (same_row g.0 k) (among (keys_of gs) k) p q))
@@ -143,7 +143,7 @@ added_has ks k false p = among_more ks k k ∙ ap (λ c. among ks k || c) (same_
 
 -- one row joins, and then the others
 step_case : (gs : List Gathered) (k r : List Datum) (ks rs : RowList) (b : Bool) → among (keys_of gs) k ≡ b → Apart (keys_of gs)
-    → map (grown ks rs) (joined gs k r) ++ map (whole_group (k ∷ ks) (r ∷ rs)) (news (cond b (keys_of gs) (keys_of gs ++ k ∷ [])) (distinct_rows ks))
+    → map (grown ks rs) (joined_group gs k r) ++ map (whole_group (k ∷ ks) (r ∷ rs)) (news (cond b (keys_of gs) (keys_of gs ++ k ∷ [])) (distinct_rows ks))
     ≡ map (grown (k ∷ ks) (r ∷ rs)) gs
     ++ map (whole_group (k ∷ ks) (r ∷ rs)) (cond (not b) (k ∷ news (keys_of gs) (filter (λ s. not (same_row k s)) (distinct_rows ks))) (news (keys_of gs) (filter (λ s. not (same_row k s)) (distinct_rows ks))))
 step_case gs k r ks rs true p apart =
@@ -152,9 +152,9 @@ step_case gs k r ks rs true p apart =
     λ i. front i ++ back i
 step_case gs k r ks rs false p apart =
     let F = whole_group (k ∷ ks) (r ∷ rs) in
-    let new : joined gs k r ≡ gs ++ (k, r ∷ []) ∷ [] = joined_new gs k r p in
+    let new : joined_group gs k r ≡ gs ++ (k, r ∷ []) ∷ [] = joined_new gs k r p in
     let here : grown ks rs (k, r ∷ []) ≡ F k = λ i. (k, cond (sym (same_row_itself k) i) (r ∷ with_key k ks rs) (with_key k ks rs)) in
-    let front : map (grown ks rs) (joined gs k r) ≡ map (grown (k ∷ ks) (r ∷ rs)) gs ++ F k ∷ [] =
+    let front : map (grown ks rs) (joined_group gs k r) ≡ map (grown (k ∷ ks) (r ∷ rs)) gs ++ F k ∷ [] =
     ap (map (grown ks rs)) new ∙ map_last (grown ks rs) gs (k, r ∷ []) ∙ (λ i. others_stay gs k r ks rs p i ++ here i ∷ []) in
     let back = ap (map F) (news_more (keys_of gs) k (distinct_rows ks)) in
     (λ i. front i ++ back i) ∙ append_assoc (map (grown (k ∷ ks) (r ∷ rs)) gs) (F k ∷ []) (map F (news (keys_of gs) (filter (λ s. not (same_row k s)) (distinct_rows ks))))
@@ -172,10 +172,10 @@ gathered_is : (gs : List Gathered) (keys rows : RowList) → length keys ≡ len
 gathered_is gs [] rows long apart = grown_none gs rows
 gathered_is gs (k ∷ ks) [] long apart = absurd (omega (arith, long))
 gathered_is gs (k ∷ ks) (r ∷ rs) long apart =
-    let more = gathered_is (joined gs k r) ks rs (omega (arith, long)) (apart_joined gs k r apart) in
-    let new : news (keys_of (joined gs k r)) (distinct_rows ks) ≡ news (added (keys_of gs) k) (distinct_rows ks) = ap (λ l. news l (distinct_rows ks)) (keys_joined gs k r) in
+    let more = gathered_is (joined_group gs k r) ks rs (omega (arith, long)) (apart_joined gs k r apart) in
+    let new : news (keys_of (joined_group gs k r)) (distinct_rows ks) ≡ news (added (keys_of gs) k) (distinct_rows ks) = ap (λ l. news l (distinct_rows ks)) (keys_joined gs k r) in
     let later = ap (map (whole_group ks rs)) new ∙ later_groups (added (keys_of gs) k) k r ks rs (distinct_rows ks) (added_has (keys_of gs) k (among (keys_of gs) k) refl) in
-    more ∙ ap (λ l. map (grown ks rs) (joined gs k r) ++ l) later ∙ step_case gs k r ks rs (among (keys_of gs) k) refl apart
+    more ∙ ap (λ l. map (grown ks rs) (joined_group gs k r) ++ l) later ∙ step_case gs k r ks rs (among (keys_of gs) k) refl apart
 
 -- the groups are those of each key, in the order of their first rows
 pub gathered_all : (keys rows : RowList) → length keys ≡ length rows → gathered_rows [] keys rows ≡ map (whole_group keys rows) (distinct_rows keys)
@@ -193,21 +193,21 @@ below_case true m n p q = absurd (cc)
 below_case false m n p q = omega (arith, p)
 
 pub joined_at : (gs : List Gathered) (k r : List Datum) (d : Gathered) → place (keys_of gs) k < length gs
-    → joined gs k r ≡ set gs (place (keys_of gs) k) ((get_or gs (place (keys_of gs) k) d).0, (get_or gs (place (keys_of gs) k) d).1 ++ r ∷ [])
+    → joined_group gs k r ≡ set gs (place (keys_of gs) k) ((get_or gs (place (keys_of gs) k) d).0, (get_or gs (place (keys_of gs) k) d).1 ++ r ∷ [])
 joined_at [] k r d p = absurd (omega (arith, p))
 joined_at (g ∷ gs) k r d p =
-    at_case (same_row g.0 k) g gs (joined gs k r) k r (place (keys_of gs) k) (place (keys_of (g ∷ gs)) k) d refl
+    at_case (same_row g.0 k) g gs (joined_group gs k r) k r (place (keys_of gs) k) (place (keys_of (g ∷ gs)) k) d refl
     (λ q. joined_at gs k r d (below_case (same_row g.0 k) (place (keys_of gs) k) (length gs) p q))
 
 -- a new group may begin without the row
-joined_empty : (gs : List Gathered) (k r : List Datum) → among (keys_of gs) k ≡ false → joined (gs ++ (k, []) ∷ []) k r ≡ gs ++ (k, r ∷ []) ∷ []
+joined_empty : (gs : List Gathered) (k r : List Datum) → among (keys_of gs) k ≡ false → joined_group (gs ++ (k, []) ∷ []) k r ≡ gs ++ (k, r ∷ []) ∷ []
 joined_empty [] k r p = ap (λ b. cond b ((k, r ∷ []) ∷ []) ((k, []) ∷ (k, r ∷ []) ∷ [])) (same_row_itself k)
 joined_empty (g ∷ gs) k r p =
     let other : same_row g.0 k ≡ false = or_false_left (same_row g.0 k) (among (keys_of gs) k) p in
-    ap (λ b. cond b ((g.0, g.1 ++ r ∷ []) ∷ gs ++ (k, []) ∷ []) (g ∷ joined (gs ++ (k, []) ∷ []) k r)) other
+    ap (λ b. cond b ((g.0, g.1 ++ r ∷ []) ∷ gs ++ (k, []) ∷ []) (g ∷ joined_group (gs ++ (k, []) ∷ []) k r)) other
     ∙ ap (λ l. g ∷ l) (joined_empty gs k r (or_false_right (same_row g.0 k) (among (keys_of gs) k) p))
 
-opened_joined : (gs : List Gathered) (k r : List Datum) (b : Bool) → among (keys_of gs) k ≡ b → joined gs k r ≡ joined (cond b gs (gs ++ (k, []) ∷ [])) k r
+opened_joined : (gs : List Gathered) (k r : List Datum) (b : Bool) → among (keys_of gs) k ≡ b → joined_group gs k r ≡ joined_group (cond b gs (gs ++ (k, []) ∷ [])) k r
 opened_joined gs k r true p = refl
 opened_joined gs k r false p = joined_new gs k r p ∙ sym (joined_empty gs k r p)
 
@@ -220,28 +220,28 @@ opened_below : (gs : List Gathered) (k : List Datum) (b : Bool) → among (keys_
 opened_below gs k true p = omega (arith, place_known (keys_of gs) k p, map_long (λ (g : Gathered). g.0) gs)
 opened_below gs k false p = omega (arith, place_new (keys_of gs) k p, map_long (λ (g : Gathered). g.0) gs, length-append gs ((k, []) ∷ []))
 
-pub below_opened : (gs : List Gathered) (k : List Datum) → place (keys_of gs) k < length (opened gs k)
+pub below_opened : (gs : List Gathered) (k : List Datum) → place (keys_of gs) k < length (with_group gs k)
 below_opened gs k = opened_below gs k (among (keys_of gs) k) refl
 
 -- a row joins the group of its number, once the group is there
 pub joined_set : (gs : List Gathered) (k r : List Datum) (n : ℕ) (d : Gathered) → n ≡ place (keys_of gs) k
-    → joined gs k r ≡ set (opened gs k) n ((get_or (opened gs k) n d).0, (get_or (opened gs k) n d).1 ++ r ∷ [])
+    → joined_group gs k r ≡ set (with_group gs k) n ((get_or (with_group gs k) n d).0, (get_or (with_group gs k) n d).1 ++ r ∷ [])
 joined_set gs k r n d p =
-    let same : place (keys_of (opened gs k)) k ≡ n = opened_place gs k (among (keys_of gs) k) refl ∙ sym p in
-    let below : place (keys_of (opened gs k)) k < length (opened gs k) = omega (arith, same, p, below_opened gs k) in
-    opened_joined gs k r (among (keys_of gs) k) refl ∙ joined_at (opened gs k) k r d below
-    ∙ ap (λ j. set (opened gs k) j ((get_or (opened gs k) j d).0, (get_or (opened gs k) j d).1 ++ r ∷ [])) same
+    let same : place (keys_of (with_group gs k)) k ≡ n = opened_place gs k (among (keys_of gs) k) refl ∙ sym p in
+    let below : place (keys_of (with_group gs k)) k < length (with_group gs k) = omega (arith, same, p, below_opened gs k) in
+    opened_joined gs k r (among (keys_of gs) k) refl ∙ joined_at (with_group gs k) k r d below
+    ∙ ap (λ j. set (with_group gs k) j ((get_or (with_group gs k) j d).0, (get_or (with_group gs k) j d).1 ++ r ∷ [])) same
 
 opened_if : (gs : List Gathered) (k : List Datum) (b : Bool) → among (keys_of gs) k ≡ b → place (keys_of gs) k ≡ length gs → cond b gs (gs ++ (k, []) ∷ []) ≡ gs ++ (k, []) ∷ []
 opened_if gs k true p q = absurd (omega (arith, place_known (keys_of gs) k p, map_long (λ (g : Gathered). g.0) gs, q))
 opened_if gs k false p q = refl
 
-pub opened_new : (gs : List Gathered) (k : List Datum) → place (keys_of gs) k ≡ length gs → opened gs k ≡ gs ++ (k, []) ∷ []
+pub opened_new : (gs : List Gathered) (k : List Datum) → place (keys_of gs) k ≡ length gs → with_group gs k ≡ gs ++ (k, []) ∷ []
 opened_new gs k p = opened_if gs k (among (keys_of gs) k) refl p
 
 stays_if : (gs : List Gathered) (k : List Datum) (b : Bool) → among (keys_of gs) k ≡ b → (place (keys_of gs) k ≡ length gs → ⊥) → cond b gs (gs ++ (k, []) ∷ []) ≡ gs
 stays_if gs k true p q = refl
 stays_if gs k false p q = absurd (q (place_new (keys_of gs) k p ∙ map_long (λ (g : Gathered). g.0) gs))
 
-pub opened_there : (gs : List Gathered) (k : List Datum) → (place (keys_of gs) k ≡ length gs → ⊥) → opened gs k ≡ gs
+pub opened_there : (gs : List Gathered) (k : List Datum) → (place (keys_of gs) k ≡ length gs → ⊥) → with_group gs k ≡ gs
 opened_there gs k p = stays_if gs k (among (keys_of gs) k) refl p

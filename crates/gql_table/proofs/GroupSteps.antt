@@ -15,15 +15,15 @@ use Rattle.gql_ast.specs.ClauseColumns.{ColumnList}
 use Rattle.gql_ast.specs.Projections.{has_none}
 use Rattle.gql_ast.specs.RowAggregates.{RowAggregate, result_name}
 use Rattle.gql_ast.specs.declared.fault.DataFault.{DataFault}
-use Rattle.gql_eval.specs.Next.{next}
+use Rattle.gql_eval.specs.Machinery.Next.{next}
 use Rattle.gql_eval.specs.Gives.{Fails}
 use Rattle.gql_eval.specs.declared.error.EvalError.{EvalError}
 use Rattle.gql_eval.specs.declared.error.EvalError.TheVariants as error
-use Rattle.gql_table.specs.Tables.{RowList}
+use Rattle.gql_eval.specs.RowLists.{RowList}
 use Rattle.gql_table.specs.Sorting.{first_key, later_keys}
 use Rattle.gql_table.specs.Grouping.{results}
-use Rattle.gql_table.specs.GroupPlan.{ItemPlan, Kept, names_from, kept_behind, rows_kept_behind, results_behind, values_in_group}
-use Rattle.gql_table.proofs.EachLemmas.{fails_first, each_cons}
+use Rattle.gql_table.specs.Machinery.GroupPlan.{ItemPlan, Kept, names_from, kept_behind, rows_kept_behind, results_behind, values_in_group}
+use Rattle.gql_eval.proofs.EachSteps.{fails_first, each_cons}
 use Rattle.gql_table.proofs.KeyLemmas.{later_drop}
 
 -- one name more

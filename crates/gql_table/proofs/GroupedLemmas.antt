@@ -9,12 +9,12 @@ use Rattle.gql_ast.specs.Faults.{each}
 use Rattle.gql_ast.specs.ClauseColumns.{ColumnList}
 use Rattle.gql_ast.specs.Projections.{is_key}
 use Rattle.gql_ast.specs.declared.fault.DataFault.{DataFault}
-use Rattle.gql_eval.specs.Next.{next}
-use Rattle.gql_table.specs.Tables.{RowList}
+use Rattle.gql_eval.specs.Machinery.Next.{next}
+use Rattle.gql_eval.specs.RowLists.{RowList}
 use Rattle.gql_table.specs.Distinct.{same_row, distinct_rows}
-use Rattle.gql_table.specs.Places.{among}
+use Rattle.gql_table.specs.Machinery.Places.{among}
 use Rattle.gql_table.specs.Grouping.{Note, key_in, group_with, groups_of, note_row, group_row, grouped_rows, item_values}
-use Rattle.gql_table.specs.GroupPlan.{all_groups, has_key, rows_kept_behind, values_in_group, row_of_group, rows_of_groups}
+use Rattle.gql_table.specs.Machinery.GroupPlan.{all_groups, has_key, rows_kept_behind, values_in_group, row_of_group, rows_of_groups}
 use Rattle.gql_table.proofs.RowOrder.{same_row_exact, same_row_itself}
 use Rattle.gql_table.proofs.ReturnLemmas.{next_next, map_long}
 use Rattle.gql_table.proofs.PlaceLemmas.{or_right}

@@ -3,7 +3,7 @@ use Rattle.std.proofs.Common.{◌≡◌, ℕ, zero, suc, ◌+◌, ◌<◌, Bool,
 use Rattle.std.specs.Prelude.{◌==◌}
 use Rattle.gql_values3.specs.Meaning.{datum_of}
 use Rattle.gql_values3.specs.declared.value.Value.{Value}
-use Rattle.gql_table.proofs.EachLemmas.{drop_here}
+use Rattle.gql_eval.proofs.EachSteps.{drop_here}
 use Rattle.std.specs.declared.cmp.Ordering.{Ordering}
 use Rattle.std.specs.declared.cmp.Ordering.TheVariants.{Less, Equal, Greater}
 use Rattle.std.specs.Ordering.{ordering_index, ordering_then, nat_cmp, is_lt, on, then_cmp, flip_args}

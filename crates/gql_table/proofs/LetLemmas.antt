@@ -8,7 +8,7 @@ use Rattle.gql_ast.specs.Meaning.{tree_of}
 use Rattle.gql_ast.specs.Scope.{row_scope}
 use Rattle.gql_ast.specs.Outputs.{kind_of}
 use Rattle.gql_ast.specs.Evaluation.{value_of}
-use Rattle.gql_eval.specs.Next.{next}
+use Rattle.gql_eval.specs.Machinery.Next.{next}
 use Rattle.gql_ast.specs.ClauseColumns.{ColumnList, let_columns}
 use Rattle.gql_table.specs.Let.{let_row}
 

@@ -1,7 +1,5 @@
-pub mod EachLemmas
 pub mod LetLemmas
 pub mod ForLemmas
-pub mod SortLemmas
 pub mod KeyLemmas
 pub mod WidthLemmas
 pub mod RowOrder

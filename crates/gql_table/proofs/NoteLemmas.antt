@@ -12,10 +12,10 @@ use Rattle.gql_ast.specs.ClauseColumns.{ColumnList}
 use Rattle.gql_ast.specs.Projections.{has_none, is_key}
 use Rattle.gql_ast.specs.RowAggregates.{RowAggregate, row_aggregates}
 use Rattle.gql_ast.specs.declared.fault.DataFault.{DataFault}
-use Rattle.gql_eval.specs.Next.{next}
-use Rattle.gql_table.specs.Tables.{RowList}
+use Rattle.gql_eval.specs.Machinery.Next.{next}
+use Rattle.gql_eval.specs.RowLists.{RowList}
 use Rattle.gql_table.specs.Grouping.{Note, key_in, note_of, note_row}
-use Rattle.gql_table.specs.GroupPlan.{ItemPlan, Kept, planned, kept_with, kept_behind, rows_kept_behind}
+use Rattle.gql_table.specs.Machinery.GroupPlan.{ItemPlan, Kept, planned, kept_with, kept_behind, rows_kept_behind}
 use Rattle.gql_table.proofs.ReturnLemmas.{next_next, each_length}
 
 module _ (columns : ColumnList) where

@@ -2,9 +2,9 @@
 use Rattle.std.proofs.Common.{◌≡◌, ℕ, zero, suc, ◌+◌, ◌<◌, Bool, true, false, cond, not, List, [], ◌∷◌, ◌++◌, length, drop, get_or, add-one, refl, sym, ap, ◌∙◌, append_assoc, append-nil, arith, Some, None}
 use Rattle.std.specs.Prelude.{filter, ◌||◌}
 use Rattle.gql_values3.specs.Datum.{Datum}
-use Rattle.gql_table.specs.Tables.{RowList}
+use Rattle.gql_eval.specs.RowLists.{RowList}
 use Rattle.gql_table.specs.Distinct.{same_row, distinct_rows}
-use Rattle.gql_table.specs.Places.{among, place, added, found_place, places}
+use Rattle.gql_table.specs.Machinery.Places.{among, place, added, found_place, places}
 use Rattle.gql_table.proofs.RowOrder.{same_row_exact}
 
 -- the rows that are not among them

@@ -5,11 +5,11 @@ use Rattle.gql_values3.specs.PropertyGraph.{PropertyGraph}
 use Rattle.gql_ast.specs.Tree.{Tree}
 use Rattle.gql_ast.specs.Faults.{each}
 use Rattle.gql_ast.specs.declared.fault.DataFault.{DataFault}
-use Rattle.gql_eval.specs.Next.{next}
+use Rattle.gql_eval.specs.Machinery.Next.{next}
 use Rattle.gql_eval.specs.Gives.{Fails}
 use Rattle.gql_eval.specs.declared.error.EvalError.{EvalError}
 use Rattle.gql_eval.specs.declared.error.EvalError.TheVariants as error
-use Rattle.gql_table.specs.Tables.{RowList}
+use Rattle.gql_eval.specs.RowLists.{RowList}
 use Rattle.gql_ast.specs.ClauseColumns.{ColumnList}
 use Rattle.gql_table.specs.Paging.{Sortable, paged}
 use Rattle.gql_ast.specs.Projections.{is_grouped, is_distinct, output_columns, output_trees}
@@ -18,7 +18,7 @@ use Rattle.gql_ast.specs.declared.words.SetQuantifier.{SetQuantifier}
 use Rattle.gql_ast.specs.declared.words.SetQuantifier.TheVariants as quantifier
 use Rattle.gql_table.specs.Distinct.{distinct_rows, left_of}
 use Rattle.gql_table.specs.Grouping.{grouped_rows}
-use Rattle.gql_table.specs.Width.{seen}
+use Rattle.gql_table.specs.Machinery.Width.{seen}
 use Rattle.gql_table.specs.Projection.{output_row, output_of, all_alone, with_incoming, grouped_outputs, plain_outputs, returned_rows}
 
 -- two steps, of which the first only changes what it is given

@@ -9,7 +9,7 @@ use Rattle.gql_ast.specs.declared.clause.Clause.TheVariants as clause
 use Rattle.gql_ast.specs.declared.page.Page.{Page}
 use Rattle.gql_ast.specs.declared.page.Page.TheVariants as page
 use Rattle.gql_ast.specs.declared.fault.DataFault.{DataFault}
-use Rattle.gql_table.specs.Tables.{RowList}
+use Rattle.gql_eval.specs.RowLists.{RowList}
 use Rattle.gql_ast.specs.ClauseColumns.{ColumnList, for_columns, let_columns}
 use Rattle.gql_ast.specs.Projections.{output_columns}
 use Rattle.gql_table.specs.Let.{let_rows}

@@ -6,7 +6,7 @@ use Rattle.gql_values3.specs.Datum.{Datum}
 use Rattle.gql_values3.specs.ValueOrder.{datum_cmp}
 use Rattle.gql_ast.specs.declared.words.SetQuantifier.{SetQuantifier}
 use Rattle.gql_ast.specs.declared.words.SetQuantifier.TheVariants as quantifier
-use Rattle.gql_table.specs.Tables.{RowList}
+use Rattle.gql_eval.specs.RowLists.{RowList}
 
 abbrev pub same_row : List Datum → List Datum → Bool
 same_row a b = pointwise (λ x y. is_eq (datum_cmp x y)) a b

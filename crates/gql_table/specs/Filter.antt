@@ -10,7 +10,7 @@ use Rattle.gql_ast.specs.TruthValues.{truth_in}
 use Rattle.gql_ast.specs.Faults.{◌>>=◌}
 use Rattle.gql_ast.specs.Evaluation.{value_of}
 use Rattle.gql_ast.specs.declared.fault.DataFault.{DataFault}
-use Rattle.gql_table.specs.Tables.{RowList, each_some}
+use Rattle.gql_eval.specs.RowLists.{RowList, each_some}
 use Rattle.gql_ast.specs.ClauseColumns.{ColumnList}
 
 -- a row is kept at True alone

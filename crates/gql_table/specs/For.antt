@@ -12,7 +12,7 @@ use Rattle.gql_ast.specs.declared.clause.Counting.{Counting}
 use Rattle.gql_ast.specs.declared.clause.Counting.TheVariants as counting
 use Rattle.gql_ast.specs.declared.fault.DataFault.{DataFault}
 use Rattle.gql_ast.specs.declared.fault.DataFault.TheVariants as fault
-use Rattle.gql_table.specs.Tables.{RowList, each_some}
+use Rattle.gql_eval.specs.RowLists.{RowList, each_some}
 use Rattle.gql_ast.specs.ClauseColumns.{ColumnList}
 
 -- the first number of a counter

@@ -13,7 +13,7 @@ use Rattle.gql_ast.specs.Evaluation.{value_of}
 use Rattle.gql_ast.specs.Aggregates.{considered, aggregated}
 use Rattle.gql_ast.specs.RowAggregates.{RowAggregate, row_aggregates, around, result_name}
 use Rattle.gql_ast.specs.declared.fault.DataFault.{DataFault}
-use Rattle.gql_table.specs.Tables.{RowList}
+use Rattle.gql_eval.specs.RowLists.{RowList}
 use Rattle.gql_ast.specs.ClauseColumns.{ColumnList}
 use Rattle.gql_ast.specs.Projections.{is_key}
 use Rattle.gql_table.specs.Distinct.{same_row, distinct_rows}

@@ -9,7 +9,7 @@ use Rattle.gql_ast.specs.Evaluation.{value_of}
 use Rattle.gql_ast.specs.Outputs.{kind_of}
 use Rattle.gql_ast.specs.declared.clause.LetItem.{LetItem}
 use Rattle.gql_ast.specs.declared.fault.DataFault.{DataFault}
-use Rattle.gql_table.specs.Tables.{RowList}
+use Rattle.gql_eval.specs.RowLists.{RowList}
 use Rattle.gql_ast.specs.ClauseColumns.{ColumnList}
 
 module _ (g : PropertyGraph) (params : List (List ℕ × Datum)) where

@@ -15,7 +15,7 @@ use Rattle.gql_ast.specs.declared.projection.ReturnItems.TheVariants as items
 use Rattle.gql_ast.specs.declared.words.SetQuantifier.{SetQuantifier}
 use Rattle.gql_ast.specs.declared.words.SetQuantifier.TheVariants as quantifier
 use Rattle.gql_ast.specs.declared.fault.DataFault.{DataFault}
-use Rattle.gql_table.specs.Tables.{RowList}
+use Rattle.gql_eval.specs.RowLists.{RowList}
 use Rattle.gql_ast.specs.ClauseColumns.{ColumnList}
 use Rattle.gql_ast.specs.Projections.{output_columns, output_trees, is_grouped, is_distinct}
 use Rattle.gql_table.specs.Distinct.{distinct_rows}
@@ -32,8 +32,8 @@ abbrev pub with_incoming : ColumnList → ReturnItems → ColumnList
 with_incoming columns items.All = columns
 with_incoming columns (items.Listed is) = map (item_column columns) is ++ columns
 
-abbrev pub sort_columns : ColumnList → Return → ColumnList
-sort_columns columns r =
+abbrev pub sort_key_columns : ColumnList → Return → ColumnList
+sort_key_columns columns r =
     if is_grouped columns r || is_distinct r.quantifier
     then output_columns columns r.items
     else with_incoming columns r.items
@@ -75,4 +75,4 @@ module _ (g : PropertyGraph) (params : List (List ℕ × Datum)) (columns : Colu
       else plain_outputs r.quantifier r.items rows
 
   abbrev pub returned_rows : Return → RowList → Result RowList DataFault
-  returned_rows r rows = outputs r rows >>= paged g params (sort_columns columns r) r.order r.skip r.limit
+  returned_rows r rows = outputs r rows >>= paged g params (sort_key_columns columns r) r.order r.skip r.limit

@@ -1,11 +1,12 @@
 -- ORDER BY: a stable sort by keys, in the total order of data.
-use Rattle.std.specs.Prelude.{Bool, true, false, List, [], ◌∷◌, Option, Some, None, if◌then◌else◌}
+use Rattle.std.specs.Prelude.{Bool, true, false, List, [], ◌∷◌, Option, Some, None}
 use Rattle.std.specs.declared.cmp.Ordering.{Ordering}
 use Rattle.std.specs.declared.cmp.Ordering.TheVariants.{Less, Equal, Greater}
 use Rattle.std.specs.Ordering.{is_lt, ordering_reverse, ordering_then}
 use Rattle.gql_values3.specs.Datum.{Datum, null}
 use Rattle.gql_values3.specs.Datum.{is_null}
 use Rattle.gql_values3.specs.ValueOrder.{datum_cmp}
+use Rattle.gql_eval.specs.StableSort.{stably_sorted}
 use Rattle.gql_ast.specs.declared.page.SortItem.{SortItem}
 use Rattle.gql_ast.specs.declared.page.SortDirection.{SortDirection}
 use Rattle.gql_ast.specs.declared.page.SortDirection.TheVariants as direction
@@ -48,17 +49,6 @@ abbrev pub keys_cmp : List SortItem → List Datum → List Datum → Ordering
 keys_cmp [] xs ys = Equal
 keys_cmp (i ∷ is) xs ys = ordering_then (key_cmp i (first_key xs) (first_key ys)) (keys_cmp is (later_keys xs) (later_keys ys))
 
-module _ {X : Type 0} (before : X → X → Bool) where
-  -- among items in order, behind those that come before it, and in front of its equals
-  abbrev pub inserted : X → List X → List X
-  inserted x [] = x ∷ []
-  inserted x (y ∷ ys) = if before y x then y ∷ inserted x ys else x ∷ y ∷ ys
-
-  -- the items in order; equal ones stand as they stood
-  abbrev pub sorted : List X → List X
-  sorted [] = []
-  sorted (x ∷ xs) = inserted x (sorted xs)
-
 -- rows with their keys, in the order of the keys
 abbrev pub sorted_by_keys : List SortItem → List (List Datum × List Datum) → List (List Datum × List Datum)
-sorted_by_keys items rows = sorted (λ a b. is_lt (keys_cmp items a.0 b.0)) rows
+sorted_by_keys items rows = stably_sorted (λ a b. is_lt (keys_cmp items a.0 b.0)) rows

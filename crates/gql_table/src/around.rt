@@ -6,8 +6,7 @@ ghost use Rattle.gql_ast.specs.Meaning.{tree_of, link_of};
 ghost use Rattle.gql_ast.specs.RowAggregates.{around, around_all, around_links, result_name, row_aggregates, row_aggregates_of, row_aggregates_in};
 
 use crate::aggregation::has_row_aggregate;
-use gql_ast::push_number;
-use gql_ast::{Expr, Exprs, Step, Steps, Sub};
+use gql_ast::{Expr, Exprs, Step, Steps, Sub, push_number};
 use gql_values3::{ColumnKind, OutOfMemory, Text, Value};
 use std::alloc::Global;
 

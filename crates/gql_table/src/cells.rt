@@ -8,14 +8,12 @@ ghost use Rattle.gql_ast.specs.Evaluation.{value_of};
 ghost use Rattle.gql_eval.specs.Gives.{Gives};
 
 use gql_ast::Expr;
-use gql_eval::EvalError;
-use gql_eval::evaluation::value_in;
-use gql_eval::scope::{Header, Scope};
+use gql_eval::{EvalError, Header, Scope, value_in};
 use gql_values3::{ColumnKind, Params, Text, Value, View};
 use std::alloc::Global;
 
 /// The value of an expression over a graph, a row under its columns, and parameters, or its first fault.
-#[tactic(auto, using(gql_eval::proofs::ScopeLemmas::append_none), unfolding(gql_eval::specs::ScopeMeaning::scope_of, gql_eval::specs::ScopeMeaning::rest_of))]
+#[tactic(auto, using(gql_eval::proofs::ScopeLemmas::append_none), unfolding(gql_eval::specs::Machinery::ScopeMeaning::scope_of, gql_eval::specs::Machinery::ScopeMeaning::rest_of))]
 pub fn cell<V: View>(
     alloc: Global,
     view: &V,

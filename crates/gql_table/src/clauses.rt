@@ -4,7 +4,8 @@ ghost use Rattle.std.specs.Prelude.{IfOk, IsTrue};
 ghost use Rattle.gql_eval.specs.Gives.{Gives};
 ghost use Rattle.gql_ast.specs.declared.clause.Clause.TheVariants.{Let, Filter, For as for_clause, Page as page_clause, Return as return_clause};
 ghost use Rattle.gql_table.specs.Clauses.{table_after, page_rows};
-ghost use Rattle.gql_table.specs.Fitting.{names_serve, rows_fit};
+ghost use Rattle.gql_eval.specs.RowLists.{rows_fit};
+ghost use Rattle.gql_table.specs.Fitting.{names_serve};
 
 use crate::columns::copy_columns;
 use crate::filter::filter_table;

@@ -2,7 +2,7 @@
 
 ghost use Rattle.std.specs.Prelude.{◌≡◌, [], IfOk, OnOk};
 ghost use Rattle.gql_table.specs.Distinct.{distinct_rows, left_of};
-ghost use Rattle.gql_table.specs.Places.{place, added, places};
+ghost use Rattle.gql_table.specs.Machinery.Places.{place, added, places};
 
 use crate::numbering::group_numbers;
 use gql_ast::SetQuantifier;

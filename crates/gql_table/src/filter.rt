@@ -7,13 +7,12 @@ ghost use Rattle.gql_ast.specs.Scope.{row_scope};
 ghost use Rattle.gql_ast.specs.Evaluation.{value_of};
 ghost use Rattle.gql_ast.specs.TruthValues.{truth_in};
 ghost use Rattle.gql_eval.specs.Gives.{Gives};
-ghost use Rattle.gql_eval.specs.Next.{next};
+ghost use Rattle.gql_eval.specs.Machinery.Next.{next};
 ghost use Rattle.gql_table.specs.Filter.{filter_rows, kept_if};
 
 use crate::cells::cell;
 use gql_ast::Expr;
-use gql_eval::EvalError;
-use gql_eval::truths::truth_of_value;
+use gql_eval::{EvalError, truth_of_value};
 use gql_values3::{Columns, OutOfMemory, Params, Row, Rows, Truth, View};
 use std::alloc::Global;
 
@@ -55,7 +54,7 @@ fn truth_at<V: View>(
         params,
         condition,
     )?;
-    truth_of_value(&value)
+    Ok(truth_of_value(&value)?)
 }
 
 /// Adds the row at True alone.

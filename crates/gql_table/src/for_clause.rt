@@ -10,8 +10,7 @@ ghost use Rattle.gql_ast.specs.ClauseColumns.{for_columns};
 use crate::cells::cell;
 use crate::columns::{copy_columns, expr_kind};
 use gql_ast::{Counting, DataFault, For};
-use gql_eval::EvalError;
-use gql_eval::arithmetic::count_value;
+use gql_eval::{EvalError, count_value};
 use gql_values3::{ColumnKind, Columns, List, OutOfMemory, Params, Row, Rows, Text, Value, View};
 use std::alloc::Global;
 

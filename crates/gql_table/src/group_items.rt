@@ -3,14 +3,13 @@
 ghost use Rattle.std.specs.Prelude.{◌≡◌, length, map, IfOk};
 ghost use Rattle.gql_ast.specs.Meaning.{tree_of};
 ghost use Rattle.gql_ast.specs.Projections.{has_none};
-ghost use Rattle.gql_table.specs.GroupPlan.{names_from, planned, has_key};
-ghost use Rattle.gql_table.specs.GroupMeaning.{item_meant};
+ghost use Rattle.gql_table.specs.Machinery.GroupPlan.{names_from, planned, has_key};
+ghost use Rattle.gql_table.specs.Machinery.GroupMeaning.{item_meant};
 
 use crate::around::around;
 use crate::blank::blank_row;
 use crate::row_aggregates::{AggregateRef, list_aggregates};
-use gql_ast::Expr;
-use gql_ast::push_number;
+use gql_ast::{Expr, push_number};
 use gql_values3::{ColumnKind, Columns, OutOfMemory, Text, Value};
 use std::alloc::Global;
 

@@ -5,11 +5,11 @@ ghost use Rattle.gql_values3.specs.Datum.{null};
 ghost use Rattle.gql_values3.specs.Datum.{is_null};
 ghost use Rattle.gql_values3.specs.Meaning.{datum_of};
 ghost use Rattle.gql_eval.specs.Gives.{Gives};
-ghost use Rattle.gql_eval.specs.Next.{next};
-ghost use Rattle.gql_table.specs.AggregateMeaning.{aggregate_meant};
+ghost use Rattle.gql_eval.specs.Machinery.Next.{next};
+ghost use Rattle.gql_table.specs.Machinery.AggregateMeaning.{aggregate_meant};
 ghost use Rattle.gql_table.specs.Grouping.{results};
-ghost use Rattle.gql_table.specs.GroupPlan.{results_behind};
-ghost use Rattle.gql_table.specs.GroupMeaning.{item_meant};
+ghost use Rattle.gql_table.specs.Machinery.GroupPlan.{results_behind};
+ghost use Rattle.gql_table.specs.Machinery.GroupMeaning.{item_meant};
 
 use crate::group_items::GroupItem;
 use crate::row_aggregates::AggregateRef;

@@ -5,8 +5,8 @@ ghost use Rattle.gql_values3.specs.Meaning.{datum_of};
 ghost use Rattle.gql_ast.specs.Faults.{each};
 ghost use Rattle.gql_eval.specs.Gives.{Gives};
 ghost use Rattle.gql_table.specs.Sorting.{first_key};
-ghost use Rattle.gql_table.specs.GroupPlan.{row_of_group, values_in_group, result_count};
-ghost use Rattle.gql_table.specs.GroupMeaning.{item_meant, group_meant};
+ghost use Rattle.gql_table.specs.Machinery.GroupPlan.{row_of_group, values_in_group, result_count};
+ghost use Rattle.gql_table.specs.Machinery.GroupMeaning.{item_meant, group_meant};
 
 use crate::cells::cell;
 use crate::group_items::GroupItem;

@@ -1,9 +1,9 @@
 //! Groups of rows of equal keys.
 
 ghost use Rattle.std.specs.Prelude.{◌≡◌, [], false, map, length, IfOk, OnOk};
-ghost use Rattle.gql_table.specs.Places.{place, places};
-ghost use Rattle.gql_table.specs.GroupPlan.{joined, opened, gathered_rows, all_groups};
-ghost use Rattle.gql_table.specs.GroupMeaning.{group_meant};
+ghost use Rattle.gql_table.specs.Machinery.Places.{place, places};
+ghost use Rattle.gql_table.specs.Machinery.GroupPlan.{joined_group, with_group, gathered_rows, all_groups};
+ghost use Rattle.gql_table.specs.Machinery.GroupMeaning.{group_meant};
 
 use crate::numbering::group_numbers;
 use gql_values3::{OutOfMemory, Row, Value};
@@ -75,7 +75,7 @@ fn join_group<'a>(
     row: &'a Row,
 ) -> Result<(), OutOfMemory>
     requires { number ≡ place (map (λ g. g.0) (map group_meant groups.old.items)) key.now }
-    ensures { OnOk result (map group_meant groups.new.items ≡ joined (map group_meant groups.old.items) key.now row.now) }
+    ensures { OnOk result (map group_meant groups.new.items ≡ joined_group (map group_meant groups.old.items) key.now row.now) }
 {
     open_group(alloc, groups, number, key)?;
     groups[number].rows.push(row)?;
@@ -90,7 +90,7 @@ fn open_group<'a>(
     key: &'a Row,
 ) -> Result<(), OutOfMemory>
     requires { number ≡ place (map (λ g. g.0) (map group_meant groups.old.items)) key.now }
-    ensures { OnOk result (map group_meant groups.new.items ≡ opened (map group_meant groups.old.items) key.now) }
+    ensures { OnOk result (map group_meant groups.new.items ≡ with_group (map group_meant groups.old.items) key.now) }
 {
     if number == groups.len() {
         groups.push(Group {

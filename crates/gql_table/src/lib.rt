@@ -4,40 +4,33 @@
 //! columns and rows behind it, or its first fault. It stands on `gql_eval` for the values of expressions.
 #![tactic(auto)]
 
-pub mod aggregation;
-pub mod around;
-pub mod blank;
-pub mod cells;
-#[cfg(test)]
-mod clause_tests;
-pub mod clauses;
-pub mod columns;
-pub mod distinct;
-pub mod filter;
-pub mod for_clause;
-pub mod group_items;
-pub mod group_results;
-pub mod group_rows;
-#[cfg(test)]
-mod group_tests;
-pub mod grouped;
-pub mod grouped_return;
-pub mod groups;
-pub mod let_clause;
-pub mod notes;
-pub mod numbering;
-pub mod ordering;
-pub mod outputs;
-pub mod paging;
-pub mod projection;
-pub mod ranked;
-pub mod return_columns;
-#[cfg(test)]
-mod return_tests;
-pub mod row_aggregates;
-pub mod sorting;
-#[cfg(test)]
-mod test_tables;
+mod aggregation;
+mod around;
+mod blank;
+mod cells;
+mod clauses;
+mod columns;
+mod distinct;
+mod filter;
+mod for_clause;
+mod group_items;
+mod group_results;
+mod group_rows;
+mod grouped;
+mod grouped_return;
+mod groups;
+mod let_clause;
+mod notes;
+mod numbering;
+mod ordering;
+mod outputs;
+mod paging;
+mod projection;
+mod ranked;
+mod return_columns;
+mod row_aggregates;
+mod sorting;
 
 pub use clauses::apply;
-pub use grouped_return::is_grouped_return;
+pub use columns::copy_columns;
+pub use filter::filter_table;

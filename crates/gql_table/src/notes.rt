@@ -6,10 +6,10 @@ ghost use Rattle.gql_ast.specs.Scope.{row_scope};
 ghost use Rattle.gql_ast.specs.Faults.{each};
 ghost use Rattle.gql_ast.specs.Evaluation.{value_of};
 ghost use Rattle.gql_eval.specs.Gives.{Gives};
-ghost use Rattle.gql_eval.specs.Next.{next};
-ghost use Rattle.gql_table.specs.AggregateMeaning.{aggregate_meant};
-ghost use Rattle.gql_table.specs.GroupPlan.{kept_behind, rows_kept_behind};
-ghost use Rattle.gql_table.specs.GroupMeaning.{item_meant};
+ghost use Rattle.gql_eval.specs.Machinery.Next.{next};
+ghost use Rattle.gql_table.specs.Machinery.AggregateMeaning.{aggregate_meant};
+ghost use Rattle.gql_table.specs.Machinery.GroupPlan.{kept_behind, rows_kept_behind};
+ghost use Rattle.gql_table.specs.Machinery.GroupMeaning.{item_meant};
 
 use crate::cells::cell;
 use crate::group_items::GroupItem;

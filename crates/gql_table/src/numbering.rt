@@ -1,8 +1,8 @@
 //! The groups of equal rows, numbered by their first rows.
 
 ghost use Rattle.std.specs.Prelude.{◌≡◌, [], map, IfOk, OnOk};
-ghost use Rattle.gql_table.specs.Places.{place, added, places};
-ghost use Rattle.gql_table.specs.Ranked.{HasPlaces};
+ghost use Rattle.gql_table.specs.Machinery.Places.{place, added, places};
+ghost use Rattle.gql_table.specs.Machinery.Ranked.{HasPlaces};
 
 use crate::ranked::Ranked;
 use gql_values3::{OutOfMemory, Row};

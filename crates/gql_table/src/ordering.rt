@@ -3,7 +3,7 @@
 ghost use Rattle.std.specs.Prelude.{◌≡◌, ◌++◌, ◌∷◌, [], map, IfOk, OnOk};
 ghost use Rattle.std.specs.Option.{option_copied};
 ghost use Rattle.gql_table.specs.Paging.{keyed, ordered, paged};
-ghost use Rattle.gql_table.specs.Width.{shown, seen};
+ghost use Rattle.gql_table.specs.Machinery.Width.{shown, seen};
 ghost use Rattle.gql_ast.specs.Faults.{each};
 ghost use Rattle.gql_eval.specs.Gives.{Gives};
 

@@ -4,7 +4,7 @@ ghost use Rattle.std.specs.Prelude.{◌++◌, map, Ok};
 ghost use Rattle.gql_ast.specs.Meaning.{tree_of};
 ghost use Rattle.gql_ast.specs.Faults.{each};
 ghost use Rattle.gql_eval.specs.Gives.{Gives};
-ghost use Rattle.gql_eval.specs.Next.{next};
+ghost use Rattle.gql_eval.specs.Machinery.Next.{next};
 ghost use Rattle.gql_table.specs.Projection.{output_row};
 
 use crate::cells::cell;

@@ -8,8 +8,7 @@ ghost use Rattle.gql_eval.specs.Gives.{Gives};
 ghost use Rattle.gql_table.specs.Paging.{count_in, count_of, count_if, without_first, no_more_than, cut};
 
 use gql_ast::{DataFault, RowCount};
-use gql_eval::EvalError;
-use gql_eval::leaves::number_value;
+use gql_eval::{EvalError, number_value};
 use gql_values3::{OutOfMemory, Params, Row, Rows, Value};
 use std::alloc::Global;
 

@@ -4,7 +4,7 @@ ghost use Rattle.std.specs.Prelude.{◌≡◌, true, false, map, Ok, Some, None}
 ghost use Rattle.std.specs.Option.{option_copied};
 ghost use Rattle.gql_ast.specs.declared.projection.ReturnItems.TheVariants.{Listed};
 ghost use Rattle.gql_eval.specs.Gives.{Gives};
-ghost use Rattle.gql_eval.specs.Next.{next};
+ghost use Rattle.gql_eval.specs.Machinery.Next.{next};
 ghost use Rattle.gql_table.specs.Paging.{paged};
 ghost use Rattle.gql_table.specs.Projection.{with_incoming, row_outputs, distinct_outputs, returned_rows};
 ghost use Rattle.gql_ast.specs.Projections.{is_grouped, output_columns};

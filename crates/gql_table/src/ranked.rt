@@ -7,7 +7,7 @@ ghost use Rattle.std.specs.Cmp.Lexicographic.{slice_cmp};
 ghost use Rattle.gql_values3.specs.ValueOrder.{datum_cmp};
 ghost use Rattle.gql_values3.proofs.OrderLaws.{datum_cmp_total};
 ghost use Rattle.std.proofs.lemmas.Cmp.{lists_total};
-ghost use Rattle.gql_table.specs.Ranked.{ranked_row};
+ghost use Rattle.gql_table.specs.Machinery.Ranked.{ranked_row};
 
 use gql_values3::{Row, items_cmp};
 use std::cmp::Ordering;

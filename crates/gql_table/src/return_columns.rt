@@ -6,8 +6,7 @@ ghost use Rattle.gql_ast.specs.Outputs.{item_column, item_name, text_name};
 ghost use Rattle.gql_ast.specs.Projections.{output_columns};
 
 use crate::columns::{copy_columns, expr_kind};
-use gql_ast::expr_text;
-use gql_ast::{Expr, ReturnItem, ReturnItems};
+use gql_ast::{Expr, ReturnItem, ReturnItems, expr_text};
 use gql_values3::{ColumnKind, Columns, OutOfMemory, Text};
 use std::alloc::Global;
 

@@ -5,7 +5,7 @@ ghost use Rattle.std.specs.Option.{option_copied};
 ghost use Rattle.gql_ast.specs.Tree.{trees_of, links_of};
 ghost use Rattle.gql_ast.specs.Meaning.{tree_of, link_of};
 ghost use Rattle.gql_ast.specs.RowAggregates.{row_aggregates, row_aggregates_of, row_aggregates_in};
-ghost use Rattle.gql_table.specs.AggregateMeaning.{aggregate_meant, argument_meant};
+ghost use Rattle.gql_table.specs.Machinery.AggregateMeaning.{aggregate_meant, argument_meant};
 
 use crate::aggregation::has_row_aggregate;
 use gql_ast::{Aggregate, Expr, SetQuantifier, Step};

@@ -1,7 +1,7 @@
 use Rattle.std.proofs.Common.{◌≡◌, ◌∙◌, List, slice_get, ap, Some, None}
 use Rattle.gql_graph.specs.declared.change.Change.{Change}
 use Rattle.gql_change.specs.AssignedGraph.{assigned}
-use Rattle.gql_change.specs.Building.{built, built_from}
+use Rattle.gql_change.specs.Machinery.Building.{built, built_from}
 use Rattle.gql_change.specs.Plans.{LeadTo}
 use Rattle.gql_change.specs.declared.assignment.Assignment.{Assignment}
 use Rattle.gql_change.proofs.BuildingLemmas.{sorted_leads, none_leads, ok_is}

@@ -1,7 +1,7 @@
 use Rattle.std.proofs.Common.{rules}
 use Rattle.std.proofs.lemmas.Fn.{always_returns_same}
-use Rattle.gql_change.specs.Building.{target_before}
-use Rattle.gql_change.proofs.StableSort.{is_sorted}
+use Rattle.gql_change.specs.Machinery.Building.{target_before}
+use Rattle.gql_eval.proofs.StableSort.{is_sorted}
 use Rattle.gql_change.proofs.BuildingLemmas.{targets_ordered}
 use Rattle.gql_change.proofs.assigned.by_element.Goals as goal
 

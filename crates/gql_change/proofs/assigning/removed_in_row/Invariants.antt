@@ -1,8 +1,8 @@
 use Rattle.std.proofs.Common.{◌≡◌, drop}
 use Rattle.gql_ast.specs.Scope.{row_scope}
-use Rattle.gql_change.specs.RowSteps.{each_some}
+use Rattle.gql_eval.specs.RowLists.{each_some}
 use Rattle.gql_change.specs.Assignments.{removed_by}
-use Rattle.gql_change.proofs.AssigningSteps.{some_from}
+use Rattle.gql_eval.proofs.EachSteps.{some_from}
 use Rattle.gql_change.proofs.assigning.removed_in_row.Given as goal
 
 abbrev pub invariant-loop-i : goal.invariant-loop-i

@@ -1,14 +1,14 @@
-use Rattle.std.proofs.Common.{◌≡◌, ◌<◌, ◌+◌, ◌∙◌, List, [], length, drop, sym, arith, rules, Result, Ok}
+use Rattle.std.proofs.Common.{◌≡◌, ◌<◌, ◌+◌, ◌∙◌, List, [], length, drop, sym, arith, rules, Result, Ok, ◌++◌}
 use Rattle.std.proofs.lemmas.List.{drop_all}
 use Rattle.gql_values3.specs.Datum.{Datum}
 use Rattle.gql_ast.specs.Scope.{row_scope}
 use Rattle.gql_ast.specs.declared.fault.DataFault.{DataFault}
 use Rattle.gql_eval.specs.Gives.{Fails}
-use Rattle.gql_change.specs.RowSteps.{each_some}
+use Rattle.gql_eval.specs.RowLists.{each_some}
 use Rattle.gql_change.specs.Assignments.{set_by}
 use Rattle.gql_change.specs.declared.assignment.Assignment.{Assignment}
-use Rattle.gql_change.proofs.PlaceLemmas.{drop_here}
-use Rattle.gql_change.proofs.AssigningSteps.{some_step, some_fails, some_end}
+use Rattle.gql_eval.proofs.EachSteps.{drop_here}
+use Rattle.gql_eval.proofs.EachSteps.{some_step, some_fails, some_end}
 use Rattle.gql_change.proofs.assigning.set_assignments.Goals as goal
 
 pub loop-i-preserved : goal.loop-i-preserved
@@ -39,5 +39,5 @@ returns-in_err-more g c =
     let left = drop_here xs i x below c.index-rows-i.is in
     let here : Fails c.in_err-more.field-0.0 (f x) = c.in_err-more.ensures in
     let whole : Fails c.in_err-more.field-0.0 (each_some f c.args.rows.now) =
-    rw (← c.loop-i.invariant) (some_fails f (drop i xs) x (drop (i + 1) xs) c.in_err-more.field-0.0 c.loop-i.done left here) in
+    rw (← c.loop-i.invariant) (some_fails f (drop i xs) x (drop (i + 1) xs) c.in_err-more.field-0.0 (λ ys. Ok (c.loop-i.done ++ ys)) left here) in
     search rules

@@ -1,9 +1,9 @@
 use Rattle.std.proofs.Common.{◌≡◌, List, drop}
 use Rattle.gql_values3.specs.Datum.{Datum}
 use Rattle.gql_ast.specs.Scope.{row_scope}
-use Rattle.gql_change.specs.RowSteps.{each_some}
+use Rattle.gql_eval.specs.RowLists.{each_some}
 use Rattle.gql_change.specs.Assignments.{set_by}
-use Rattle.gql_change.proofs.AssigningSteps.{some_from}
+use Rattle.gql_eval.proofs.EachSteps.{some_from}
 use Rattle.gql_change.proofs.assigning.set_assignments.Given as goal
 
 abbrev pub invariant-loop-i : goal.invariant-loop-i

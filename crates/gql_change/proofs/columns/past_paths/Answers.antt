@@ -1,7 +1,7 @@
 use Rattle.std.proofs.Common.{◌≡◌, ◌∙◌, ◌∷◌, ◌+◌, ◌<◌, List, length, drop, ap, arith}
 use Rattle.gql_ast.specs.InsertColumns.{insert_spots, path_spots}
 use Rattle.gql_ast.specs.declared.change.InsertPath.{InsertPath}
-use Rattle.gql_change.proofs.StepLemmas.{item_here}
+use Rattle.gql_eval.proofs.EachSteps.{drop_here as item_here}
 use Rattle.gql_change.proofs.EndpointLemmas.{columns_past, right_past}
 use Rattle.gql_change.proofs.columns.past_paths.Goals as goal
 

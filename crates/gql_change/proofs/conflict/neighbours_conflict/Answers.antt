@@ -1,7 +1,8 @@
 use Rattle.std.proofs.Common.{◌≡◌, ◌∙◌, ◌+◌, ◌<◌, ◌≤◌, length, drop, ap, sym, arith, Option, None, Some}
 use Rattle.std.proofs.lemmas.List.{length-map}
 use Rattle.gql_ast.specs.declared.refusal.Refusal.{Refusal}
-use Rattle.gql_change.specs.Conflicts.{neighbours_conflict, conflict_of, or_else}
+use Rattle.std.specs.Option.{option_or}
+use Rattle.gql_change.specs.Conflicts.{neighbours_conflict, conflict_of}
 use Rattle.gql_change.proofs.ConflictLemmas.{seen, seen_at, neighbours_step, neighbours_end}
 use Rattle.gql_change.proofs.conflict.neighbours_conflict.Goals as goal
 
@@ -16,7 +17,7 @@ returns-in-Some c =
     let long : i + 1 < length (seen xs) = omega (arith, length-map xs (λ r. r.now)) in
     let step = neighbours_step (seen xs) i a.now b.now long (seen_at xs i a here c.index-sorted-i.is) (seen_at xs (i + 1) b next c.index-sorted-i-in-loop-i.is) in
     let told : Some c.in-Some.refusal ≡ conflict_of a.now b.now = sym c.in-Some.is ∙ c.in_ok-refusal.ensures in
-    ap (λ (o : Option Refusal). or_else o (neighbours_conflict (drop (i + 1) (seen xs)))) told ∙ sym step ∙ c.loop-i.invariant
+    ap (λ (o : Option Refusal). option_or o (neighbours_conflict (drop (i + 1) (seen xs)))) told ∙ sym step ∙ c.loop-i.invariant
 
 pub loop-i-preserved : goal.loop-i-preserved
 loop-i-preserved c =
@@ -29,7 +30,7 @@ loop-i-preserved c =
     let long : i + 1 < length (seen xs) = omega (arith, length-map xs (λ r. r.now)) in
     let step = neighbours_step (seen xs) i a.now b.now long (seen_at xs i a here c.index-sorted-i.is) (seen_at xs (i + 1) b next c.index-sorted-i-in-loop-i.is) in
     let told : None ≡ conflict_of a.now b.now = sym c.in-None.is ∙ c.in_ok-refusal.ensures in
-    ap (λ (o : Option Refusal). or_else o (neighbours_conflict (drop (i + 1) (seen xs)))) told ∙ sym step ∙ c.loop-i.invariant
+    ap (λ (o : Option Refusal). option_or o (neighbours_conflict (drop (i + 1) (seen xs)))) told ∙ sym step ∙ c.loop-i.invariant
 
 pub returns : goal.returns
 returns c =

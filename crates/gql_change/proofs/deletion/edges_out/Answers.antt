@@ -1,5 +1,5 @@
 use Rattle.std.proofs.Common.{◌≡◌, ◌∷◌, ◌++◌, [], ◌<◌, ◌+◌, ◌-◌, map, reverse, drop, length, get_or, sym, ap, ◌∙◌, arith}
-use Rattle.gql_change.specs.DeletionSteps.{edge_out}
+use Rattle.gql_change.specs.Machinery.DeletionSteps.{edge_out}
 use Rattle.gql_change.proofs.ListSteps.{number_back}
 use Rattle.gql_change.proofs.deletion.edges_out.Goals as goal
 

@@ -1,5 +1,5 @@
 use Rattle.std.proofs.Common.{◌≡◌, map, drop, reverse}
-use Rattle.gql_change.specs.DeletionSteps.{node_out}
+use Rattle.gql_change.specs.Machinery.DeletionSteps.{node_out}
 use Rattle.gql_change.proofs.deletion.nodes_out.Given as goal
 
 abbrev pub invariant-loop-i : goal.invariant-loop-i

@@ -1,5 +1,5 @@
 use Rattle.std.proofs.Common.{◌≡◌, ◌∙◌, ◌∷◌, ◌++◌, [], map, sym}
-use Rattle.gql_change.specs.Roles.{pair_of}
+use Rattle.gql_change.specs.Machinery.Roles.{pair_of}
 use Rattle.gql_change.proofs.FillingLemmas.{one_put, put_all}
 use Rattle.gql_change.proofs.filling.property_set.Goals as goal
 

@@ -1,5 +1,5 @@
 use Rattle.std.proofs.Common.{◌≡◌, map, vec_len}
-use Rattle.gql_change.specs.Roles.{pair_of}
+use Rattle.gql_change.specs.Machinery.Roles.{pair_of}
 use Rattle.gql_change.specs.Storing.{property_set}
 use Rattle.gql_change.proofs.FillingLemmas.{put_among}
 use Rattle.gql_change.proofs.filling.property_set.Given as goal

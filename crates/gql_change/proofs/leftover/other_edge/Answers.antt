@@ -2,7 +2,7 @@ use Rattle.std.proofs.Common.{◌+◌, ◌∙◌, Bool, not, cond, Some, drop, s
 use Rattle.std.specs.Prelude.{find}
 use Rattle.gql_values3.specs.Lookup.{touching_edges}
 use Rattle.gql_values3.specs.declared.element.EdgeId.{EdgeId}
-use Rattle.gql_change.specs.DeletionSteps.{has_number}
+use Rattle.gql_change.specs.Machinery.DeletionSteps.{has_number}
 use Rattle.gql_change.proofs.ListSteps.{item_here, no_item_here, few_touch, none_behind}
 use Rattle.gql_change.proofs.leftover.other_edge.Goals as goal
 

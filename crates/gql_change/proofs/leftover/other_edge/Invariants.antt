@@ -2,7 +2,7 @@ use Rattle.std.proofs.Common.{◌≡◌, not, drop}
 use Rattle.std.specs.Prelude.{find}
 use Rattle.gql_values3.specs.Lookup.{touching_edges}
 use Rattle.gql_values3.specs.declared.element.EdgeId.{EdgeId}
-use Rattle.gql_change.specs.DeletionSteps.{has_number, other_edge}
+use Rattle.gql_change.specs.Machinery.DeletionSteps.{has_number, other_edge}
 use Rattle.gql_change.proofs.leftover.other_edge.Given as goal
 
 abbrev pub invariant-loop-i : goal.invariant-loop-i

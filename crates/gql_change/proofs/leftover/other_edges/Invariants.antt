@@ -1,5 +1,5 @@
 use Rattle.std.proofs.Common.{◌≡◌, drop}
-use Rattle.gql_change.specs.DeletionSteps.{other_edges}
+use Rattle.gql_change.specs.Machinery.DeletionSteps.{other_edges}
 use Rattle.gql_change.proofs.leftover.other_edges.Given as goal
 
 abbrev pub invariant-loop-i : goal.invariant-loop-i

@@ -1,7 +1,7 @@
 use Rattle.std.proofs.Common.{◌≡◌, ◌++◌, map, drop, Ok}
-use Rattle.gql_eval.specs.Next.{next}
+use Rattle.gql_eval.specs.Machinery.Next.{next}
 use Rattle.gql_change.specs.Insertion.{map_values}
-use Rattle.gql_change.specs.Roles.{pair_of}
+use Rattle.gql_change.specs.Machinery.Roles.{pair_of}
 use Rattle.gql_change.proofs.map_values.map_values.Given as goal
 
 abbrev pub invariant-loop-i : goal.invariant-loop-i

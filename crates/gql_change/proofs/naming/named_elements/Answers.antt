@@ -3,7 +3,7 @@ use Rattle.std.specs.List.{flat_map}
 use Rattle.std.proofs.lemmas.Result.{IfOk-weaker}
 use Rattle.gql_values3.specs.declared.element.Elem.{Elem}
 use Rattle.gql_change.specs.Deletion.{named_elements}
-use Rattle.gql_change.specs.DeletionSteps.{row_elements, column_place}
+use Rattle.gql_change.specs.Machinery.DeletionSteps.{row_elements, column_place}
 use Rattle.gql_change.proofs.DeletionLemmas.{named_at_places}
 use Rattle.gql_change.proofs.naming.named_elements.Goals as goal
 

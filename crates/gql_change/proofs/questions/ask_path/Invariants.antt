@@ -1,7 +1,7 @@
 use Rattle.std.proofs.Common.{◌≡◌, ◌++◌, map, drop}
 use Rattle.std.specs.List.{flat_map}
 use Rattle.gql_ast.specs.InsertColumns.{spot_columns, step_spots, path_spots}
-use Rattle.gql_change.specs.Roles.{questions, question_of}
+use Rattle.gql_change.specs.Machinery.Roles.{questions, question_of}
 use Rattle.gql_change.proofs.questions.ask_path.Given as goal
 
 abbrev pub invariant-loop-i : goal.invariant-loop-i

@@ -1,6 +1,6 @@
 use Rattle.std.proofs.Common.{◌≡◌, ◌∙◌, ◌∷◌, ◌+◌, ◌<◌, length, drop, map, arith}
-use Rattle.gql_change.specs.Roles.{question_of}
-use Rattle.gql_change.proofs.StepLemmas.{item_here}
+use Rattle.gql_change.specs.Machinery.Roles.{question_of}
+use Rattle.gql_eval.proofs.EachSteps.{drop_here as item_here}
 use Rattle.gql_change.proofs.QuestionLemmas.{path_asked}
 use Rattle.gql_change.proofs.questions.questions_of.Goals as goal
 

@@ -1,6 +1,6 @@
 use Rattle.std.proofs.Common.{◌≡◌, ◌++◌, map, drop}
 use Rattle.gql_ast.specs.InsertColumns.{insert_spots}
-use Rattle.gql_change.specs.Roles.{questions, question_of}
+use Rattle.gql_change.specs.Machinery.Roles.{questions, question_of}
 use Rattle.gql_change.proofs.questions.questions_of.Given as goal
 
 abbrev pub invariant-loop-i : goal.invariant-loop-i

@@ -1,5 +1,5 @@
 use Rattle.std.proofs.Common.{◌≡◌, true}
-use Rattle.gql_change.specs.Swaps.{all_fit}
+use Rattle.gql_change.specs.Machinery.Swaps.{all_fit}
 use Rattle.gql_change.proofs.FitsLemmas.{set_fits}
 use Rattle.gql_change.proofs.set_clause.plan_set.Goals as goal
 

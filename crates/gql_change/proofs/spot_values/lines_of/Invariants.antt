@@ -1,7 +1,7 @@
 use Rattle.std.proofs.Common.{◌≡◌, ◌++◌, length, map, Ok}
 use Rattle.std.specs.Vec.Iter.{into_iter_items, into_iter_len}
-use Rattle.gql_eval.specs.Next.{next}
-use Rattle.gql_change.specs.Roles.{question_of, lines_of}
+use Rattle.gql_eval.specs.Machinery.Next.{next}
+use Rattle.gql_change.specs.Machinery.Roles.{question_of, lines_of}
 use Rattle.gql_change.proofs.spot_values.lines_of.Given as goal
 
 abbrev pub invariant-loop-row : goal.invariant-loop-row

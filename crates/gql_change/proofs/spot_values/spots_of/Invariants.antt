@@ -1,7 +1,7 @@
 use Rattle.std.proofs.Common.{◌≡◌, ◌++◌, map, drop, Ok}
 use Rattle.gql_ast.specs.Faults.{each}
-use Rattle.gql_eval.specs.Next.{next}
-use Rattle.gql_change.specs.Roles.{question_of, spot_of}
+use Rattle.gql_eval.specs.Machinery.Next.{next}
+use Rattle.gql_change.specs.Machinery.Roles.{question_of, spot_of}
 use Rattle.gql_change.proofs.spot_values.spots_of.Given as goal
 
 abbrev pub invariant-loop-i : goal.invariant-loop-i

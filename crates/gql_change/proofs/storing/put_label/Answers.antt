@@ -1,5 +1,5 @@
 use Rattle.std.proofs.Common.{ℕ, Result, ap, ◌∙◌}
-use Rattle.gql_change.specs.Places.{joined_at}
+use Rattle.gql_change.specs.Machinery.Places.{joined_at}
 use Rattle.gql_change.proofs.PlaceLemmas.{label_joined}
 use Rattle.gql_change.proofs.storing.put_label.Goals as goal
 

@@ -1,5 +1,5 @@
 use Rattle.std.proofs.Common.{ℕ, Result, map, ap, ◌∙◌}
-use Rattle.gql_change.specs.Places.{put_at}
+use Rattle.gql_change.specs.Machinery.Places.{put_at}
 use Rattle.gql_change.proofs.PlaceLemmas.{shown, put_shown}
 use Rattle.gql_change.proofs.storing.put_property.Goals as goal
 

@@ -7,7 +7,7 @@ use Rattle.gql_values3.specs.Meaning.{datum_of}
 use Rattle.gql_values3.specs.Datum.{Datum}
 use Rattle.gql_values3.specs.ValueOrder.{datum_cmp}
 use Rattle.gql_values3.specs.declared.value.Value.{Value}
-use Rattle.gql_eval.specs.Ranked.{ranked_datum}
+use Rattle.gql_eval.specs.Machinery.Ranked.{ranked_datum}
 use Rattle.gql_eval.specs.declared.ranked.Ranked.{Ranked}
 use Rattle.gql_eval.proofs.AggregateLemmas.{news_of_none, distinct_step_new, distinct_step_known, seen_more, not_true, not_false}
 use Rattle.gql_eval.proofs.distinct.distinct_values.Goals.{then-branch+in_ok-push, else-branch}

@@ -7,7 +7,7 @@ use Rattle.gql_values3.specs.Meaning.{datum_of}
 use Rattle.gql_values3.specs.ValueOrder.{datum_cmp}
 use Rattle.gql_values3.specs.declared.value.Value.{Value}
 use Rattle.gql_ast.specs.Aggregates.{distinct}
-use Rattle.gql_eval.specs.Ranked.{ranked_datum}
+use Rattle.gql_eval.specs.Machinery.Ranked.{ranked_datum}
 use Rattle.gql_eval.specs.declared.ranked.Ranked.{Ranked}
 use Rattle.gql_eval.proofs.AggregateLemmas.{news}
 use Rattle.gql_eval.proofs.distinct.distinct_values.Given as goal

@@ -6,14 +6,14 @@ use Rattle.gql_ast.specs.TruthValues.{datum_of_truth}
 use Rattle.gql_values3.specs.declared.truth.Truth.{Truth}
 use Rattle.gql_values3.specs.declared.truth.Truth.TheVariants as truth
 use Rattle.gql_eval.specs.Gives.{Fails}
-use Rattle.gql_eval.specs.Held.{held_datum}
-use Rattle.gql_eval.specs.Next.{next}
+use Rattle.gql_eval.specs.CowValue.{cow_datum}
+use Rattle.gql_eval.specs.Machinery.Next.{next}
 use Rattle.gql_ast.specs.Meaning.{tree_of}
 use Rattle.gql_ast.specs.Scope.{with_item}
 use Rattle.gql_ast.specs.Faults.{each}
 use Rattle.gql_ast.specs.declared.fault.DataFault.{DataFault}
 use Rattle.gql_ast.specs.Evaluation.{value_of, values_of, all_of, group_items}
-use Rattle.gql_eval.specs.ScopeMeaning.{scope_of}
+use Rattle.gql_eval.specs.Machinery.ScopeMeaning.{scope_of}
 use Rattle.gql_eval.proofs.PartLemmas.{height_le-highest, height_lt-highest_link, parts_from, sides_from, parts_step}
 use Rattle.gql_eval.proofs.EvaluationLemmas.{all_of_false, with_values, with_none, with_more, each_from, each_step, aggregate_is, aggregate_then, fails_next, fails_with}
 use Rattle.gql_eval.proofs.OperationLemmas.{operation_value, binary_value}
@@ -87,7 +87,7 @@ over_items-loop-i-preserved g t c =
     let value : Datum → Result Datum DataFault = λ item. value_of (g.V.View.graph c.args.view.now) c.args.params.now (with_item (scope_of c.args.scope.now) c.args.name.now item) (tree_of c.args.part.now) in
     let item = c.index-items-i.result in
     let inner : scope_of c.under-inner.result ≡ with_item (scope_of c.args.scope.now) c.args.name.now (datum_of item) = rw (c.under-inner.ensures, c.as_slice.ensures.value, c.in_ok-front.ensures, c.as_str.ensures) refl in
-    let held : value (datum_of item) ≡ Ok (held_datum c.in_ok-value.value) = rw inner at c.in_ok-value.ensures in
+    let held : value (datum_of item) ≡ Ok (cow_datum c.in_ok-value.value) = rw inner at c.in_ok-value.ensures in
     let given : value (datum_of item) ≡ Ok (datum_of c.in_ok-into_value.field-0) = held ∙ ap Ok (sym c.in_ok-into_value.ensures) in
     let more = each_from value c.args.items.now (c.loop-i.i + 1) in
     rw c.in_ok-push.ensures.ok (with_more c.loop-i.values (value (datum_of item)) (datum_of c.in_ok-into_value.field-0) more given

@@ -8,9 +8,9 @@ use Rattle.gql_ast.specs.Scope.{with_item}
 use Rattle.gql_ast.specs.Tree.{trees_of, links_of, coalesce, sum, conjunction, disjunction}
 use Rattle.gql_ast.specs.TruthValues.{datum_of_truth}
 use Rattle.gql_ast.specs.Evaluation.{value_of, values_of, first_value, chained, all_of, any_of}
-use Rattle.gql_eval.specs.Held.{held_datum}
-use Rattle.gql_eval.specs.Next.{next}
-use Rattle.gql_eval.specs.ScopeMeaning.{scope_of}
+use Rattle.gql_eval.specs.CowValue.{cow_datum}
+use Rattle.gql_eval.specs.Machinery.Next.{next}
+use Rattle.gql_eval.specs.Machinery.ScopeMeaning.{scope_of}
 use Rattle.gql_eval.proofs.PartLemmas.{parts_from, sides_from}
 use Rattle.gql_eval.proofs.EvaluationLemmas.{with_values, each_from}
 use Rattle.gql_eval.proofs.evaluation.+evaluation.Given as goal
@@ -60,9 +60,9 @@ invariant-coalesce-loop-i g l =
 
 abbrev pub invariant-chain-loop-i : goal.invariant-chain-loop-i
 invariant-chain-loop-i g l = record {
-  so_far : chained (g.V.View.graph l.view) l.params (scope_of l.scope) (held_datum l.so_far) (sides_from l.steps l.i)
+  so_far : chained (g.V.View.graph l.view) l.params (scope_of l.scope) (cow_datum l.so_far) (sides_from l.steps l.i)
       ≡ value_of (g.V.View.graph l.view) l.params (scope_of l.scope) (sum (tree_of l.first) (links_of (map link_of l.steps)));
-  within : l.is_joined ≡ true → nat_le (depth (held_datum l.so_far)) 64 ≡ true;
+  within : l.is_joined ≡ true → nat_le (depth (cow_datum l.so_far)) 64 ≡ true;
 }
 
 abbrev pub invariant-all-loop-i : goal.invariant-all-loop-i

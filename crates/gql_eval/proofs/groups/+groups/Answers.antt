@@ -1,6 +1,6 @@
 use Rattle.std.proofs.Common.{arith, ◌<◌, ◌+◌, ◌∙◌, length, ap, sym}
 use Rattle.gql_ast.specs.Scope.{is_group_name}
-use Rattle.gql_eval.specs.ScopeMeaning.{scope_of}
+use Rattle.gql_eval.specs.Machinery.ScopeMeaning.{scope_of}
 use Rattle.gql_eval.proofs.ScopeLemmas.{first}
 use Rattle.gql_eval.proofs.PartLemmas.{height_le-highest, height_lt-highest_link, found_in_parts, found_in_sides, found_in_parts_step, found_in_sides_step}
 use Rattle.gql_eval.proofs.groups.+groups.Goals as goal

@@ -2,7 +2,7 @@ use Rattle.std.proofs.Common.{◌≡◌, map, ◌+◌, ◌*◌}
 use Rattle.gql_ast.specs.Meaning.{tree_of, link_of}
 use Rattle.gql_ast.specs.Machinery.Height.{height_of, highest, highest_link}
 use Rattle.gql_ast.specs.Scope.{is_group_name}
-use Rattle.gql_eval.specs.ScopeMeaning.{scope_of}
+use Rattle.gql_eval.specs.Machinery.ScopeMeaning.{scope_of}
 use Rattle.gql_eval.proofs.PartLemmas.{found_in_parts, found_in_sides}
 use Rattle.gql_eval.proofs.groups.+groups.Given as goal
 

@@ -1,5 +1,5 @@
 use Rattle.std.proofs.Common.{◌∙◌, ◌+◌, ◌<◌, sym, ap, cond, Some, length, arith}
-use Rattle.gql_eval.specs.ScopeMeaning.{item_entry}
+use Rattle.gql_eval.specs.Machinery.ScopeMeaning.{item_entry}
 use Rattle.gql_eval.proofs.ScopeLemmas.{items_from, item_step}
 use Rattle.gql_eval.proofs.scope.item_of.Goals as goal
 

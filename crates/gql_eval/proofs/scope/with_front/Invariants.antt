@@ -1,5 +1,5 @@
 use Rattle.std.proofs.Common.{◌≡◌, ◌∷◌, map, take}
-use Rattle.gql_eval.specs.ScopeMeaning.{item_entry}
+use Rattle.gql_eval.specs.Machinery.ScopeMeaning.{item_entry}
 use Rattle.gql_eval.proofs.scope.with_front.Given as goal
 
 abbrev pub invariant-loop-i : goal.invariant-loop-i

@@ -2,7 +2,7 @@ use Rattle.std.proofs.Common.{◌≡◌, ◌∙◌, map, ap, Some, None, is_some
 use Rattle.gql_values3.specs.Meaning.{datum_of}
 use Rattle.gql_ast.specs.Meaning.{tree_of}
 use Rattle.gql_ast.specs.Scope.{row_scope, group_of}
-use Rattle.gql_eval.specs.ScopeMeaning.{scope_of, rest_of}
+use Rattle.gql_eval.specs.Machinery.ScopeMeaning.{scope_of, rest_of}
 use Rattle.gql_eval.proofs.ScopeLemmas.{append_none}
 use Rattle.gql_table.proofs.ReturnLemmas.{map_long}
 use Rattle.gql_table.proofs.AggregationLemmas.{over_group_is}

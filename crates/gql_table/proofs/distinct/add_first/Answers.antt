@@ -1,5 +1,5 @@
 use Rattle.std.proofs.Common.{◌≡◌, ◌∙◌, sym, length}
-use Rattle.gql_table.specs.Places.{place}
+use Rattle.gql_table.specs.Machinery.Places.{place}
 use Rattle.gql_table.proofs.PlaceLemmas.{added_new, added_known}
 use Rattle.gql_table.proofs.distinct.add_first.Goals as goal
 

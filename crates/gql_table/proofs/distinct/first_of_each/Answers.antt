@@ -1,7 +1,7 @@
 use Rattle.std.proofs.Common.{◌≡◌, ◌∷◌, ◌∙◌, [], drop, sym, ap, length, arith, rules}
 use Rattle.std.specs.Vec.Iter.{into_iter_items}
-use Rattle.gql_table.specs.Places.{place, added, places}
-use Rattle.gql_table.proofs.EachLemmas.{no_items}
+use Rattle.gql_table.specs.Machinery.Places.{place, added, places}
+use Rattle.gql_eval.proofs.EachSteps.{no_items}
 use Rattle.gql_table.proofs.PlaceLemmas.{gathered, gathered_all, length_places, number_here}
 use Rattle.gql_table.proofs.distinct.first_of_each.Goals as goal
 

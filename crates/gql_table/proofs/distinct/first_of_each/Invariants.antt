@@ -1,7 +1,7 @@
 use Rattle.std.proofs.Common.{◌≡◌, ◌+◌, drop, length}
 use Rattle.std.specs.Vec.Iter.{into_iter_items, into_iter_len}
 use Rattle.gql_table.specs.Distinct.{distinct_rows}
-use Rattle.gql_table.specs.Places.{places}
+use Rattle.gql_table.specs.Machinery.Places.{places}
 use Rattle.gql_table.proofs.PlaceLemmas.{gathered}
 use Rattle.gql_table.proofs.distinct.first_of_each.Given as goal
 

@@ -4,9 +4,9 @@ use Rattle.gql_values3.specs.Datum.{Datum}
 use Rattle.gql_ast.specs.Meaning.{tree_of}
 use Rattle.gql_ast.specs.declared.fault.DataFault.{DataFault}
 use Rattle.gql_eval.specs.Gives.{Fails}
-use Rattle.gql_eval.specs.Next.{next}
+use Rattle.gql_eval.specs.Machinery.Next.{next}
 use Rattle.gql_table.specs.Filter.{filter_row, filter_rows, kept_if}
-use Rattle.gql_table.proofs.EachLemmas.{some_step, some_fails, some_end, no_items, fails_first}
+use Rattle.gql_eval.proofs.EachSteps.{some_step, some_fails, some_end, no_items, fails_first}
 use Rattle.gql_table.proofs.filter.filter_table.Goals as goal
 
 pub loop-row-preserved : goal.loop-row-preserved

@@ -5,7 +5,7 @@ use Rattle.gql_ast.specs.Meaning.{tree_of}
 use Rattle.gql_ast.specs.Scope.{row_scope}
 use Rattle.gql_ast.specs.Evaluation.{value_of}
 use Rattle.gql_table.specs.For.{rows_over, item_rows, start_count}
-use Rattle.gql_table.proofs.EachLemmas.{gives_second}
+use Rattle.gql_eval.proofs.EachSteps.{gives_second}
 use Rattle.gql_table.proofs.ForLemmas.{items_back}
 use Rattle.gql_table.proofs.for_clause.rows_of_row.Goals as goal
 

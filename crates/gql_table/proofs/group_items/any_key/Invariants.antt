@@ -1,6 +1,6 @@
 use Rattle.std.proofs.Common.{◌≡◌, map, drop}
-use Rattle.gql_table.specs.GroupPlan.{has_key}
-use Rattle.gql_table.specs.GroupMeaning.{item_meant}
+use Rattle.gql_table.specs.Machinery.GroupPlan.{has_key}
+use Rattle.gql_table.specs.Machinery.GroupMeaning.{item_meant}
 use Rattle.gql_table.proofs.group_items.any_key.Given as goal
 
 abbrev pub invariant-loop-i : goal.invariant-loop-i

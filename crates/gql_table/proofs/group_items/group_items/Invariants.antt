@@ -2,8 +2,8 @@ use Rattle.std.proofs.Common.{◌≡◌, map, take}
 use Rattle.std.specs.Borrow.{Bor}
 use Rattle.gql_ast.specs.Meaning.{tree_of}
 use Rattle.gql_ast.specs.declared.expr.Expr.{Expr}
-use Rattle.gql_table.specs.GroupPlan.{planned}
-use Rattle.gql_table.specs.GroupMeaning.{item_meant}
+use Rattle.gql_table.specs.Machinery.GroupPlan.{planned}
+use Rattle.gql_table.specs.Machinery.GroupMeaning.{item_meant}
 use Rattle.gql_table.proofs.group_items.group_items.Given as goal
 
 abbrev pub invariant-loop-i : goal.invariant-loop-i

@@ -1,7 +1,7 @@
 use Rattle.std.proofs.Common.{◌∷◌, ◌++◌, ◌∙◌, ◌-◌, ◌+◌, ◌<◌, [], sym, ap, arith, append_assoc}
 use Rattle.gql_values3.specs.declared.table.ColumnKind.TheVariants as kind
 use Rattle.gql_ast.specs.RowAggregates.{result_name}
-use Rattle.gql_table.specs.GroupPlan.{names_from}
+use Rattle.gql_table.specs.Machinery.GroupPlan.{names_from}
 use Rattle.gql_table.proofs.GroupSteps.{names_step}
 use Rattle.gql_table.proofs.group_items.result_names.Goals as goal
 

@@ -1,5 +1,5 @@
 use Rattle.std.proofs.Common.{◌≡◌, ◌-◌, ◌++◌}
-use Rattle.gql_table.specs.GroupPlan.{names_from}
+use Rattle.gql_table.specs.Machinery.GroupPlan.{names_from}
 use Rattle.gql_table.proofs.group_items.result_names.Given as goal
 
 abbrev pub invariant-loop-i : goal.invariant-loop-i

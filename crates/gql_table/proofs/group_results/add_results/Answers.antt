@@ -7,11 +7,11 @@ use Rattle.gql_values3.specs.Datum.{is_null}
 use Rattle.gql_values3.specs.declared.value.Value.{Value}
 use Rattle.gql_ast.specs.Aggregates.{considered, aggregated}
 use Rattle.gql_eval.specs.Gives.{Fails}
-use Rattle.gql_eval.specs.Next.{next}
-use Rattle.gql_table.specs.Tables.{RowList}
+use Rattle.gql_eval.specs.Machinery.Next.{next}
+use Rattle.gql_eval.specs.RowLists.{RowList}
 use Rattle.gql_table.specs.Grouping.{results}
-use Rattle.gql_table.specs.AggregateMeaning.{aggregate_meant}
-use Rattle.gql_table.proofs.EachLemmas.{drop_here}
+use Rattle.gql_table.specs.Machinery.AggregateMeaning.{aggregate_meant}
+use Rattle.gql_eval.proofs.EachSteps.{drop_here}
 use Rattle.gql_table.proofs.ResultLemmas.{considered_same}
 use Rattle.gql_table.proofs.GroupSteps.{results_step, results_fail}
 use Rattle.gql_table.proofs.group_results.add_results.Goals as goal

@@ -1,8 +1,8 @@
 use Rattle.std.proofs.Common.{◌≡◌, ◌++◌, List, map, drop, length, Ok}
 use Rattle.std.specs.Borrow.{Bor}
 use Rattle.gql_values3.specs.Datum.{Datum}
-use Rattle.gql_eval.specs.Next.{next}
-use Rattle.gql_table.specs.AggregateMeaning.{aggregate_meant}
+use Rattle.gql_eval.specs.Machinery.Next.{next}
+use Rattle.gql_table.specs.Machinery.AggregateMeaning.{aggregate_meant}
 use Rattle.gql_table.specs.Grouping.{results}
 use Rattle.gql_table.proofs.group_results.add_results.Given as goal
 

@@ -1,8 +1,8 @@
 use Rattle.std.proofs.Common.{◌≡◌, [], List, map, drop}
 use Rattle.std.specs.Borrow.{Bor}
 use Rattle.gql_values3.specs.Datum.{Datum}
-use Rattle.gql_table.specs.GroupPlan.{results_behind}
-use Rattle.gql_table.specs.GroupMeaning.{item_meant}
+use Rattle.gql_table.specs.Machinery.GroupPlan.{results_behind}
+use Rattle.gql_table.specs.Machinery.GroupMeaning.{item_meant}
 use Rattle.gql_table.proofs.group_results.group_results.Given as goal
 
 abbrev pub invariant-loop-i : goal.invariant-loop-i

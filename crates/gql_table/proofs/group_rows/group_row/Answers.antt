@@ -2,9 +2,9 @@ use Rattle.std.proofs.Common.{◌∙◌, zero-add, List, map, length, sym, ap, [
 use Rattle.std.specs.Borrow.{Bor}
 use Rattle.gql_values3.specs.Datum.{Datum}
 use Rattle.gql_values3.specs.Meaning.{datum_of}
-use Rattle.gql_table.specs.Tables.{RowList}
-use Rattle.gql_table.specs.GroupMeaning.{item_meant}
-use Rattle.gql_table.specs.GroupPlan.{result_count}
+use Rattle.gql_eval.specs.RowLists.{RowList}
+use Rattle.gql_table.specs.Machinery.GroupMeaning.{item_meant}
+use Rattle.gql_table.specs.Machinery.GroupPlan.{result_count}
 use Rattle.gql_table.proofs.ReturnLemmas.{map_long}
 use Rattle.gql_table.proofs.ResultLemmas.{behind_long}
 use Rattle.gql_table.proofs.group_rows.group_row.Goals as goal

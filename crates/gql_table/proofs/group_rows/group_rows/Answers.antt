@@ -3,9 +3,9 @@ use Rattle.gql_values3.specs.Datum.{Datum}
 use Rattle.gql_ast.specs.Faults.{each}
 use Rattle.gql_ast.specs.declared.fault.DataFault.{DataFault}
 use Rattle.gql_eval.specs.Gives.{Fails}
-use Rattle.gql_table.specs.GroupPlan.{Gathered, row_of_group}
-use Rattle.gql_table.specs.GroupMeaning.{item_meant, group_meant}
-use Rattle.gql_table.proofs.EachLemmas.{each_step, each_fails, drop_here}
+use Rattle.gql_table.specs.Machinery.GroupPlan.{Gathered, row_of_group}
+use Rattle.gql_table.specs.Machinery.GroupMeaning.{item_meant, group_meant}
+use Rattle.gql_eval.proofs.EachSteps.{each_step, each_fails, drop_here}
 use Rattle.gql_table.proofs.group_rows.group_rows.Goals as goal
 
 pub returns-in_err-group_row : goal.returns-in_err-group_row

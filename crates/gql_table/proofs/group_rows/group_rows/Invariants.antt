@@ -1,8 +1,8 @@
 use Rattle.std.proofs.Common.{◌≡◌, ◌++◌, map, drop, Ok}
 use Rattle.gql_ast.specs.Faults.{each}
-use Rattle.gql_eval.specs.Next.{next}
-use Rattle.gql_table.specs.GroupPlan.{row_of_group}
-use Rattle.gql_table.specs.GroupMeaning.{item_meant, group_meant}
+use Rattle.gql_eval.specs.Machinery.Next.{next}
+use Rattle.gql_table.specs.Machinery.GroupPlan.{row_of_group}
+use Rattle.gql_table.specs.Machinery.GroupMeaning.{item_meant, group_meant}
 use Rattle.gql_table.proofs.group_rows.group_rows.Given as goal
 
 abbrev pub invariant-loop-i : goal.invariant-loop-i

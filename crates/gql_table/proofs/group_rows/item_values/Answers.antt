@@ -6,10 +6,10 @@ use Rattle.gql_ast.specs.Scope.{row_scope}
 use Rattle.gql_ast.specs.Evaluation.{value_of}
 use Rattle.gql_ast.specs.Projections.{has_none}
 use Rattle.gql_eval.specs.Gives.{Fails}
-use Rattle.gql_table.specs.AggregateMeaning.{aggregate_meant}
-use Rattle.gql_table.specs.GroupPlan.{ItemPlan, values_in_group, result_count}
-use Rattle.gql_table.specs.GroupMeaning.{item_meant}
-use Rattle.gql_table.proofs.EachLemmas.{drop_here}
+use Rattle.gql_table.specs.Machinery.AggregateMeaning.{aggregate_meant}
+use Rattle.gql_table.specs.Machinery.GroupPlan.{ItemPlan, values_in_group, result_count}
+use Rattle.gql_table.specs.Machinery.GroupMeaning.{item_meant}
+use Rattle.gql_eval.proofs.EachSteps.{drop_here}
 use Rattle.gql_table.proofs.ReturnLemmas.{map_long}
 use Rattle.gql_table.proofs.GroupSteps.{key_value_step, whole_step, whole_fails, part_is, none_left}
 use Rattle.gql_table.proofs.group_rows.item_values.Goals.{then-is_key+in_ok-key_value+in_ok-push, else-is_key+in_ok-cell+in_ok-push-2}

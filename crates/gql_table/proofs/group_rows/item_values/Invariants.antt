@@ -1,8 +1,8 @@
 use Rattle.std.proofs.Common.{◌≡◌, ◌≤◌, ◌+◌, ◌++◌, map, drop, length, Ok}
 use Rattle.gql_values3.specs.Meaning.{datum_of}
-use Rattle.gql_eval.specs.Next.{next}
-use Rattle.gql_table.specs.GroupPlan.{values_in_group, result_count}
-use Rattle.gql_table.specs.GroupMeaning.{item_meant}
+use Rattle.gql_eval.specs.Machinery.Next.{next}
+use Rattle.gql_table.specs.Machinery.GroupPlan.{values_in_group, result_count}
+use Rattle.gql_table.specs.Machinery.GroupMeaning.{item_meant}
 use Rattle.gql_table.proofs.group_rows.item_values.Given as goal
 
 abbrev pub invariant-loop-i : goal.invariant-loop-i

@@ -6,12 +6,12 @@ use Rattle.gql_ast.specs.Faults.{each}
 use Rattle.gql_ast.specs.declared.expr.Expr.{Expr}
 use Rattle.gql_ast.specs.declared.fault.DataFault.{DataFault}
 use Rattle.gql_eval.specs.Gives.{Gives, Fails}
-use Rattle.gql_eval.specs.Next.{next}
-use Rattle.gql_table.specs.Tables.{RowList}
+use Rattle.gql_eval.specs.Machinery.Next.{next}
+use Rattle.gql_eval.specs.RowLists.{RowList}
 use Rattle.gql_table.specs.Grouping.{grouped_rows}
-use Rattle.gql_table.specs.GroupPlan.{ItemPlan, Gathered, has_key, all_groups, rows_kept_behind, row_of_group, rows_of_groups}
-use Rattle.gql_table.specs.GroupMeaning.{item_meant, group_meant}
-use Rattle.gql_table.proofs.EachLemmas.{fails_first}
+use Rattle.gql_table.specs.Machinery.GroupPlan.{ItemPlan, Gathered, has_key, all_groups, rows_kept_behind, row_of_group, rows_of_groups}
+use Rattle.gql_table.specs.Machinery.GroupMeaning.{item_meant, group_meant}
+use Rattle.gql_eval.proofs.EachSteps.{fails_first}
 use Rattle.gql_table.proofs.NoteLemmas.{plans}
 use Rattle.gql_table.proofs.GroupSteps.{both_long}
 use Rattle.gql_table.proofs.GroupedLemmas.{grouped_is}

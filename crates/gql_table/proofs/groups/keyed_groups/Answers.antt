@@ -1,9 +1,9 @@
 use Rattle.std.proofs.Common.{◌≡◌, ◌∷◌, ◌∙◌, ◌<◌, ◌+◌, [], List, map, length, drop, sym, ap, arith}
 use Rattle.gql_values3.specs.Datum.{Datum}
-use Rattle.gql_table.specs.Places.{place, added, places}
-use Rattle.gql_table.specs.GroupPlan.{Gathered, gathered_rows}
-use Rattle.gql_table.specs.GroupMeaning.{group_meant}
-use Rattle.gql_table.proofs.EachLemmas.{drop_here}
+use Rattle.gql_table.specs.Machinery.Places.{place, added, places}
+use Rattle.gql_table.specs.Machinery.GroupPlan.{Gathered, gathered_rows}
+use Rattle.gql_table.specs.Machinery.GroupMeaning.{group_meant}
+use Rattle.gql_eval.proofs.EachSteps.{drop_here}
 use Rattle.gql_table.proofs.PlaceLemmas.{length_places, number_here}
 use Rattle.gql_table.proofs.GatherLemmas.{keys_of, keys_joined}
 use Rattle.gql_table.proofs.groups.keyed_groups.Goals as goal

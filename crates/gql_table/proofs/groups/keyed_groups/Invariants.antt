@@ -1,7 +1,7 @@
 use Rattle.std.proofs.Common.{◌≡◌, [], map, drop}
-use Rattle.gql_table.specs.Places.{places}
-use Rattle.gql_table.specs.GroupPlan.{gathered_rows}
-use Rattle.gql_table.specs.GroupMeaning.{group_meant}
+use Rattle.gql_table.specs.Machinery.Places.{places}
+use Rattle.gql_table.specs.Machinery.GroupPlan.{gathered_rows}
+use Rattle.gql_table.specs.Machinery.GroupMeaning.{group_meant}
 use Rattle.gql_table.proofs.GatherLemmas.{keys_of}
 use Rattle.gql_table.proofs.groups.keyed_groups.Given as goal
 

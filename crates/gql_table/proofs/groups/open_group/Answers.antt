@@ -2,9 +2,9 @@ use Rattle.std.proofs.Common.{◌≡◌, ◌∷◌, ◌++◌, ◌∙◌, [], Lis
 use Rattle.std.proofs.lemmas.List.{map_push}
 use Rattle.std.specs.Borrow.{Bor}
 use Rattle.gql_values3.specs.Datum.{Datum}
-use Rattle.gql_table.specs.Places.{place}
-use Rattle.gql_table.specs.GroupPlan.{Gathered}
-use Rattle.gql_table.specs.GroupMeaning.{group_meant}
+use Rattle.gql_table.specs.Machinery.Places.{place}
+use Rattle.gql_table.specs.Machinery.GroupPlan.{Gathered}
+use Rattle.gql_table.specs.Machinery.GroupMeaning.{group_meant}
 use Rattle.gql_table.specs.declared.groups.Group.{Group}
 use Rattle.gql_table.proofs.ReturnLemmas.{map_long}
 use Rattle.gql_table.proofs.GatherLemmas.{keys_of, opened_new, opened_there}

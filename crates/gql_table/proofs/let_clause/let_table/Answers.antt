@@ -5,7 +5,7 @@ use Rattle.gql_ast.specs.declared.fault.DataFault.{DataFault}
 use Rattle.gql_eval.specs.Gives.{Fails}
 use Rattle.gql_table.specs.Let.{let_row, let_rows}
 use Rattle.gql_ast.specs.ClauseColumns.{let_columns}
-use Rattle.gql_table.proofs.EachLemmas.{each_step, each_fails, each_end, no_items}
+use Rattle.gql_eval.proofs.EachSteps.{each_step, each_fails, each_end, no_items}
 use Rattle.gql_table.proofs.LetLemmas.{let_length, let_before}
 use Rattle.gql_table.proofs.let_clause.let_table.Goals as goal
 

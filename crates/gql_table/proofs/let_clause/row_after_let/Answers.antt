@@ -4,7 +4,7 @@ use Rattle.gql_ast.specs.Meaning.{tree_of}
 use Rattle.gql_ast.specs.Scope.{row_scope}
 use Rattle.gql_ast.specs.Evaluation.{value_of}
 use Rattle.gql_ast.specs.ClauseColumns.{let_columns}
-use Rattle.gql_table.proofs.EachLemmas.{drop_here}
+use Rattle.gql_eval.proofs.EachSteps.{drop_here}
 use Rattle.gql_table.proofs.LetLemmas.{grown, let_next, let_row_step}
 use Rattle.gql_table.proofs.let_clause.row_after_let.Goals as goal
 

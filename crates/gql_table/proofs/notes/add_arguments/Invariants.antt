@@ -3,8 +3,8 @@ use Rattle.gql_ast.specs.Scope.{row_scope}
 use Rattle.gql_ast.specs.Faults.{each}
 use Rattle.gql_ast.specs.Evaluation.{value_of}
 use Rattle.gql_ast.specs.RowAggregates.{RowAggregate}
-use Rattle.gql_eval.specs.Next.{next}
-use Rattle.gql_table.specs.AggregateMeaning.{aggregate_meant}
+use Rattle.gql_eval.specs.Machinery.Next.{next}
+use Rattle.gql_table.specs.Machinery.AggregateMeaning.{aggregate_meant}
 use Rattle.gql_table.proofs.notes.add_arguments.Given as goal
 
 abbrev pub invariant-loop-i : goal.invariant-loop-i

@@ -6,9 +6,9 @@ use Rattle.gql_ast.specs.Scope.{row_scope}
 use Rattle.gql_ast.specs.Evaluation.{value_of}
 use Rattle.gql_ast.specs.Projections.{has_none}
 use Rattle.gql_eval.specs.Gives.{Fails}
-use Rattle.gql_table.specs.GroupPlan.{ItemPlan, kept_behind}
-use Rattle.gql_table.specs.GroupMeaning.{item_meant}
-use Rattle.gql_table.proofs.EachLemmas.{drop_here}
+use Rattle.gql_table.specs.Machinery.GroupPlan.{ItemPlan, kept_behind}
+use Rattle.gql_table.specs.Machinery.GroupMeaning.{item_meant}
+use Rattle.gql_eval.proofs.EachSteps.{drop_here}
 use Rattle.gql_table.proofs.GroupSteps.{key_step, arguments_step, arguments_fail}
 use Rattle.gql_table.proofs.notes.noted_row.Goals.{then-is_key+in_ok-key+in_ok-push, else-is_key+in_ok-add_arguments}
 use Rattle.gql_table.proofs.notes.noted_row.Goals as goal

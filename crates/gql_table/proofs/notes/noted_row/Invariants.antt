@@ -1,6 +1,6 @@
 use Rattle.std.proofs.Common.{◌≡◌, [], map, drop}
-use Rattle.gql_table.specs.GroupPlan.{kept_behind}
-use Rattle.gql_table.specs.GroupMeaning.{item_meant}
+use Rattle.gql_table.specs.Machinery.GroupPlan.{kept_behind}
+use Rattle.gql_table.specs.Machinery.GroupMeaning.{item_meant}
 use Rattle.gql_table.proofs.notes.noted_row.Given as goal
 
 abbrev pub invariant-loop-i : goal.invariant-loop-i

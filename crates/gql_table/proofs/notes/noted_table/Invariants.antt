@@ -1,7 +1,7 @@
 use Rattle.std.proofs.Common.{◌≡◌, [], map, length}
 use Rattle.std.specs.Vec.Iter.{into_iter_items, into_iter_len}
-use Rattle.gql_table.specs.GroupPlan.{rows_kept_behind}
-use Rattle.gql_table.specs.GroupMeaning.{item_meant}
+use Rattle.gql_table.specs.Machinery.GroupPlan.{rows_kept_behind}
+use Rattle.gql_table.specs.Machinery.GroupMeaning.{item_meant}
 use Rattle.gql_table.proofs.notes.noted_table.Given as goal
 
 abbrev pub invariant-loop-row : goal.invariant-loop-row

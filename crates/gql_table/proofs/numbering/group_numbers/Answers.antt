@@ -1,8 +1,8 @@
 use Rattle.std.proofs.Common.{◌≡◌, ◌∷◌, ◌++◌, ◌∙◌, ◌+◌, ◌<◌, [], List, map, drop, sym, ap, refl, length, arith, append_assoc}
 use Rattle.std.specs.Borrow.{Bor}
 use Rattle.gql_values3.specs.Datum.{Datum}
-use Rattle.gql_table.specs.Places.{place, added, places}
-use Rattle.gql_table.proofs.EachLemmas.{drop_here}
+use Rattle.gql_table.specs.Machinery.Places.{place, added, places}
+use Rattle.gql_eval.proofs.EachSteps.{drop_here}
 use Rattle.gql_table.proofs.numbering.group_numbers.Goals as goal
 
 pub loop-i-init : goal.loop-i-init

@@ -2,8 +2,8 @@ use Rattle.std.proofs.Common.{◌≡◌, ◌∷◌, ◌++◌, ◌∙◌, [], Lis
 use Rattle.std.proofs.lemmas.List.{map_push}
 use Rattle.std.specs.Borrow.{Bor}
 use Rattle.gql_values3.specs.Datum.{Datum}
-use Rattle.gql_table.specs.Places.{found_place}
-use Rattle.gql_table.specs.Ranked.{ranked_row}
+use Rattle.gql_table.specs.Machinery.Places.{found_place}
+use Rattle.gql_table.specs.Machinery.Ranked.{ranked_row}
 use Rattle.gql_table.specs.declared.ranked.Ranked.{Ranked}
 use Rattle.gql_table.proofs.ReturnLemmas.{map_long}
 use Rattle.gql_table.proofs.RowOrder.{same_row_is}

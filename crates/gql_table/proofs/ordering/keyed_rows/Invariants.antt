@@ -1,9 +1,9 @@
 use Rattle.std.proofs.Common.{◌≡◌, ◌++◌, map, length, Ok}
 use Rattle.std.specs.Vec.Iter.{into_iter_items, into_iter_len}
 use Rattle.gql_ast.specs.Faults.{each}
-use Rattle.gql_eval.specs.Next.{next}
+use Rattle.gql_eval.specs.Machinery.Next.{next}
 use Rattle.gql_table.specs.Paging.{keyed}
-use Rattle.gql_table.specs.Width.{seen}
+use Rattle.gql_table.specs.Machinery.Width.{seen}
 use Rattle.gql_table.proofs.ordering.keyed_rows.Given as goal
 
 abbrev pub invariant-loop-row : goal.invariant-loop-row

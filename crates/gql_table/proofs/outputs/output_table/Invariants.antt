@@ -3,7 +3,7 @@ use Rattle.std.specs.Vec.Iter.{into_iter_items, into_iter_len}
 use Rattle.gql_ast.specs.Meaning.{tree_of}
 use Rattle.gql_ast.specs.Faults.{each}
 use Rattle.gql_ast.specs.declared.projection.ReturnItem.{ReturnItem}
-use Rattle.gql_eval.specs.Next.{next}
+use Rattle.gql_eval.specs.Machinery.Next.{next}
 use Rattle.gql_table.specs.Projection.{output_row}
 use Rattle.gql_table.proofs.outputs.output_table.Given as goal
 

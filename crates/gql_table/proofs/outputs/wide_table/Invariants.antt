@@ -4,7 +4,7 @@ use Rattle.gql_values3.specs.Datum.{Datum}
 use Rattle.gql_ast.specs.Meaning.{tree_of}
 use Rattle.gql_ast.specs.Faults.{each}
 use Rattle.gql_ast.specs.declared.projection.ReturnItem.{ReturnItem}
-use Rattle.gql_eval.specs.Next.{next}
+use Rattle.gql_eval.specs.Machinery.Next.{next}
 use Rattle.gql_table.specs.Projection.{output_row}
 use Rattle.gql_table.proofs.outputs.wide_table.Given as goal
 

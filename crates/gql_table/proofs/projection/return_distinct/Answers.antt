@@ -2,8 +2,8 @@ use Rattle.std.proofs.Common.{◌≡◌, List, map, sym, subst, rules, Result, O
 use Rattle.std.specs.Option.{option_copied}
 use Rattle.gql_ast.specs.declared.fault.DataFault.{DataFault}
 use Rattle.gql_eval.specs.Gives.{Gives, Fails}
-use Rattle.gql_eval.specs.Next.{next}
-use Rattle.gql_table.specs.Tables.{RowList}
+use Rattle.gql_eval.specs.Machinery.Next.{next}
+use Rattle.gql_eval.specs.RowLists.{RowList}
 use Rattle.gql_table.specs.Distinct.{distinct_rows}
 use Rattle.gql_table.specs.Paging.{Sortable, paged}
 use Rattle.gql_table.specs.Projection.{row_outputs, distinct_outputs, all_alone}

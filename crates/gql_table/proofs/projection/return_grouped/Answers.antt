@@ -2,7 +2,7 @@ use Rattle.std.proofs.Common.{◌≡◌, sym, subst, Result}
 use Rattle.gql_ast.specs.Projections.{output_columns}
 use Rattle.gql_ast.specs.declared.fault.DataFault.{DataFault}
 use Rattle.gql_eval.specs.Gives.{Gives}
-use Rattle.gql_table.specs.Tables.{RowList}
+use Rattle.gql_eval.specs.RowLists.{RowList}
 use Rattle.gql_table.specs.Distinct.{left_of}
 use Rattle.gql_table.specs.Paging.{paged}
 use Rattle.gql_table.specs.Projection.{all_alone, returned_rows}

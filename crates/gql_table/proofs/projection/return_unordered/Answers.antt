@@ -7,12 +7,12 @@ use Rattle.gql_ast.specs.declared.fault.DataFault.{DataFault}
 use Rattle.gql_ast.specs.declared.projection.ReturnItem.{ReturnItem}
 use Rattle.gql_ast.specs.declared.projection.ReturnItems.TheVariants.{Listed}
 use Rattle.gql_eval.specs.Gives.{Gives, Fails}
-use Rattle.gql_eval.specs.Next.{next}
-use Rattle.gql_table.specs.Tables.{RowList}
+use Rattle.gql_eval.specs.Machinery.Next.{next}
+use Rattle.gql_eval.specs.RowLists.{RowList}
 use Rattle.gql_table.specs.Paging.{cut, paged}
-use Rattle.gql_table.specs.Width.{seen}
+use Rattle.gql_table.specs.Machinery.Width.{seen}
 use Rattle.gql_table.specs.Projection.{row_outputs, output_row, with_incoming}
-use Rattle.gql_table.proofs.EachLemmas.{fails_first}
+use Rattle.gql_eval.proofs.EachSteps.{fails_first}
 use Rattle.gql_table.proofs.ReturnLemmas.{firsts, firsts_alone}
 use Rattle.gql_table.proofs.projection.return_unordered.Goals as goal
 

@@ -1,7 +1,7 @@
 use Rattle.std.proofs.Common.{◌≡◌, map, ◌+◌, ◌*◌}
 use Rattle.gql_ast.specs.Meaning.{tree_of, link_of}
 use Rattle.gql_ast.specs.Machinery.Height.{height_of, highest, highest_link}
-use Rattle.gql_table.specs.AggregateMeaning.{aggregate_meant}
+use Rattle.gql_table.specs.Machinery.AggregateMeaning.{aggregate_meant}
 use Rattle.gql_table.proofs.AroundLemmas.{found_parts, found_sides}
 use Rattle.gql_table.proofs.row_aggregates.+row_aggregates.Given as goal
 

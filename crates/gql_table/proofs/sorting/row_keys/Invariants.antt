@@ -4,7 +4,7 @@ use Rattle.gql_ast.specs.Scope.{row_scope}
 use Rattle.gql_ast.specs.Faults.{each}
 use Rattle.gql_ast.specs.Evaluation.{value_of}
 use Rattle.gql_ast.specs.declared.page.SortItem.{SortItem}
-use Rattle.gql_eval.specs.Next.{next}
+use Rattle.gql_eval.specs.Machinery.Next.{next}
 use Rattle.gql_table.proofs.sorting.row_keys.Given as goal
 
 abbrev pub invariant-loop-i : goal.invariant-loop-i

@@ -3,7 +3,7 @@ use Rattle.std.specs.Ordering.{is_lt}
 use Rattle.std.proofs.lemmas.Fn.{always_returns_same}
 use Rattle.gql_values3.specs.Datum.{Datum}
 use Rattle.gql_table.specs.Sorting.{keys_cmp}
-use Rattle.gql_table.proofs.SortLemmas.{is_sorted}
+use Rattle.gql_eval.proofs.StableSort.{is_sorted}
 use Rattle.gql_table.proofs.KeyLemmas.{keyed_order}
 use Rattle.gql_table.proofs.sorting.sort_keyed.Goals as goal
 

@@ -1,0 +1,7 @@
+use Rattle.std.proofs.Common.{◌≡◌, take}
+use Rattle.std.specs.List.{flat_map}
+use Rattle.gql_change.specs.Machinery.DeletionSteps.{edge_there}
+use Rattle.gql_change.proofs.deleted_numbers.edges_there.Given as goal
+
+abbrev pub invariant-loop-elem : goal.invariant-loop-elem
+invariant-loop-elem g l = l.edges.items ≡ flat_map (edge_there (g.V.View.graph l.view)) (take l.elem-index l.named)

@@ -1,0 +1,9 @@
+-- What mirrors the code for its proofs: what its structs mean, and words for a step's clause. A reader of the promises may skip it.
+pub mod Next
+pub mod ScopeMeaning
+pub mod Places
+pub mod Operations
+pub mod JoinedTruth
+pub mod Kept
+pub mod WholeSum
+pub mod Ranked
