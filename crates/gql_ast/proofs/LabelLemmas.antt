@@ -1,6 +1,6 @@
 -- Two label expressions of one meaning are one: what means a tree can be read off from the tree.
 use Rattle.std.proofs.Common.{◌≡◌, List, [], ◌∷◌, refl, ap, sym, ◌∙◌}
-use Rattle.gql_ast.specs.Label.{Label, labels_listed, items_of_labels, name, wildcard, paren, negation, conjunction, disjunction}
+use Rattle.gql_ast.specs.Label.{Label, labels_listed, items_of_labels}
 use Rattle.gql_ast.specs.LabelMeaning.{label_of, label_expr_of}
 use Rattle.gql_ast.specs.declared.label.LabelExpr.{LabelExpr}
 use Rattle.gql_ast.specs.declared.label.LabelExpr.TheVariants as label

@@ -1,11 +1,11 @@
 -- Two expressions of one meaning are one expression: what means a tree can be read off from the tree.
 use Rattle.std.proofs.Common.{◌≡◌, List, [], ◌∷◌, refl, ap, sym, ◌∙◌}
-use Rattle.gql_values3.specs.Datum.{Datum, data_of, items_of, null, boolean, integer, text, list, node, edge, path}
+use Rattle.gql_values3.specs.Datum.{Datum, data_of, items_of}
 use Rattle.gql_values3.specs.Meaning.{datum_of, as_value}
 use Rattle.gql_values3.specs.declared.value.Value.{Value}
 use Rattle.gql_values3.specs.declared.value.Value.TheVariants as value
 use Rattle.gql_ast.proofs.LabelLemmas.{label_expr_of-label_of}
-use Rattle.gql_ast.specs.Tree.{Tree, Link, trees_of, links_of, items_of_trees, items_of_links, constant, unknown, number, parameter, name, property, paren, listing, count_all, aggregate, call, modulo, coalesce, signed, product, sum, comparing, test, label_test, end_test, negation, conjunction, disjunction}
+use Rattle.gql_ast.specs.Tree.{Tree, Link, trees_of, links_of, items_of_trees, items_of_links}
 use Rattle.gql_ast.specs.Meaning.{tree_of, expr_of}
 use Rattle.gql_ast.specs.declared.expr.Expr.{Expr}
 use Rattle.gql_ast.specs.declared.expr.Expr.TheVariants as expr
