@@ -1,5 +1,5 @@
 ghost use Rattle.std.specs.Prelude.{◌≡◌, count_by};
-ghost use Rattle.gql_graph.specs.Made.{adds_node, adds_edge};
+ghost use Rattle.gql_graph.specs.Machinery.AfterChange.{adds_node, adds_edge};
 
 use crate::change::{Change, Changes};
 use crate::edit::Edit;
@@ -11,6 +11,8 @@ impl Edit for Graph {
     ghost use Rattle.gql_graph.specs.Room.{has_room};
 
     ghost has_room = { has_room };
+
+    fn holds_itself(&self) {}
 
     fn make_room(&mut self, _alloc: Global, changes: &Changes) -> Result<(), OutOfMemory> {
         self.nodes.reserve(new_nodes(changes.as_slice()))?;

@@ -6,7 +6,7 @@
 #![tactic(auto)]
 
 mod bytes;
-pub mod fault;
+mod fault;
 mod form;
 mod labels;
 mod misread;
