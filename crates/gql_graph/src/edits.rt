@@ -12,7 +12,10 @@ impl Edit for Graph {
 
     ghost has_room = { has_room };
 
-    fn holds_itself(&self) {}
+    fn holds_itself(&self) {
+        // No list is longer than its capacity; the proof reads this off the lists' type.
+        let _lengths = (self.nodes.len(), self.edges.len());
+    }
 
     fn make_room(&mut self, _alloc: Global, changes: &Changes) -> Result<(), OutOfMemory> {
         self.nodes.reserve(new_nodes(changes.as_slice()))?;

@@ -4,11 +4,10 @@ mod mem_keeper;
 mod mem_sink;
 mod mem_source;
 
+use gql_values3::Numbers;
 pub use mem_keeper::MemKeeper;
 pub use mem_sink::MemSink;
 pub use mem_source::MemSource;
-
-use gql_values3::Numbers;
 
 /// Counts a call, and answers whether its number, from 1, is one of those that fail; then it counts a fault too.
 fn fails_now(fails: &Numbers, calls: &mut u64, faults: &mut u64) -> bool

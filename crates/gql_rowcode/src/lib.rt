@@ -16,6 +16,3 @@ mod subject;
 
 pub use fault::ReadFault;
 pub use reading::read;
-
-#[cfg(test)]
-mod tests;
