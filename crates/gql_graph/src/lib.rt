@@ -22,8 +22,6 @@ mod node_steps;
 mod numbers;
 mod records;
 mod storable;
-#[cfg(test)]
-mod tests;
 mod type_copies;
 mod view;
 
