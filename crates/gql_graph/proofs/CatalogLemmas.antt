@@ -12,7 +12,7 @@ use Rattle.gql_values3.specs.Texts.{same_text, ascend_above, texts_ascend}
 use Rattle.std.proofs.lemmas.Grind.{common_steps}
 use Rattle.std.proofs.lemmas.Bool.Decides.{nat_tests}
 use Rattle.gql_values3.specs.PropertyGraph.{PropertyGraph, is_graph}
-use Rattle.gql_graph.specs.Catalog.{CatalogGraph, is_untyped, are_none, is_sound, replaced}
+use Rattle.gql_graph.specs.Catalog.{CatalogGraph, is_catalog, replaced}
 use Rattle.gql_graph.specs.Room.{GraphInMemory}
 use Rattle.gql_graph.specs.Bare.{bare}
 use Rattle.gql_graph.specs.declared.graph_type.GraphType.{GraphType}
@@ -48,9 +48,9 @@ put name graph gs = (replaced name graph (record { graphs = gs; types = [] })).g
 abbrev pub names : {A : Type 0} → List (List ℕ × A) → List (List ℕ)
 names {A} gs = map (λ (g : List ℕ × A). g.0) gs
 
--- what is said of each graph of a sound catalog
-abbrev pub is_held : List ℕ × CatalogGraph → Bool
-is_held g = is_graph g.1.graph && is_untyped g.1
+-- a graph of a catalog is one
+abbrev pub is_one : List ℕ × CatalogGraph → Bool
+is_one g = is_graph g.1.graph
 
 -- what is found behind the first item is found one place later
 behind_first : {A : Type 0} (p : A → Bool) (a : A) (xs : List A) → p a ≡ false → position_or_len p (a ∷ xs) ≡ suc (position_or_len p xs)
@@ -127,22 +127,22 @@ module _ (name : List ℕ) (graph : PropertyGraph) where
   names-put [] = refl
   names-put (g ∷ gs) = grind (arith, common_steps, names-put gs)
 
-  graphs-put : is_graph graph ≡ true → (gs : List (List ℕ × CatalogGraph)) → list_all is_held gs ≡ true → list_all is_held (put name graph gs) ≡ true
+  graphs-put : is_graph graph ≡ true → (gs : List (List ℕ × CatalogGraph)) → list_all is_one gs ≡ true → list_all is_one (put name graph gs) ≡ true
   graphs-put one [] all = refl
   graphs-put one (g ∷ gs) all =
-      let rest = graphs-put one gs (second_true (is_held g) _ all) in
-      put_one (same_text name g.0) g one (first_true (is_held g) _ all) rest
+      let rest = graphs-put one gs (second_true (is_one g) _ all) in
+      put_one (same_text name g.0) g one (first_true (is_one g) _ all) rest
     where
-      put_one : (b : Bool) (g : List ℕ × CatalogGraph) → is_graph graph ≡ true → is_held g ≡ true → {r : Bool} → r ≡ true → (is_held (cond b (g.0, record { graph = graph; kind = g.1.kind }) g) && r) ≡ true
-      put_one true g one old rest = let free : is_untyped g.1 ≡ true = second_true (is_graph g.1.graph) _ old in cc
+      put_one : (b : Bool) (g : List ℕ × CatalogGraph) → is_graph graph ≡ true → is_one g ≡ true → {r : Bool} → r ≡ true → (is_one (cond b (g.0, record { graph = graph; kind = g.1.kind }) g) && r) ≡ true
+      put_one true g one old rest = cc
       put_one false g one old rest = cc
 
-  pub sound-put : (gs : List (List ℕ × CatalogGraph)) (ts : List (List ℕ × GraphType)) → is_graph graph ≡ true → is_sound (record { graphs = gs; types = ts }) ≡ true → is_sound (record { graphs = put name graph gs; types = ts }) ≡ true
-  sound-put gs ts one sound =
-      let of_graphs : (texts_ascend (names gs) && list_all is_held gs) ≡ true = first_true _ (are_none ts) sound in
-      let no_types : are_none ts ≡ true = second_true (texts_ascend (names gs) && list_all is_held gs) _ sound in
-      let ascend : texts_ascend (names (put name graph gs)) ≡ true = rw (names-put gs) (first_true _ (list_all is_held gs) of_graphs) in
-      let all = graphs-put one gs (second_true (texts_ascend (names gs)) _ of_graphs) in
+  pub catalog-put : (gs : List (List ℕ × CatalogGraph)) (ts : List (List ℕ × GraphType)) → is_graph graph ≡ true → is_catalog (record { graphs = gs; types = ts }) ≡ true → is_catalog (record { graphs = put name graph gs; types = ts }) ≡ true
+  catalog-put gs ts one held =
+      let in_order : (texts_ascend (names gs) && texts_ascend (names ts)) ≡ true = first_true _ (list_all is_one gs) held in
+      let all = graphs-put one gs (second_true (texts_ascend (names gs) && texts_ascend (names ts)) _ held) in
+      let types_ascend : texts_ascend (names ts) ≡ true = second_true (texts_ascend (names gs)) _ in_order in
+      let ascend : texts_ascend (names (put name graph gs)) ≡ true = rw (names-put gs) (first_true _ (texts_ascend (names ts)) in_order) in
       cc
 
 -- a catalog's names

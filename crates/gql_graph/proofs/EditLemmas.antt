@@ -6,7 +6,7 @@ use Rattle.std.proofs.lemmas.Bool.Decides.{nat_tests}
 use Rattle.std.proofs.lemmas.Grind.{common_steps}
 use Rattle.gql_values3.specs.PropertyGraph.{numbers_ascend}
 use Rattle.gql_graph.specs.Edits.{put_in, taken_out, put_over}
-use Rattle.gql_graph.specs.Made.{place_of}
+use Rattle.gql_graph.specs.Machinery.AfterChange.{place_of}
 use Rattle.gql_graph.proofs.NumberLemmas.{first_above, rest_ascends, fewer}
 
 module _ {X : Type 0} (key : X → ℕ) where

@@ -5,7 +5,7 @@ use Rattle.gql_values3.specs.declared.records.NodeRecord.{NodeRecord}
 use Rattle.gql_values3.specs.declared.records.EdgeRecord.{EdgeRecord}
 use Rattle.gql_values3.specs.PropertyGraph.{numbers_ascend, are_numbers, are_nodes, is_node_record, is_edge_record, is_graph}
 use Rattle.std.specs.List.{list_all}
-use Rattle.gql_graph.specs.Ascending.{AscendsBy}
+use Rattle.gql_graph.specs.Machinery.Ascending.{AscendsBy}
 use Rattle.gql_graph.proofs.NumberLemmas.{ascends, fewer}
 
 -- of two tests that both hold, each does

@@ -3,7 +3,7 @@ use Rattle.std.proofs.Common.{◌≡◌, ℕ, zero, suc, ◌+◌, ◌<◌, Bool,
 use Rattle.std.specs.Bool.{OnTrue}
 use Rattle.std.proofs.lemmas.Bool.Decides.{nat_tests}
 use Rattle.gql_values3.specs.PropertyGraph.{numbers_ascend}
-use Rattle.gql_graph.specs.Ascending.{AscendsBy}
+use Rattle.gql_graph.specs.Machinery.Ascending.{AscendsBy}
 
 module _ {X : Type 0} (key : X → ℕ) where
   -- the first key is above the lower bound

@@ -6,7 +6,7 @@ use Rattle.gql_values3.specs.Meaning.{datum_of}
 use Rattle.gql_values3.specs.Texts.{texts_ascend}
 use Rattle.gql_values3.specs.PropertyGraph.{is_property, are_properties}
 use Rattle.gql_values3.specs.declared.value.Value.{Value}
-use Rattle.gql_graph.specs.Shown.{shown}
+use Rattle.gql_graph.specs.Machinery.Shown.{shown}
 
 -- the meaning keeps the names
 pub names-shown : (xs : List (List ℕ × Value)) → map (λ (p : List ℕ × Datum). p.0) (map shown xs) ≡ map (λ (p : List ℕ × Value). p.0) xs

@@ -10,7 +10,7 @@ use Rattle.gql_graph.specs.declared.change.Change.{Change}
 use Rattle.gql_graph.specs.declared.change.Change.TheVariants as change
 use Rattle.gql_graph.specs.Edits.{node_key, edge_key, changed, holds_along}
 use Rattle.gql_graph.specs.Room.{GraphInMemory, has_room}
-use Rattle.gql_graph.specs.Made.{Made, adds_node, adds_edge}
+use Rattle.gql_graph.specs.Machinery.AfterChange.{AfterChange, adds_node, adds_edge}
 use Rattle.gql_graph.proofs.GraphLemmas.{first_true, second_true}
 use Rattle.gql_graph.proofs.EditLemmas.{shorter, longer, as_long}
 use Rattle.gql_graph.proofs.UndoLemmas.{Undone}
@@ -36,7 +36,7 @@ pub room_for_edge : (held : GraphInMemory) (r : EdgeRecord) → has_room held (c
 room_for_edge held r room = omega (arith, longer edge_key r held.graph.edges, is_at_most _ _ (second_true (nat_le (length held.graph.nodes) held.node_room) _ room))
 
 -- a change that leads to its graph, and is undone, is made
-pub made : (before after : GraphInMemory) (c d : Change) → is_graph before.graph ≡ true → Undone before.graph c d → after.graph ≡ changed c before.graph → before.node_room ≡ after.node_room → before.edge_room ≡ after.edge_room → length before.graph.nodes ≤ before.node_room → length before.graph.edges ≤ before.edge_room → Made before c after d
+pub made : (before after : GraphInMemory) (c d : Change) → is_graph before.graph ≡ true → Undone before.graph c d → after.graph ≡ changed c before.graph → before.node_room ≡ after.node_room → before.edge_room ≡ after.edge_room → length before.graph.nodes ≤ before.node_room → length before.graph.edges ≤ before.edge_room → AfterChange before c after d
 made before after c d one undone leads nodes edges few_nodes few_edges = record {
   graph = leads;
   undoes = rw leads (both undone.suits (rw undone.back one), undone.back);

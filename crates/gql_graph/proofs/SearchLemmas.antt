@@ -8,8 +8,8 @@ use Rattle.std.specs.Ordering.{nat_cmp, ordering_index}
 use Rattle.std.proofs.lemmas.Cmp.{ranked}
 use Rattle.std.proofs.lemmas.Bool.{cases_lt}
 use Rattle.std.proofs.lemmas.Bool.Decides.{nat_tests}
-use Rattle.gql_graph.specs.Ascending.{AscendsBy}
-use Rattle.gql_graph.specs.Made.{place_of}
+use Rattle.gql_graph.specs.Machinery.Ascending.{AscendsBy}
+use Rattle.gql_graph.specs.Machinery.AfterChange.{place_of}
 
 -- the item at a place, or none
 abbrev pub item_at : {X : Type 0} → List X → Result ℕ ℕ → Option X

@@ -15,19 +15,19 @@ use Rattle.gql_values3.specs.contracts.records.EdgeRecord as EdgeRecord
 use Rattle.gql_graph.specs.contracts.graph.Graph.TheInside as Inside
 use Rattle.gql_graph.specs.contracts.graph.Graph.{the_row}
 
-value_sync : IsSync Value.the_row
+pub value_sync : IsSync Value.the_row
 value_sync = search (sendable, crosses, knot.crosses, text.the_sync, node.the_sync, edge.the_sync, path.the_sync) depth 20
 
-properties_sync : IsSync Properties.the_row
+pub properties_sync : IsSync Properties.the_row
 properties_sync = search (sendable, crosses, value_sync, text.the_sync) depth 20
 
-node_sync : IsSync NodeRecord.the_row
+pub node_sync : IsSync NodeRecord.the_row
 node_sync = search (sendable, crosses, properties_sync, sequence.the_sync, text.the_sync) depth 20
 
-edge_sync : IsSync EdgeRecord.the_row
+pub edge_sync : IsSync EdgeRecord.the_row
 edge_sync = search (sendable, crosses, properties_sync, text.the_sync) depth 20
 
-inside_sync : IsSync Inside.the_row
+pub inside_sync : IsSync Inside.the_row
 inside_sync = search (sendable, crosses, node_sync, edge_sync) depth 20
 
 pub graph_sync : IsSync the_row

@@ -30,9 +30,13 @@ are_none (t ∷ ts) = false
 abbrev pub graph_of : CatalogData → List ℕ → Option PropertyGraph
 graph_of c name = option_map (λ (g : List ℕ × CatalogGraph). g.1.graph) (find (λ g. same_text name g.0) c.graphs)
 
--- names strictly ascend, and each graph is one; until statements make graph types there are none, and no graph has one
+-- the names of the graphs and those of the types strictly ascend, and each graph is one
+abbrev pub is_catalog : CatalogData → Bool
+is_catalog c = texts_ascend (map (λ g. g.0) c.graphs) && texts_ascend (map (λ t. t.0) c.types) && list_all (λ g. is_graph g.1.graph) c.graphs
+
+-- until statements make graph types there are none, and no graph has one
 abbrev pub is_sound : CatalogData → Bool
-is_sound c = texts_ascend (map (λ g. g.0) c.graphs) && list_all (λ g. is_graph g.1.graph && is_untyped g.1) c.graphs && are_none c.types
+is_sound c = is_catalog c && list_all (λ g. is_untyped g.1) c.graphs && are_none c.types
 
 -- with another graph in the place of the one of the name, which keeps its type
 abbrev pub replaced : List ℕ → PropertyGraph → CatalogData → CatalogData

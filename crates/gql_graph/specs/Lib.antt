@@ -1,7 +1,5 @@
-pub mod Ascending
 pub mod Catalog
 pub mod Bare
 pub mod Edits
 pub mod Room
-pub mod Made
-pub mod Shown
+pub mod Machinery

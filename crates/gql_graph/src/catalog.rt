@@ -2,16 +2,17 @@ ghost use Rattle.std.specs.Prelude.{◌≡◌, [], IfOk, IsTrue, map, option_map
 ghost use Rattle.std.specs.Option.{option_copied};
 ghost use Rattle.gql_values3.specs.Texts.{same_text, texts_ascend};
 ghost use Rattle.gql_graph.specs.Bare.{bare};
-ghost use Rattle.gql_graph.specs.Catalog.{graph_of, is_sound, catalog_with, initial_catalog, replaced};
+ghost use Rattle.gql_graph.specs.Catalog.{graph_of, is_catalog, catalog_with, initial_catalog, replaced};
 
 use crate::graph::Graph;
 use crate::graph_type::GraphType;
 use crate::held::Held;
+use crate::type_copies::copy_types;
 use gql_values3::{OutOfMemory, Text};
 use std::alloc::Global;
 use std::marker::Model;
 
-/// Graphs and graph types by name, both kept by ascending name. It has no graph types so far, and no graph has one.
+/// Graphs and graph types by name, both kept by ascending name.
 #[derive(Debug, Drop)]
 pub struct Catalog {
     graphs: Vec<(Text, Held)>,
@@ -20,7 +21,7 @@ pub struct Catalog {
 
 impl Model for Catalog {
     ghost use Rattle.std.specs.Prelude.{◌≡◌, true, map};
-    ghost use Rattle.gql_graph.specs.Catalog.{CatalogData, is_sound};
+    ghost use Rattle.gql_graph.specs.Catalog.{CatalogData, is_catalog};
     ghost use Rattle.gql_graph.specs.Bare.{bare};
 
     ghost Value = { CatalogData };
@@ -32,7 +33,7 @@ impl Model for Catalog {
 
     ghost view = { λ c. record { graphs = map bare c.graphs.items; types = c.types.items } };
 
-    ghost invariant = { λ c. is_sound (record { graphs = map bare c.graphs.items; types = c.types.items }) ≡ true };
+    ghost invariant = { λ c. is_catalog (record { graphs = map bare c.graphs.items; types = c.types.items }) ≡ true };
 }
 
 impl Catalog {
@@ -72,10 +73,9 @@ impl Catalog {
     pub fn try_copy(&self, alloc: Global) -> Result<Catalog, OutOfMemory>
         ensures { IfOk result (λ copy. copy ≡ self.now) }
     {
-        // No graph types are there to copy.
         Ok(Catalog {
             graphs: copy_graphs(alloc, self.graphs.as_slice())?,
-            types: Vec::new(alloc),
+            types: copy_types(alloc, self.types.as_slice())?,
         })
     }
 
@@ -88,10 +88,10 @@ impl Catalog {
         put_graph(&mut self.graphs, name, graph);
     }
 
-    /// The graph of that name. Each graph of a catalog is one, and the names are in order.
+    /// The graph of that name. Each graph of a catalog is one, and the names of its graphs and types are in order.
     pub fn graph(&self, name: &str) -> Option<&Graph>
         ensures value { option_map (λ g. g.graph) (option_copied result) ≡ graph_of self.now name.now }
-        ensures sound { IsTrue (is_sound self.now) }
+        ensures catalog { IsTrue (is_catalog self.now) }
     {
         find_graph(self.graphs.as_slice(), name)
     }

@@ -1,5 +1,5 @@
 ghost use Rattle.std.specs.Prelude.{◌≡◌, IfOk, map};
-ghost use Rattle.gql_graph.specs.Shown.{shown};
+ghost use Rattle.gql_graph.specs.Machinery.Shown.{shown};
 
 use gql_values3::{EdgeRecord, Names, NodeRecord, OutOfMemory, Properties, Sequence, Text, Value};
 use std::alloc::Global;
@@ -47,7 +47,8 @@ fn copy_edge(alloc: Global, edge: &EdgeRecord) -> Result<EdgeRecord, OutOfMemory
     })
 }
 
-fn copy_labels(alloc: Global, labels: &Names) -> Result<Names, OutOfMemory>
+/// Equal labels.
+pub fn copy_labels(alloc: Global, labels: &Names) -> Result<Names, OutOfMemory>
     ensures { IfOk result (λ copies. copies ≡ labels.now) }
 {
     Ok(Sequence::from_vec(copy_texts(alloc, labels.as_slice())?))

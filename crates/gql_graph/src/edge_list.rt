@@ -1,7 +1,7 @@
 ghost use Rattle.std.specs.Prelude.{◌≡◌, ◌<◌, ◌==◌, true, find, is_some, vec_len, vec_capacity};
-ghost use Rattle.gql_graph.specs.Ascending.{AscendsTo};
+ghost use Rattle.gql_graph.specs.Machinery.Ascending.{AscendsTo};
 ghost use Rattle.gql_graph.specs.Edits.{edge_key, put_in, taken_out, put_over};
-ghost use Rattle.gql_graph.specs.Made.{place_of};
+ghost use Rattle.gql_graph.specs.Machinery.AfterChange.{place_of};
 
 use gql_values3::{EdgeId, EdgeRecord};
 use std::mem;

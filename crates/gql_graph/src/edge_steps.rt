@@ -1,7 +1,7 @@
 ghost use Rattle.std.specs.Prelude.{IsTrue};
 ghost use Rattle.gql_graph.specs.Edits.{changed, can_act};
 ghost use Rattle.gql_graph.specs.Room.{has_room};
-ghost use Rattle.gql_graph.specs.Made.{Made};
+ghost use Rattle.gql_graph.specs.Machinery.AfterChange.{AfterChange};
 
 use crate::change::Change;
 use crate::edge_list::{put_edge, swap_edge, take_edge};
@@ -13,7 +13,7 @@ impl Graph {
     pub(crate) fn add_edge(&mut self, edge: EdgeRecord) -> Change
         requires acts { IsTrue (can_act (Change.NewEdge edge) self.old.graph) }
         requires room { IsTrue (has_room self.old (changed (Change.NewEdge edge) self.old.graph)) }
-        ensures { Made self.old (Change.NewEdge edge) self.new result }
+        ensures { AfterChange self.old (Change.NewEdge edge) self.new result }
     {
         let number = edge.number;
         self.edges.push_reserved(edge);
@@ -24,7 +24,7 @@ impl Graph {
     /// Takes the newest edge back, and its number.
     pub(crate) fn unadd_edge(&mut self, edge: EdgeId) -> Change
         requires { IsTrue (can_act (Change.UnEdge edge) self.old.graph) }
-        ensures { Made self.old (Change.UnEdge edge) self.new result }
+        ensures { AfterChange self.old (Change.UnEdge edge) self.new result }
     {
         let record = take_edge(&mut self.edges, edge);
         self.next_edge -= 1;
@@ -34,7 +34,7 @@ impl Graph {
     /// Takes an edge out.
     pub(crate) fn out_edge(&mut self, edge: EdgeId) -> Change
         requires { IsTrue (can_act (Change.OutEdge edge) self.old.graph) }
-        ensures { Made self.old (Change.OutEdge edge) self.new result }
+        ensures { AfterChange self.old (Change.OutEdge edge) self.new result }
     {
         Change::BackEdge(take_edge(&mut self.edges, edge))
     }
@@ -43,7 +43,7 @@ impl Graph {
     pub(crate) fn back_edge(&mut self, edge: EdgeRecord) -> Change
         requires acts { IsTrue (can_act (Change.BackEdge edge) self.old.graph) }
         requires room { IsTrue (has_room self.old (changed (Change.BackEdge edge) self.old.graph)) }
-        ensures { Made self.old (Change.BackEdge edge) self.new result }
+        ensures { AfterChange self.old (Change.BackEdge edge) self.new result }
     {
         let number = edge.number;
         put_edge(&mut self.edges, edge);
@@ -53,7 +53,7 @@ impl Graph {
     /// Puts an edge in the place of the one of its number.
     pub(crate) fn swap_edge(&mut self, edge: EdgeRecord) -> Change
         requires { IsTrue (can_act (Change.SwapEdge edge) self.old.graph) }
-        ensures { Made self.old (Change.SwapEdge edge) self.new result }
+        ensures { AfterChange self.old (Change.SwapEdge edge) self.new result }
     {
         Change::SwapEdge(swap_edge(&mut self.edges, edge))
     }

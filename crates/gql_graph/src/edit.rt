@@ -12,6 +12,10 @@ pub trait Edit: View {
     /// Whether there is room for a graph.
     ghost has_room: { Self → PropertyGraph → Bool };
 
+    /// There is always room for the graph that is held. It changes nothing: a caller calls it to learn this.
+    fn holds_itself(&self)
+        ensures { IsTrue (has_room self.now (Self.graph self.now)) };
+
     /// Makes room for each graph to which the changes lead, one after the other. The graph stays, also where it is
     /// refused.
     fn make_room(&mut self, alloc: Global, changes: &Changes) -> Result<(), OutOfMemory>

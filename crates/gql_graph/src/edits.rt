@@ -1,5 +1,5 @@
 ghost use Rattle.std.specs.Prelude.{◌≡◌, count_by};
-ghost use Rattle.gql_graph.specs.Made.{adds_node, adds_edge};
+ghost use Rattle.gql_graph.specs.Machinery.AfterChange.{adds_node, adds_edge};
 
 use crate::change::{Change, Changes};
 use crate::edit::Edit;
@@ -11,6 +11,11 @@ impl Edit for Graph {
     ghost use Rattle.gql_graph.specs.Room.{has_room};
 
     ghost has_room = { has_room };
+
+    fn holds_itself(&self) {
+        // No list is longer than its capacity; the proof reads this off the lists' type.
+        let _lengths = (self.nodes.len(), self.edges.len());
+    }
 
     fn make_room(&mut self, _alloc: Global, changes: &Changes) -> Result<(), OutOfMemory> {
         self.nodes.reserve(new_nodes(changes.as_slice()))?;

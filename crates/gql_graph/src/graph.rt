@@ -2,7 +2,7 @@ ghost use Rattle.std.specs.Prelude.{◌≡◌, [], length, IfOk, IfSome, is_some
 ghost use Rattle.std.specs.Option.{option_copied};
 ghost use Rattle.gql_values3.specs.PropertyGraph.{is_graph, are_edges};
 ghost use Rattle.gql_values3.specs.Lookup.{node_of, edge_of, labels_in, labels_of, properties_in, properties_of};
-ghost use Rattle.gql_graph.specs.Ascending.{AscendsBy};
+ghost use Rattle.gql_graph.specs.Machinery.Ascending.{AscendsBy};
 
 use crate::copies::{copy_edges, copy_nodes};
 use crate::lookup::{find_edge, find_node};

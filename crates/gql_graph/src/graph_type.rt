@@ -19,25 +19,31 @@ pub type PropTypes = Sequence<PropType>;
 pub struct NodeType {
     /// Strictly ascending.
     pub labels: Names,
-    pub properties: PropTypes,
+    pub body: PropTypes,
 }
+
+/// Node types in the order in which they were written.
+pub type NodeTypes = Sequence<NodeType>;
 
 /// What an edge may be, between nodes of two types.
 #[derive(Debug, Drop)]
 pub struct EdgeType {
-    pub is_directed: bool,
+    pub directed: bool,
     /// The place of the source's type among the node types, from 0; of either end's where the edge is undirected.
     pub first: u64,
     /// The place of the target's type, or of the other end's.
     pub second: u64,
     /// Strictly ascending.
     pub labels: Names,
-    pub properties: PropTypes,
+    pub body: PropTypes,
 }
+
+/// Edge types in the order in which they were written.
+pub type EdgeTypes = Sequence<EdgeType>;
 
 /// Each node of a graph of this type is one of the node types, and each edge one of the edge types.
 #[derive(Debug, Drop)]
 pub struct GraphType {
-    pub nodes: Sequence<NodeType>,
-    pub edges: Sequence<EdgeType>,
+    pub nodes: NodeTypes,
+    pub edges: EdgeTypes,
 }

@@ -5,33 +5,31 @@
 //! of it. It stands on gql_values3 alone.
 #![tactic(auto)]
 
-pub mod catalog;
-pub mod change;
-pub mod copies;
-pub mod edge_list;
-pub mod edge_steps;
-pub mod edit;
-pub mod edits;
-pub mod graph;
-pub mod graph_type;
-pub mod held;
-pub mod lookup;
-pub mod names;
-pub mod node_list;
-pub mod node_steps;
-pub mod numbers;
-pub mod records;
-pub mod storable;
-#[cfg(test)]
-mod test_edits;
-#[cfg(test)]
-mod tests;
-pub mod view;
+mod catalog;
+mod change;
+mod copies;
+mod edge_list;
+mod edge_steps;
+mod edit;
+mod edits;
+mod graph;
+mod graph_type;
+mod held;
+mod lookup;
+mod names;
+mod node_list;
+mod node_steps;
+mod numbers;
+mod records;
+mod storable;
+mod type_copies;
+mod view;
 
 pub use catalog::Catalog;
 pub use change::{Change, Changes};
 pub use edit::Edit;
 pub use gql_values3::{EdgeRecord, NodeRecord};
 pub use graph::{EdgeRecords, Graph, NodeRecords};
-pub use graph_type::{EdgeType, GraphType, NodeType, PropType, PropTypes};
+pub use graph_type::{EdgeType, EdgeTypes, GraphType, NodeType, NodeTypes, PropType, PropTypes};
 pub use held::Held;
+pub use storable::is_property;

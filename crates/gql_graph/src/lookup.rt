@@ -1,9 +1,12 @@
 ghost use Rattle.std.specs.Prelude.{◌≡◌, ◌==◌, find, map, filter, slice_get};
 ghost use Rattle.std.specs.Option.{option_copied};
+ghost use Rattle.std.specs.List.{list_any};
+ghost use Rattle.gql_values3.specs.Texts.{same_text};
 ghost use Rattle.gql_values3.specs.PropertyGraph.{is_among};
 ghost use Rattle.gql_values3.specs.Lookup.{touches};
-ghost use Rattle.gql_graph.specs.Ascending.{AscendsBy};
+ghost use Rattle.gql_graph.specs.Machinery.Ascending.{AscendsBy};
 
+use crate::names::contains_name;
 use gql_values3::{EdgeId, EdgeRecord, Ends, NodeId, NodeRecord};
 
 /// The node of that number, by binary search.
@@ -34,6 +37,22 @@ pub fn is_among(nodes: &[NodeRecord], node: NodeId) -> bool
     ensures { result ≡ is_among nodes.now node }
 {
     find_node(nodes, node).is_some()
+}
+
+/// The node of that place among those with the label.
+pub fn nth_labelled(nodes: &[NodeRecord], label: &str, index: u32) -> Option<NodeId>
+    ensures { result ≡ slice_get (map (λ r. r.number) (filter (λ r. list_any (same_text label.now) r.labels) nodes.now)) index }
+{
+    let mut left = index;
+    for node in nodes {
+        if contains_name(node.labels.as_slice(), label) {
+            if left == 0 {
+                return Some(node.number);
+            }
+            left -= 1;
+        }
+    }
+    None
 }
 
 /// The edge of that place among those that touch the node.

@@ -3,41 +3,13 @@ ghost use Rattle.std.specs.List.{list_any};
 ghost use Rattle.std.specs.Option.{option_copied};
 ghost use Rattle.gql_values3.specs.Texts.{same_text, texts_ascend};
 
-use gql_values3::{Properties, Text, Value};
-use std::cmp::Ordering;
+use gql_values3::{Properties, Text, Value, keys_ascend};
 
 /// Whether the names strictly ascend by bytes.
 pub fn names_ascend(names: &[Text]) -> bool
     ensures { result ≡ texts_ascend names.now }
 {
-    let Some((first, rest)) = names.split_first() else {
-        return true;
-    };
-    let mut low = first;
-    for name in rest {
-        if low.cmp(name) != Ordering::Less {
-            return false;
-        }
-        low = name;
-    }
-    true
-}
-
-/// Whether the names of the properties strictly ascend by bytes.
-pub fn keys_ascend(properties: &[(Text, Value)]) -> bool
-    ensures { result ≡ texts_ascend (map (λ p. p.0) properties.now) }
-{
-    let Some((first, rest)) = properties.split_first() else {
-        return true;
-    };
-    let mut low = &first.0;
-    for (name, _) in rest {
-        if low.cmp(name) != Ordering::Less {
-            return false;
-        }
-        low = name;
-    }
-    true
+    keys_ascend(names)
 }
 
 /// Whether the name is among them.

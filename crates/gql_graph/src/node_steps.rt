@@ -1,7 +1,7 @@
 ghost use Rattle.std.specs.Prelude.{IsTrue};
 ghost use Rattle.gql_graph.specs.Edits.{changed, can_act};
 ghost use Rattle.gql_graph.specs.Room.{has_room};
-ghost use Rattle.gql_graph.specs.Made.{Made};
+ghost use Rattle.gql_graph.specs.Machinery.AfterChange.{AfterChange};
 
 use crate::change::Change;
 use crate::graph::Graph;
@@ -13,7 +13,7 @@ impl Graph {
     pub(crate) fn add_node(&mut self, node: NodeRecord) -> Change
         requires acts { IsTrue (can_act (Change.NewNode node) self.old.graph) }
         requires room { IsTrue (has_room self.old (changed (Change.NewNode node) self.old.graph)) }
-        ensures { Made self.old (Change.NewNode node) self.new result }
+        ensures { AfterChange self.old (Change.NewNode node) self.new result }
     {
         let number = node.number;
         self.nodes.push_reserved(node);
@@ -24,7 +24,7 @@ impl Graph {
     /// Takes the newest node back, and its number.
     pub(crate) fn unadd_node(&mut self, node: NodeId) -> Change
         requires { IsTrue (can_act (Change.UnNode node) self.old.graph) }
-        ensures { Made self.old (Change.UnNode node) self.new result }
+        ensures { AfterChange self.old (Change.UnNode node) self.new result }
     {
         let record = take_node(&mut self.nodes, node);
         self.next_node -= 1;
@@ -34,7 +34,7 @@ impl Graph {
     /// Takes a node out.
     pub(crate) fn out_node(&mut self, node: NodeId) -> Change
         requires { IsTrue (can_act (Change.OutNode node) self.old.graph) }
-        ensures { Made self.old (Change.OutNode node) self.new result }
+        ensures { AfterChange self.old (Change.OutNode node) self.new result }
     {
         Change::BackNode(take_node(&mut self.nodes, node))
     }
@@ -43,7 +43,7 @@ impl Graph {
     pub(crate) fn back_node(&mut self, node: NodeRecord) -> Change
         requires acts { IsTrue (can_act (Change.BackNode node) self.old.graph) }
         requires room { IsTrue (has_room self.old (changed (Change.BackNode node) self.old.graph)) }
-        ensures { Made self.old (Change.BackNode node) self.new result }
+        ensures { AfterChange self.old (Change.BackNode node) self.new result }
     {
         let number = node.number;
         put_node(&mut self.nodes, node);
@@ -53,7 +53,7 @@ impl Graph {
     /// Puts a node in the place of the one of its number.
     pub(crate) fn swap_node(&mut self, node: NodeRecord) -> Change
         requires { IsTrue (can_act (Change.SwapNode node) self.old.graph) }
-        ensures { Made self.old (Change.SwapNode node) self.new result }
+        ensures { AfterChange self.old (Change.SwapNode node) self.new result }
     {
         Change::SwapNode(swap_node(&mut self.nodes, node))
     }

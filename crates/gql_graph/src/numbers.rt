@@ -1,7 +1,7 @@
 ghost use Rattle.std.specs.Prelude.{◌≡◌, map};
 ghost use Rattle.std.specs.Bool.{OnTrue};
 ghost use Rattle.gql_values3.specs.PropertyGraph.{numbers_ascend, are_numbers};
-ghost use Rattle.gql_graph.specs.Ascending.{AscendsBy};
+ghost use Rattle.gql_graph.specs.Machinery.Ascending.{AscendsBy};
 
 use gql_values3::{EdgeRecord, NodeRecord};
 

@@ -1,7 +1,7 @@
 ghost use Rattle.std.specs.Prelude.{◌≡◌};
 ghost use Rattle.std.specs.List.{list_all};
 ghost use Rattle.gql_values3.specs.PropertyGraph.{is_node_record, is_edge_record, are_ends};
-ghost use Rattle.gql_graph.specs.Ascending.{AscendsBy};
+ghost use Rattle.gql_graph.specs.Machinery.Ascending.{AscendsBy};
 
 use crate::lookup::is_among;
 use crate::names::names_ascend;

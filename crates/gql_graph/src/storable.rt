@@ -5,8 +5,7 @@ ghost use Rattle.gql_values3.specs.Meaning.{datum_of};
 ghost use Rattle.gql_values3.specs.PropertyGraph.{is_storable, are_storable, is_property, are_properties};
 ghost use Rattle.gql_values3.specs.Integers.{is_int64};
 
-use crate::names::keys_ascend;
-use gql_values3::{Properties, Text, Value};
+use gql_values3::{Properties, Text, Value, keys_ascend};
 
 /// Whether these are the properties of an element: names in order, and each value one that may be kept.
 pub fn properties_fit(properties: &Properties) -> bool

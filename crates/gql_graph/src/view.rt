@@ -1,5 +1,5 @@
 use crate::graph::Graph;
-use crate::lookup::nth_touching;
+use crate::lookup::{nth_labelled, nth_touching};
 use crate::names::{contains_name, key_of_place, name_of_place};
 use gql_values3::{EdgeId, Elem, Ends, NodeId, Text, Value, View};
 
@@ -27,6 +27,10 @@ impl View for Graph {
             None => false,
             Some(labels) => contains_name(labels.as_slice(), label),
         }
+    }
+
+    fn labelled(&self, label: &str, index: u32) -> Option<NodeId> {
+        nth_labelled(self.nodes(), label, index)
     }
 
     fn any_label(&self, elem: Elem) -> bool {

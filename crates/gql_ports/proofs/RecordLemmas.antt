@@ -1,5 +1,5 @@
 -- What stands at a key among ascending records, and what an edit at its place does.
-use Rattle.std.proofs.Common.{◌≡◌, ◌≢◌, ℕ, zero, suc, ◌+◌, ◌<◌, ◌≤◌, Bool, true, false, cond, ◌&&◌, List, [], ◌∷◌, length, map, get_or, set, if◌then◌else◌, Option, Some, None, Result, Ok, Err, IfOk, IfErr, inl, inr, refl, sym, ◌∙◌, ap, subst, arith}
+use Rattle.std.proofs.Common.{◌≡◌, ◌≢◌, ℕ, zero, suc, ◌+◌, ◌<◌, Bool, true, false, cond, ◌&&◌, List, [], ◌∷◌, length, map, get_or, set, if◌then◌else◌, Option, Some, None, Result, Ok, Err, IfOk, IfErr, inl, inr, refl, sym, ◌∙◌, ap, subst, arith}
 use mathlib.Core.Bool.{true≢false}
 use Rattle.std.proofs.lemmas.Bool.{cases_lt}
 use Rattle.std.specs.Prelude.{find, option_map}
@@ -14,7 +14,7 @@ use Rattle.std.proofs.lemmas.List.Sorted.{searchable_from_sorted}
 use Rattle.gql_values3.specs.Texts.{same_text, ascend_above, texts_ascend}
 use Rattle.gql_ports.specs.declared.stored.Record.{Record}
 use Rattle.gql_ports.specs.Held.{keys_ascend, value_at}
-use Rattle.gql_ports.specs.Place.{IsAt, IsGapFor}
+use Rattle.gql_ports.specs.Machinery.Place.{IsAt, IsGapFor}
 
 -- the order of keys
 abbrev pub key_cmp : List ℕ → List ℕ → Ordering
@@ -315,9 +315,3 @@ unchanged_if_absent xs key absent q = tested (same_text q key) (λ e. ap (value_
     tested : (b : Bool) → (b ≡ true → value_at xs q ≡ None) → value_at xs q ≡ cond b None (value_at xs q)
     tested true n = n refl
     tested false n = refl
-
--- at most one record ascends
-pub ascend-short : (xs : List Record) → length xs ≤ 1 → keys_ascend xs ≡ true
-ascend-short [] h = refl
-ascend-short (x ∷ []) h = refl
-ascend-short (x ∷ y ∷ xs) h = absurd (omega arith)

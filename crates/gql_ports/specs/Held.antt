@@ -19,9 +19,9 @@ same_name None None = true
 same_name (Some a) (Some b) = same_text a b
 same_name _ _ = false
 
--- after an `open` of this name that went well
-abbrev pub reopened : Option (List ℕ) → Holding → Holding
-reopened name h = if same_name name h.name then h else record { name = name; records = [] }
+-- what is held after an `open` of this name that went well
+abbrev pub held_after_opening : Option (List ℕ) → Holding → Holding
+held_after_opening name h = if same_name name h.name then h else record { name = name; records = [] }
 
 -- the value of a key, where there is one
 abbrev pub value_at : List Record → List ℕ → Option (List ℕ)

@@ -1,5 +1,5 @@
 pub mod Causes
 pub mod Told
 pub mod Held
-pub mod Place
+pub mod Machinery
 pub mod Memory

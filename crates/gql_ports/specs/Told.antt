@@ -9,8 +9,8 @@ pub record Content : Type 0 where
   pub left : List ℕ
 
 -- after an `open` of the name, which went well or not
-abbrev pub opened : List ℕ → Bool → Content → Content
-opened name ok c = record c { ready = ok && same_text name c.name }
+abbrev pub after_opening : List ℕ → Bool → Content → Content
+after_opening name ok c = record c { ready = ok && same_text name c.name }
 
 -- the content is told before and after, and so related, or told neither time
 abbrev pub MatchTold : {A : Type 0} → Option A → Option A → (A → A → Type 0) → Type 0
@@ -21,7 +21,7 @@ MatchTold (Some a) (Some b) P = P a b
 
 -- A read that gave count bytes: the first of those that are left, which it took. It gives none where it isn't ready,
 -- and where it is, it gives none only where none is left.
-pub record Reads (into : List ℕ) (count : ℕ) (before after : Content) : Type 0 where
+pub record AfterReading (into : List ℕ) (count : ℕ) (before after : Content) : Type 0 where
   pub bytes : take count into ≡ take count before.left
   pub there : count ≤ length before.left
   pub rest : after ≡ record before { left = drop count before.left }

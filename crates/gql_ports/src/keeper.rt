@@ -3,7 +3,7 @@ ghost use Rattle.std.specs.Option.{option_copied};
 ghost use Rattle.gql_ports.specs.Causes.{Rose};
 ghost use Rattle.gql_ports.specs.Told.{MatchTold};
 ghost use Rattle.gql_values3.specs.Texts.{texts_differ};
-ghost use Rattle.gql_ports.specs.Held.{Holding, reopened, Applies};
+ghost use Rattle.gql_ports.specs.Held.{Holding, keys_ascend, held_after_opening, Applies};
 
 use crate::fault::KeepFault;
 use crate::stored::{Key, Record};
@@ -23,15 +23,16 @@ pub trait Keeper {
     /// Opens the named store, or one in memory where there is no name. Under its own name the records stay, and under
     /// another there are none. After an error all stays.
     fn open(&mut self, name: Option<&str>) -> Result<(), KeepFault>
-        ensures ok { OnOk result (held self.new ≡ option_map (reopened (option_copied name.entry)) (held self.old)) }
+        ensures ok { OnOk result (held self.new ≡ option_map (held_after_opening (option_copied name.entry)) (held self.old)) }
         ensures err { OnErr result (held self.new ≡ held self.old) }
         ensures later { faults self.old ≤ faults self.new }
         ensures failed { result ≡ Err KeepFault.Failed → Rose (faults self.old) (faults self.new) };
 
-    /// The number of records. It takes no memory.
+    /// The number of records, whose keys strictly ascend. It takes no memory.
     fn len(&self) -> u64
         ensures count { result ≡ count self.now }
-        ensures told { IfSome (held self.now) (λ h. result ≡ length h.records) };
+        ensures told { IfSome (held self.now) (λ h. result ≡ length h.records) }
+        ensures ordered { IfSome (held self.now) (λ h. IsTrue (keys_ascend h.records)) };
 
     /// The record of that place, from 0, in ascending order of the keys.
     fn fetch(&mut self, alloc: Global, index: u64) -> Result<Record, KeepFault>

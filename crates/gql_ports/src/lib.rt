@@ -5,22 +5,20 @@
 //! files and standard output. It stands on `gql_values3`.
 #![tactic(auto)]
 
-pub mod fault;
-pub mod file;
-pub mod keeper;
-pub mod memory;
-pub mod records;
-pub mod sink;
-pub mod source;
-pub mod stdout;
-pub mod stored;
+mod fault;
+mod file;
+mod keeper;
+mod memory;
+mod records;
+mod sink;
+mod source;
+mod stdout;
+mod stored;
 
 pub use fault::{Failed, KeepFault};
 pub use file::FileSource;
 pub use keeper::Keeper;
-pub use memory::mem_keeper::MemKeeper;
-pub use memory::mem_sink::MemSink;
-pub use memory::mem_source::MemSource;
+pub use memory::{MemKeeper, MemSink, MemSource};
 pub use records::Records;
 pub use sink::Sink;
 pub use source::Source;

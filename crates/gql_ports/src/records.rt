@@ -2,10 +2,10 @@ ghost use Rattle.std.specs.Prelude.{◌≡◌, ℕ, List, [], Some, None, length
 ghost use Rattle.std.specs.Option.{option_copied};
 ghost use Rattle.gql_values3.specs.Texts.{same_text};
 ghost use Rattle.gql_ports.specs.Held.{keys_ascend, value_at};
-ghost use Rattle.gql_ports.specs.Place.{IsAt, IsGapFor};
+ghost use Rattle.gql_ports.specs.Machinery.Place.{IsAt, IsGapFor};
 
 use crate::stored::Record;
-use gql_values3::OutOfMemory;
+use gql_values3::{OutOfMemory, keys_ascend};
 use std::alloc::Global;
 use std::marker::Model;
 
@@ -40,7 +40,7 @@ impl Records {
     pub fn from_vec(items: Vec<Record>) -> Option<Records>
         ensures { result ≡ (if keys_ascend items.items then Some items.items else None) }
     {
-        if do_keys_ascend(items.as_slice()) {
+        if keys_ascend(items.as_slice()) {
             Some(Records { items })
         } else {
             None
@@ -106,19 +106,6 @@ impl Records {
             let _ = self.items.remove(place);
         }
     }
-}
-
-/// Whether the keys strictly ascend by bytes.
-fn do_keys_ascend(items: &[Record]) -> bool
-    ensures { result ≡ keys_ascend items.now }
-{
-    for i in 1..items.len() {
-        let low = items[i - 1].key.as_slice();
-        if low.cmp(items[i].key.as_slice()).is_ge() {
-            return false;
-        }
-    }
-    true
 }
 
 fn copy_all(alloc: Global, items: &[Record]) -> Result<Vec<Record>, OutOfMemory>

@@ -1,6 +1,6 @@
 ghost use Rattle.std.specs.Prelude.{◌≡◌, IfOk};
 
-use gql_values3::{Bytes, OutOfMemory};
+use gql_values3::{Bytes, Keyed, OutOfMemory};
 use std::alloc::Global;
 
 /// The key of a record. Keys are ordered by bytes.
@@ -21,5 +21,13 @@ impl Record {
             key: self.key.try_copy(alloc)?,
             value: self.value.try_copy(alloc)?,
         })
+    }
+}
+
+impl Keyed for Record {
+    ghost key_bytes = { λ r. r.key };
+
+    fn key(&self) -> &[u8] {
+        self.key.as_slice()
     }
 }

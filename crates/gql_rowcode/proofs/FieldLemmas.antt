@@ -8,7 +8,7 @@ use Rattle.std.proofs.lemmas.List.Concat.{flat_map-cons}
 use Rattle.std.proofs.lemmas.Nat.{be_bytes_4, be_bytes_8, from_be_bytes-to_be_bytes_4, from_be_bytes-to_be_bytes_8}
 use Rattle.gql_values3.specs.Texts.{texts_ascend}
 use Rattle.gql_rowcode.specs.Records.{spelled, labels_spelled, IsText}
-use Rattle.gql_rowcode.specs.Reading.{◌>>=◌, number_at, utf8_at, text_at, texts_at, labels_at}
+use Rattle.gql_rowcode.specs.Machinery.Reading.{◌>>=◌, number_at, utf8_at, text_at, texts_at, labels_at}
 use Rattle.gql_rowcode.proofs.Utf8Lemmas.{utf8_takes, utf8_at-text}
 
 -- each element is a byte

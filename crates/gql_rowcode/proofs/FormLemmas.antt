@@ -12,8 +12,8 @@ use Rattle.gql_rowcode.specs.declared.misread.Misread.{Misread}
 use Rattle.gql_rowcode.specs.declared.subject.Subject.{Subject}
 use Rattle.gql_rowcode.specs.declared.subject.Subject.TheVariants.{Version, HomeGraph, HomeNode}
 use Rattle.gql_rowcode.specs.declared.form.Form as code
-use Rattle.gql_rowcode.specs.Said.{form_of}
-use Rattle.gql_rowcode.specs.Reading.{◌>>=◌, Gives, number_at, labels_at, home_node_key_at, subject_at, version_at, home_graph_at, home_node_at, said_at, form_at}
+use Rattle.gql_rowcode.specs.Machinery.Said.{form_of}
+use Rattle.gql_rowcode.specs.Machinery.Reading.{◌>>=◌, Gives, number_at, labels_at, home_node_key_at, subject_at, version_at, home_graph_at, home_node_at, said_at, form_at}
 use Rattle.gql_rowcode.proofs.FieldLemmas.{IsBytes, IsBytes-drop, bind_some, guard_then, when_some, wide32, wide64, number_takes, number_again, labels_take, labels_again}
 
 -- a test behind which the reading goes on

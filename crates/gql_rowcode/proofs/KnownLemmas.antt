@@ -15,7 +15,7 @@ use Rattle.gql_ports.specs.declared.stored.Record.{Record}
 use Rattle.gql_rowcode.specs.Records.{Form, version, home_graph, home_node, home, spelled, record_of, IsForm}
 use Rattle.gql_rowcode.specs.StandFor.{node_record, IsKeptNode}
 use Rattle.gql_rowcode.specs.FirstBad.{Follows, IsGood}
-use Rattle.gql_rowcode.specs.Walk.{node, graph_after, seen_after}
+use Rattle.gql_rowcode.specs.Machinery.Walk.{node, graph_after, seen_after}
 use Rattle.gql_rowcode.specs.declared.seen.Seen.{Seen}
 use Rattle.gql_rowcode.specs.declared.seen.Seen.TheVariants.{Nothing, Version, Graph}
 use Rattle.gql_rowcode.proofs.FieldLemmas.{when_some}

@@ -3,7 +3,7 @@ use Rattle.std.proofs.Common.{◌≡◌, ℕ, suc, ◌-◌, ◌+◌, ◌≤◌, 
 use Rattle.std.proofs.lemmas.List.{append-nil}
 use Rattle.gql_rowcode.specs.declared.misread.Misread.{Misread}
 use Rattle.gql_rowcode.specs.declared.misread.Misread.TheVariants as misreads
-use Rattle.gql_rowcode.specs.Reading.{◌>>=◌, Fails, text_at, texts_at}
+use Rattle.gql_rowcode.specs.Machinery.Reading.{◌>>=◌, Fails, text_at, texts_at}
 
 -- what was read before, and what is still read
 abbrev pub with_front : List (List ℕ) → Option (List (List ℕ) × List ℕ) → Option (List (List ℕ) × List ℕ)

@@ -7,7 +7,7 @@ use Rattle.gql_graph.specs.Catalog.{CatalogData, is_sound}
 use Rattle.gql_ports.specs.declared.stored.Record.{Record}
 use Rattle.gql_rowcode.specs.StandFor.{StandFor}
 use Rattle.gql_rowcode.specs.FirstBad.{FirstBad}
-use Rattle.gql_rowcode.specs.Walk.{walk, catalog_of, Walks, SpelledAsFar, AreSpelled}
+use Rattle.gql_rowcode.specs.Machinery.Walk.{walk, catalog_of, Walks, SpelledAsFar, AreSpelled}
 use Rattle.gql_rowcode.specs.declared.fault.ReadFault.{ReadFault}
 use Rattle.gql_rowcode.specs.declared.fault.ReadFault.TheVariants as faults
 use Rattle.gql_rowcode.specs.declared.seen.Seen.{Seen}
@@ -46,6 +46,13 @@ pub ok_complete : (rs : List Record) (seen : Seen) (c : CatalogData) → walk 0 
 ok_complete rs seen c e stands =
     let found = walk_stands rs c stands in
     ap catalog_of (passed_same seen found.0 (sym e ∙ found.1)) ∙ found.2
+
+-- and so it is the only one
+pub stand_for_one : (rs : List Record) (c d : CatalogData) → StandFor rs c → StandFor rs d → c ≡ d
+stand_for_one rs c d one other =
+    let found = walk_stands rs c one in
+    let again = walk_stands rs d other in
+    sym found.2 ∙ ap catalog_of (passed_same found.0 again.0 (sym found.1 ∙ again.1)) ∙ again.2
 
 -- a walk that stopped, stopped at the first fault
 pub err_bad : (rs : List Record) (at : ℕ) → walk 0 Nothing rs ≡ Err at → AreSpelled at rs → FirstBad rs at

@@ -5,7 +5,7 @@ use Rattle.std.proofs.lemmas.List.{drop_more, drop_all}
 use Rattle.std.proofs.lemmas.Option.{get_or_from_slice_get}
 use Rattle.gql_ports.specs.declared.stored.Record.{Record}
 use Rattle.gql_rowcode.specs.declared.seen.Seen.{Seen}
-use Rattle.gql_rowcode.specs.Walk.{record_after, or_fault, walk, IsSpelled, AreSpelled}
+use Rattle.gql_rowcode.specs.Machinery.Walk.{record_after, or_fault, walk, IsSpelled, AreSpelled}
 
 -- a record that may stand there
 pub walk-more : (place : ℕ) (seen next : Seen) (r : Record) (rs : List Record) → record_after seen r ≡ Some next → walk place seen (r ∷ rs) ≡ walk (suc place) next rs

@@ -5,7 +5,7 @@ use Rattle.std.proofs.Common.{eqb}
 use Rattle.std.proofs.lemmas.Bool.{le-ltb}
 use Rattle.gql_values3.specs.Texts.{same_text}
 use Rattle.gql_rowcode.specs.Records.{spelled, home}
-use Rattle.gql_rowcode.specs.Reading.{home_node_key_at, subject_at}
+use Rattle.gql_rowcode.specs.Machinery.Reading.{home_node_key_at, subject_at}
 
 not_true : (b : Bool) → true ≡ not b → b ≡ false
 not_true true e = absurd cc

@@ -14,8 +14,8 @@ use Rattle.gql_ports.specs.declared.stored.Record.{Record}
 use Rattle.gql_rowcode.specs.Records.{Form, version, home_graph, home_node, home, record_of, IsForm}
 use Rattle.gql_rowcode.specs.StandFor.{node_record, graph_records, catalog_records, IsKeptNode, AreKept, StandFor}
 use Rattle.gql_rowcode.specs.FirstBad.{IsGood}
-use Rattle.gql_rowcode.specs.Reading.{◌>>=◌, form_at}
-use Rattle.gql_rowcode.specs.Walk.{node, seen_after, record_after, or_fault, walk, IsSpelled, catalog_of}
+use Rattle.gql_rowcode.specs.Machinery.Reading.{◌>>=◌, form_at}
+use Rattle.gql_rowcode.specs.Machinery.Walk.{node, seen_after, record_after, or_fault, walk, IsSpelled, catalog_of}
 use Rattle.gql_rowcode.specs.declared.seen.Seen.{Seen}
 use Rattle.gql_rowcode.specs.declared.seen.Seen.TheVariants.{Nothing, Version, Graph}
 use Rattle.gql_rowcode.proofs.FormLemmas.{form_again}
@@ -255,7 +255,7 @@ Finds rs c = (seen : Seen) × (walk 0 Nothing rs ≡ Ok seen) × (catalog_of see
 held_parts : (p : List ℕ × CatalogGraph) → is_sound (record { graphs = p ∷ []; types = [] }) ≡ true → (is_graph p.1.graph ≡ true) × (p.1.kind ≡ None)
 held_parts p sound = told p.1.kind (is_graph p.1.graph) refl sound
   where
-    told : (k : Option (List ℕ)) (b : Bool) → is_graph p.1.graph ≡ b → (b && not (is_some k) && true && true) ≡ true → (is_graph p.1.graph ≡ true) × (k ≡ None)
+    told : (k : Option (List ℕ)) (b : Bool) → is_graph p.1.graph ≡ b → (b && true && (not (is_some k) && true) && true) ≡ true → (is_graph p.1.graph ≡ true) × (k ≡ None)
     told None true one all = (one, refl)
     told None false one all = absurd (cc)
     told (Some t) true one all = absurd (cc)

@@ -1,6 +1,6 @@
 ghost use Rattle.std.specs.Prelude.{◌≡◌, List, length, Some, None};
 ghost use Rattle.std.specs.Int.{w32, w64};
-ghost use Rattle.gql_rowcode.specs.Reading.{Answers, Gives, number_at, text_at, utf8_at};
+ghost use Rattle.gql_rowcode.specs.Machinery.Reading.{GivesFree, Gives, number_at, text_at, utf8_at};
 
 use crate::misread::Misread;
 use gql_values3::Text;
@@ -9,7 +9,7 @@ use std::str;
 
 /// The number of the first four bytes, and the bytes after them.
 pub fn u32_at(bytes: &[u8]) -> Result<(u32, &[u8]), Misread>
-    ensures { Answers (λ x. (x.0, x.1.now)) result (number_at w32 bytes.now) }
+    ensures { GivesFree (λ x. (x.0, x.1.now)) result (number_at w32 bytes.now) }
 {
     if bytes.len() < 4 {
         return Err(Misread::NoForm);
@@ -21,7 +21,7 @@ pub fn u32_at(bytes: &[u8]) -> Result<(u32, &[u8]), Misread>
 
 /// The number of the first eight bytes, and the bytes after them.
 pub fn u64_at(bytes: &[u8]) -> Result<(u64, &[u8]), Misread>
-    ensures { Answers (λ x. (x.0, x.1.now)) result (number_at w64 bytes.now) }
+    ensures { GivesFree (λ x. (x.0, x.1.now)) result (number_at w64 bytes.now) }
 {
     if bytes.len() < 8 {
         return Err(Misread::NoForm);
@@ -34,7 +34,7 @@ pub fn u64_at(bytes: &[u8]) -> Result<(u64, &[u8]), Misread>
 }
 
 /// The text at the front, behind its length, and the bytes after it.
-#[tactic(auto, unfolding(crate::specs::Reading::text_at))]
+#[tactic(auto, unfolding(crate::specs::Machinery::Reading::text_at))]
 pub fn text_of(alloc: Global, bytes: &[u8]) -> Result<(Text, &[u8]), Misread>
     ensures { Gives (λ x. (x.0, x.1.now)) result (text_at bytes.now) }
 {
@@ -49,7 +49,7 @@ pub fn text_of(alloc: Global, bytes: &[u8]) -> Result<(Text, &[u8]), Misread>
 }
 
 fn utf8_of(bytes: &[u8]) -> Result<&str, Misread>
-    ensures { Answers (λ x. x.now) result (utf8_at bytes.now) }
+    ensures { GivesFree (λ x. x.now) result (utf8_at bytes.now) }
 {
     match str::from_utf8(bytes) {
         Ok(text) => Ok(text),

@@ -1,7 +1,7 @@
 ghost use Rattle.std.specs.Prelude.{◌≡◌, IfOk};
 ghost use Rattle.gql_rowcode.specs.Records.{IsForm, record_of};
-ghost use Rattle.gql_rowcode.specs.Said.{form_of};
-ghost use Rattle.gql_rowcode.specs.Reading.{Answers, Gives, form_at, said_at, version_at, home_graph_at, home_node_at};
+ghost use Rattle.gql_rowcode.specs.Machinery.Said.{form_of};
+ghost use Rattle.gql_rowcode.specs.Machinery.Reading.{GivesFree, Gives, form_at, said_at, version_at, home_graph_at, home_node_at};
 
 use crate::bytes::{u32_at, u64_at};
 use crate::labels::labels_of;
@@ -27,7 +27,7 @@ pub fn read_form(alloc: Global, found: &Record) -> Result<Form, Misread>
     form_from(alloc, found.key.as_slice(), found.value.as_slice())
 }
 
-#[tactic(auto, unfolding(crate::specs::Reading::form_at))]
+#[tactic(auto, unfolding(crate::specs::Machinery::Reading::form_at))]
 fn form_from(alloc: Global, key: &[u8], value: &[u8]) -> Result<Form, Misread>
     ensures told { Gives form_of result (form_at (record { key = key.now; value = value.now })) }
     ensures spelled { IfOk result (λ form. IsForm (form_of form) × (record { key = key.now; value = value.now } ≡ record_of (form_of form))) }
@@ -48,9 +48,9 @@ fn said_of(alloc: Global, subject: Subject, value: &[u8]) -> Result<Form, Misrea
 
 const ONE: [u8; 1] = [1];
 
-#[tactic(auto, unfolding(crate::specs::Reading::version_at))]
+#[tactic(auto, unfolding(crate::specs::Machinery::Reading::version_at))]
 fn version_of(value: &[u8]) -> Result<Form, Misread>
-    ensures { Answers form_of result (version_at value.now) }
+    ensures { GivesFree form_of result (version_at value.now) }
 {
     if value == ONE.as_slice() {
         Ok(Form::Version)
@@ -59,9 +59,9 @@ fn version_of(value: &[u8]) -> Result<Form, Misread>
     }
 }
 
-#[tactic(auto, unfolding(crate::specs::Reading::home_graph_at))]
+#[tactic(auto, unfolding(crate::specs::Machinery::Reading::home_graph_at))]
 fn home_graph_of(value: &[u8]) -> Result<Form, Misread>
-    ensures { Answers form_of result (home_graph_at value.now) }
+    ensures { GivesFree form_of result (home_graph_at value.now) }
 {
     let [0, numbers @ ..] = value else {
         return Err(Misread::NoForm);
@@ -77,7 +77,7 @@ fn home_graph_of(value: &[u8]) -> Result<Form, Misread>
     })
 }
 
-#[tactic(auto, unfolding(crate::specs::Reading::home_node_at))]
+#[tactic(auto, unfolding(crate::specs::Machinery::Reading::home_node_at))]
 fn home_node_of(alloc: Global, number: u32, value: &[u8]) -> Result<Form, Misread>
     ensures { Gives form_of result (home_node_at number value.now) }
 {

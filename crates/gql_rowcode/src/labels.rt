@@ -1,15 +1,14 @@
 ghost use Rattle.std.specs.Prelude.{◌≡◌, List};
 ghost use Rattle.gql_values3.specs.Texts.{texts_ascend};
-ghost use Rattle.gql_rowcode.specs.Reading.{Gives, texts_at, labels_at};
+ghost use Rattle.gql_rowcode.specs.Machinery.Reading.{Gives, texts_at, labels_at};
 
 use crate::bytes::{text_of, u64_at};
 use crate::misread::Misread;
-use gql_values3::{Names, Sequence, Text};
+use gql_values3::{Names, Sequence, Text, keys_ascend};
 use std::alloc::Global;
-use std::cmp::Ordering;
 
 /// The set of labels at the front, behind their count, and the bytes after it.
-#[tactic(auto, unfolding(crate::specs::Reading::labels_at))]
+#[tactic(auto, unfolding(crate::specs::Machinery::Reading::labels_at))]
 pub fn labels_of(alloc: Global, bytes: &[u8]) -> Result<(Names, &[u8]), Misread>
     ensures { Gives (λ x. (x.0, x.1.now)) result (labels_at bytes.now) }
 {
@@ -38,15 +37,5 @@ fn texts_of(alloc: Global, count: u64, bytes: &[u8]) -> Result<(Names, &[u8]), M
 fn texts_ascend(texts: &[Text]) -> bool
     ensures { result ≡ texts_ascend texts.now }
 {
-    let Some((first, rest)) = texts.split_first() else {
-        return true;
-    };
-    let mut low = first;
-    for text in rest {
-        if low.cmp(text) != Ordering::Less {
-            return false;
-        }
-        low = text;
-    }
-    true
+    keys_ascend(texts)
 }

@@ -6,7 +6,7 @@
 #![tactic(auto)]
 
 mod bytes;
-pub mod fault;
+mod fault;
 mod form;
 mod labels;
 mod misread;
@@ -16,6 +16,3 @@ mod subject;
 
 pub use fault::ReadFault;
 pub use reading::read;
-
-#[cfg(test)]
-mod tests;

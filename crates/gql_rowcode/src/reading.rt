@@ -3,7 +3,7 @@ ghost use Rattle.gql_values3.specs.PropertyGraph.{is_graph};
 ghost use Rattle.gql_graph.specs.Catalog.{CatalogData, is_sound};
 ghost use Rattle.gql_rowcode.specs.StandFor.{StandFor};
 ghost use Rattle.gql_rowcode.specs.FirstBad.{FirstBad};
-ghost use Rattle.gql_rowcode.specs.Walk.{walk, Walks, SpelledAsFar, catalog_of};
+ghost use Rattle.gql_rowcode.specs.Machinery.Walk.{walk, Walks, SpelledAsFar, catalog_of};
 ghost use Rattle.gql_rowcode.specs.declared.seen.Seen.TheVariants.{Nothing};
 
 use crate::fault::ReadFault;
@@ -26,6 +26,8 @@ pub fn read(alloc: Global, records: &[Record]) -> Result<Catalog, ReadFault>
     // the other way round: a fault is told, and records of a catalog are read as that catalog, unless there is no memory
     ensures at_fault { (i : ℕ) → FirstBad records.now i → MatchResult result (λ _. ⊥) (λ e. (e ≡ ReadFault.BadRecord i) ⊎ (e ≡ ReadFault.OutOfMemory)) }
     ensures complete { (c : CatalogData) → StandFor records.now c → MatchResult result (λ d. d ≡ c) (λ e. e ≡ ReadFault.OutOfMemory) }
+    // no records stand for two catalogs
+    ensures single { (c d : CatalogData) → StandFor records.now c → StandFor records.now d → c ≡ d }
 {
     let seen = walk(alloc, records)?;
     Ok(catalog_of(alloc, seen)?)

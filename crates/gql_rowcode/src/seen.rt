@@ -1,7 +1,7 @@
 ghost use Rattle.std.specs.Prelude.{◌≡◌, [], ◌∷◌, ◌++◌, IfOk, OnOk};
-ghost use Rattle.gql_rowcode.specs.Said.{form_of};
-ghost use Rattle.gql_rowcode.specs.Reading.{Answers, Gives};
-ghost use Rattle.gql_rowcode.specs.Walk.{IsSpelled, record_after, seen_after, graph_after, node};
+ghost use Rattle.gql_rowcode.specs.Machinery.Said.{form_of};
+ghost use Rattle.gql_rowcode.specs.Machinery.Reading.{GivesFree, Gives};
+ghost use Rattle.gql_rowcode.specs.Machinery.Walk.{IsSpelled, record_after, seen_after, graph_after, node};
 
 use crate::form::{Form, read_form};
 use crate::misread::Misread;
@@ -33,7 +33,7 @@ pub fn after_record(alloc: Global, seen: Seen, found: &Record) -> Result<Seen, M
     after_form(alloc, seen, form)
 }
 
-#[tactic(auto, unfolding(crate::specs::Walk::seen_after))]
+#[tactic(auto, unfolding(crate::specs::Machinery::Walk::seen_after))]
 fn after_form(alloc: Global, seen: Seen, form: Form) -> Result<Seen, Misread>
     ensures { Gives (λ s. s) result (seen_after seen (form_of form)) }
 {
@@ -71,7 +71,7 @@ fn after_form(alloc: Global, seen: Seen, form: Form) -> Result<Seen, Misread>
 }
 
 fn graph_of(alloc: Global, next_node: u32, next_edge: u32) -> Result<Seen, Misread>
-    ensures { Answers (λ s. s) result (graph_after next_node next_edge) }
+    ensures { GivesFree (λ s. s) result (graph_after next_node next_edge) }
 {
     if next_node == 0 || next_edge == 0 {
         return Err(Misread::NoForm);

@@ -1,5 +1,5 @@
 ghost use Rattle.std.specs.Prelude.{◌≡◌};
-ghost use Rattle.gql_rowcode.specs.Reading.{Answers, subject_at, home_node_key_at};
+ghost use Rattle.gql_rowcode.specs.Machinery.Reading.{GivesFree, subject_at, home_node_key_at};
 
 use crate::bytes::u32_at;
 use crate::misread::Misread;
@@ -19,9 +19,9 @@ const HOME_GRAPH: [u8; 13] = [2, 0, 0, 0, 0, 0, 0, 0, 4, b'h', b'o', b'm', b'e']
 const HOME_NODE: [u8; 13] = [3, 0, 0, 0, 0, 0, 0, 0, 4, b'h', b'o', b'm', b'e'];
 
 /// What the key says, all of its bytes.
-#[tactic(auto, unfolding(crate::specs::Reading::subject_at))]
+#[tactic(auto, unfolding(crate::specs::Machinery::Reading::subject_at))]
 pub fn subject_of(key: &[u8]) -> Result<Subject, Misread>
-    ensures { Answers (λ x. x) result (subject_at key.now) }
+    ensures { GivesFree (λ x. x) result (subject_at key.now) }
 {
     if key == VERSION.as_slice() {
         Ok(Subject::Version)
@@ -32,9 +32,9 @@ pub fn subject_of(key: &[u8]) -> Result<Subject, Misread>
     }
 }
 
-#[tactic(auto, unfolding(crate::specs::Reading::home_node_key_at))]
+#[tactic(auto, unfolding(crate::specs::Machinery::Reading::home_node_key_at))]
 fn home_node_of(key: &[u8]) -> Result<Subject, Misread>
-    ensures { Answers (λ x. x) result (home_node_key_at key.now) }
+    ensures { GivesFree (λ x. x) result (home_node_key_at key.now) }
 {
     if key.len() < 13 {
         return Err(Misread::NoForm);

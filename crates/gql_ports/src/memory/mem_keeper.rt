@@ -5,7 +5,7 @@ ghost use Rattle.gql_values3.specs.Texts.{same_text};
 ghost use Rattle.gql_ports.specs.Causes.{Rose};
 ghost use Rattle.gql_ports.specs.Told.{MatchTold};
 ghost use Rattle.gql_values3.specs.Texts.{texts_differ};
-ghost use Rattle.gql_ports.specs.Held.{reopened, same_name, Applies, value_at, value_after};
+ghost use Rattle.gql_ports.specs.Held.{held_after_opening, same_name, Applies, value_at, value_after};
 ghost use Rattle.gql_ports.specs.Memory.{held_by};
 
 use crate::fault::KeepFault;
@@ -38,7 +38,7 @@ impl Keeper for MemKeeper {
     ghost faults = { λ k. k.faults };
 
     fn open(&mut self, name: Option<&str>) -> Result<(), KeepFault>
-        ensures ok { OnOk result (held_by self.new ≡ option_map (reopened (option_copied name.entry)) (held_by self.old)) }
+        ensures ok { OnOk result (held_by self.new ≡ option_map (held_after_opening (option_copied name.entry)) (held_by self.old)) }
         ensures err { OnErr result (held_by self.new ≡ held_by self.old) }
         ensures later { self.old.faults ≤ self.new.faults }
         ensures failed { result ≡ Err KeepFault.Failed → Rose self.old.faults self.new.faults }

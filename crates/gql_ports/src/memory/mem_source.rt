@@ -1,6 +1,6 @@
 ghost use Rattle.std.specs.Prelude.{◌≡◌, ◌≤◌, ◌<◌, ◌+◌, ◌-◌, ◌^◌, ◌↔◌, min, max, if◌then◌else◌, Some, length, take, drop, true, option_map, is_ok, IsErr, IfOk, OnErr, Contains};
 ghost use Rattle.gql_ports.specs.Causes.{HasCause};
-ghost use Rattle.gql_ports.specs.Told.{opened, MatchTold, Reads};
+ghost use Rattle.gql_ports.specs.Told.{after_opening, MatchTold, AfterReading};
 ghost use Rattle.gql_ports.specs.Memory.{told_of};
 
 use crate::fault::Failed;
@@ -33,7 +33,7 @@ impl Source for MemSource {
     ghost faults = { λ s. s.faults };
 
     fn open(&mut self, name: &str) -> Result<(), Failed>
-        ensures content { told_of self.new ≡ option_map (opened name.now (is_ok result)) (told_of self.old) }
+        ensures content { told_of self.new ≡ option_map (after_opening name.now (is_ok result)) (told_of self.old) }
         ensures cause { HasCause self.old.faults self.new.faults result }
         ensures honest { IsErr result ↔ Contains self.old.fails self.new.calls }
         ensures counted { self.new.calls ≡ min (self.old.calls + 1) (2 ^ 64 - 1) }
@@ -50,7 +50,7 @@ impl Source for MemSource {
     fn read(&mut self, into: &mut [u8]) -> Result<usize, Failed>
         requires { 0 < length into.old }
         ensures bound { IfOk result (λ count. count ≤ length into.new) }
-        ensures content { IfOk result (λ count. MatchTold (told_of self.old) (told_of self.new) (Reads into.new count)) }
+        ensures content { IfOk result (λ count. MatchTold (told_of self.old) (told_of self.new) (AfterReading into.new count)) }
         ensures unchanged { OnErr result (told_of self.new ≡ told_of self.old) }
         ensures cause { HasCause self.old.faults self.new.faults result }
         ensures honest { IsErr result ↔ Contains self.old.fails self.new.calls }

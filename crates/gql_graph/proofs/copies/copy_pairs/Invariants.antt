@@ -1,5 +1,5 @@
 use Rattle.std.proofs.Common.{◌≡◌, map, take}
-use Rattle.gql_graph.specs.Shown.{shown}
+use Rattle.gql_graph.specs.Machinery.Shown.{shown}
 use Rattle.gql_graph.proofs.copies.copy_pairs.Given as goal
 
 abbrev pub invariant-loop-name : goal.invariant-loop-name

@@ -1,6 +1,6 @@
 use Rattle.std.proofs.Common.{◌≡◌, ◌+◌, ◌≤◌, drop}
 use Rattle.std.specs.Prelude.{count_by}
-use Rattle.gql_graph.specs.Made.{adds_node}
+use Rattle.gql_graph.specs.Machinery.AfterChange.{adds_node}
 use Rattle.gql_graph.proofs.edits.new_nodes.Given as goal
 
 abbrev pub invariant-loop-change : goal.invariant-loop-change

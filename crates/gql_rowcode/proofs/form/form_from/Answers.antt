@@ -1,5 +1,5 @@
 use Rattle.std.proofs.Common.{arith}
-use Rattle.gql_rowcode.specs.Reading.{form_at}
+use Rattle.gql_rowcode.specs.Machinery.Reading.{form_at}
 use Rattle.gql_rowcode.proofs.FormLemmas.{read_is_spelled}
 use Rattle.gql_rowcode.proofs.form.form_from.Goals as goal
 

@@ -1,5 +1,5 @@
 use Rattle.std.proofs.lemmas.Result.{err_from_is_err_and}
-use Rattle.gql_rowcode.specs.Reading.{texts_at}
+use Rattle.gql_rowcode.specs.Machinery.Reading.{texts_at}
 use Rattle.gql_rowcode.proofs.LoopLemmas.{goes_on, ends, is_done}
 use Rattle.gql_rowcode.proofs.labels.texts_of.Goals as goal
 

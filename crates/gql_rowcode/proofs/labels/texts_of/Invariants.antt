@@ -1,5 +1,5 @@
 use Rattle.std.proofs.Common.{◌≡◌, ◌-◌}
-use Rattle.gql_rowcode.specs.Reading.{texts_at}
+use Rattle.gql_rowcode.specs.Machinery.Reading.{texts_at}
 use Rattle.gql_rowcode.proofs.LoopLemmas.{with_front}
 use Rattle.gql_rowcode.proofs.labels.texts_of.Given as goal
 

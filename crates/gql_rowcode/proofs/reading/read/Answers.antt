@@ -1,7 +1,7 @@
 use Rattle.std.proofs.Common.{◌∙◌}
 use Rattle.gql_rowcode.specs.declared.fault.ReadFault.TheVariants.{BadRecord}
 use Rattle.std.proofs.lemmas.Result.{err_from_is_err_and}
-use Rattle.gql_rowcode.proofs.ReadLemmas.{ok_sound, ok_stands, ok_no_fault, ok_complete, err_told, err_is_bad, err_complete, err_at}
+use Rattle.gql_rowcode.proofs.ReadLemmas.{ok_sound, ok_stands, ok_no_fault, ok_complete, err_told, err_is_bad, err_complete, err_at, stand_for_one}
 use Rattle.gql_rowcode.proofs.reading.read.Goals as goal
 
 pub catalog_of-requires : goal.catalog_of-requires
@@ -15,6 +15,15 @@ returns-clause-at_fault c = ok_no_fault c.args.records.now c.in_ok-seen.seen c.i
 
 pub returns-clause-complete : goal.returns-clause-complete
 returns-clause-complete c = λ d stands. c.in_ok-catalog_of.ensures ∙ ok_complete c.args.records.now c.in_ok-seen.seen d c.in_ok-seen.ensures.told stands
+
+pub returns-clause-single : goal.returns-clause-single
+returns-clause-single c = stand_for_one c.args.records.now
+
+pub returns-in_err-catalog_of-clause-single : goal.returns-in_err-catalog_of-clause-single
+returns-in_err-catalog_of-clause-single c = stand_for_one c.args.records.now
+
+pub returns-in_err-seen-clause-single : goal.returns-in_err-seen-clause-single
+returns-in_err-seen-clause-single c = stand_for_one c.args.records.now
 
 pub returns-in_err-seen-clause-bad : goal.returns-in_err-seen-clause-bad
 returns-in_err-seen-clause-bad c =

@@ -1,7 +1,7 @@
 use Rattle.std.proofs.Common.{◌≡◌, None, subst, refl, sym, ◌∙◌, arith}
 use Rattle.gql_rowcode.specs.declared.misread.Misread.{Misread}
-use Rattle.gql_rowcode.specs.Reading.{Fails}
-use Rattle.gql_rowcode.specs.Walk.{record_after}
+use Rattle.gql_rowcode.specs.Machinery.Reading.{Fails}
+use Rattle.gql_rowcode.specs.Machinery.Walk.{record_after}
 use Rattle.gql_rowcode.proofs.StepLemmas.{step-more, step-fault, step-last, AreSpelled-more, AreSpelled-none}
 use Rattle.gql_rowcode.proofs.reading.walk.Goals as goal
 

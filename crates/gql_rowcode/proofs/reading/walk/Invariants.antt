@@ -1,6 +1,6 @@
 use Rattle.std.proofs.Common.{◌≡◌, drop}
 use Rattle.gql_rowcode.specs.declared.seen.Seen.TheVariants.{Nothing}
-use Rattle.gql_rowcode.specs.Walk.{walk, AreSpelled}
+use Rattle.gql_rowcode.specs.Machinery.Walk.{walk, AreSpelled}
 use Rattle.gql_rowcode.proofs.reading.walk.Given as goal
 
 abbrev pub invariant-loop-place : goal.invariant-loop-place

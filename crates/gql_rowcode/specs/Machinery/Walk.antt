@@ -4,7 +4,7 @@ use Rattle.gql_values3.specs.declared.records.NodeRecord.{NodeRecord}
 use Rattle.gql_graph.specs.Catalog.{CatalogData, catalog_with, initial_catalog}
 use Rattle.gql_ports.specs.declared.stored.Record.{Record}
 use Rattle.gql_rowcode.specs.Records.{Form, version, home_graph, home_node, home, record_of, IsForm}
-use Rattle.gql_rowcode.specs.Reading.{◌>>=◌, form_at}
+use Rattle.gql_rowcode.specs.Machinery.Reading.{◌>>=◌, form_at}
 use Rattle.gql_rowcode.specs.declared.fault.ReadFault.{ReadFault}
 use Rattle.gql_rowcode.specs.declared.fault.ReadFault.TheVariants as faults
 use Rattle.gql_rowcode.specs.declared.seen.Seen.{Seen}

@@ -1,8 +1,9 @@
 -- Reading what bytes spell, from left to right: a value and the bytes after it, or nothing where none is spelled.
-use Rattle.std.specs.Prelude.{◌≡◌, ℕ, zero, suc, List, [], ◌∷◌, length, take, drop, Option, Some, None, Result, Ok, Err, nat_lt, ◌==◌, ◌&&◌, if◌then◌else◌}
+use Rattle.std.specs.Prelude.{◌≡◌, ℕ, zero, suc, List, [], ◌∷◌, length, take, drop, Option, Some, None, Result, nat_lt, ◌==◌, ◌&&◌, if◌then◌else◌}
 use Rattle.std.specs.Int.{Width, w32, w64, byte_len, from_be_bytes}
 use Rattle.std.specs.Str.{is_utf8}
 use Rattle.gql_values3.specs.Texts.{same_text, texts_ascend}
+use Rattle.gql_values3.specs.UpToMemory.{FindsBy}
 use Rattle.gql_ports.specs.declared.stored.Record.{Record}
 use Rattle.gql_rowcode.specs.Records.{Form, version, home_graph, home_node, home, spelled}
 use Rattle.gql_rowcode.specs.declared.misread.Misread.{Misread}
@@ -23,13 +24,15 @@ Fails misreads.NoForm read = read ≡ None
 
 -- what a function returned, seen by view, is what is read, unless there was no memory
 abbrev pub Gives : {X Y : Type 0} → (X → Y) → Result X Misread → Option Y → Type 0
-Gives view (Ok x) read = read ≡ Some (view x)
-Gives view (Err e) read = Fails e read
+Gives view = FindsBy Fails view
+
+-- nothing is read
+abbrev pub FailsFree : {Y : Type 0} → Misread → Option Y → Type 0
+FailsFree e read = (e ≡ misreads.NoForm) × (read ≡ None)
 
 -- the same of a function that takes no memory
-abbrev pub Answers : {X Y : Type 0} → (X → Y) → Result X Misread → Option Y → Type 0
-Answers view (Ok x) read = read ≡ Some (view x)
-Answers view (Err e) read = (e ≡ misreads.NoForm) × (read ≡ None)
+abbrev pub GivesFree : {X Y : Type 0} → (X → Y) → Result X Misread → Option Y → Type 0
+GivesFree view = FindsBy FailsFree view
 
 -- a number of so many bytes
 abbrev pub number_at : Width → List ℕ → Option (ℕ × List ℕ)

@@ -6,7 +6,7 @@ use Rattle.gql_graph.specs.Edits.{changed, can_act}
 use Rattle.gql_graph.specs.Room.{GraphInMemory, has_room}
 
 -- the graph is the one behind the change, another change leads back, and no room is lost
-pub record Made (before : GraphInMemory) (done : Change) (after : GraphInMemory) (undo : Change) : Type 0 where
+pub record AfterChange (before : GraphInMemory) (done : Change) (after : GraphInMemory) (undo : Change) : Type 0 where
   pub graph : after.graph ≡ changed done before.graph
   pub undoes : IsTrue (can_act undo after.graph) × (changed undo after.graph ≡ before.graph)
   pub node_room : before.node_room ≤ after.node_room
