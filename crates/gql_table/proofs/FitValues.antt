@@ -1,6 +1,6 @@
 -- Values that fit what columns hold. The kind of a name and its value are those of the first column of that name, so a
 -- bare variable's value fits its kind; every other value is plain, and every value fits a plain column.
-use Rattle.std.proofs.Common.{◌≡◌, ℕ, Bool, true, false, cond, List, [], ◌∷◌, ◌++◌, map, find, slice_index_or, All, Option, Some, Ok, option_map, unwrap_or, refl, sym, subst}
+use Rattle.std.proofs.Common.{◌≡◌, ℕ, Bool, true, false, cond, List, [], ◌∷◌, map, find, slice_index_or, All, Option, Some, Ok, option_map, unwrap_or, refl, sym, subst}
 use Rattle.std.proofs.lemmas.Bool.{and_parts, and_from}
 use Rattle.std.proofs.lemmas.List.Elements.{All-weaker}
 use Rattle.std.proofs.lemmas.List.Sums.{AllPass-from_list_all}
