@@ -16,4 +16,4 @@ mod query;
 mod row_nodes;
 
 pub use answer::{Answer, RunFault};
-pub use query::{changes_data, run_reading_query, run_query};
+pub use query::{changes_data, run_query, run_reading_query};
