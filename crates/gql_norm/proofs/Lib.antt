@@ -1,3 +1,4 @@
+pub mod NormalFormLemmas
 pub mod Listing
 pub mod MatchTableLemmas
 pub mod AmongLemmas
@@ -12,9 +13,10 @@ mod MoreBindingExamples
 mod RowExamples
 mod LegalExamples
 mod SelectorExamples
-mod ModeLemmas
+pub mod ModeLemmas
 mod NormalFormExamples
 pub mod Pigeonhole
 pub mod ScopeLemmas
 pub mod Finiteness
 pub mod FiniteLists
+pub mod PathLemmas

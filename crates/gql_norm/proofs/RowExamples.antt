@@ -136,3 +136,19 @@ a_conditional_is_joined : refused (matched (plain (part_of (sequence (bare (code
     ∷ plain (part_of (bare (codes "y"))) ∷ []) None) ≡ Some (refusal.CondJoin (codes "y"))
 unfolding size visible predicates_in least_length has_empty_loop unprotected misused
 a_conditional_is_joined = refl
+
+-- MATCH p = TRAIL (x WHERE x.n = 1)-[e:T]->{1,2}(y), the pattern of docs/patterns.md
+abbrev through_all_stages : NormalPattern
+through_all_stages = matched (record {
+  name = Some (codes "p");
+  selector = None;
+  body = under_mode (Some mode.Trail) (part_of (sequence (node_where (codes "x") (n_is (codes "x") (codes "1")))
+      (patterns_of (repeated (t_right (Some (codes "e"))) (quantifier.Between (Some (codes "1")) (Some (codes "2"))) ∷ bare (codes "y") ∷ []))));
+} ∷ []) None
+
+one_pattern_through_all_stages : rows 0 [] through_all_stages false ([] ∷ [])
+    ≡ Ok ((a_path (record { start = 1; steps = (1, 2) ∷ [] }) ∷ a_node 1 ∷ list (data_of (an_edge 1 ∷ [])) ∷ a_node 2 ∷ [])
+    ∷ (a_path (record { start = 1; steps = (1, 2) ∷ (2, 1) ∷ [] }) ∷ a_node 1 ∷ list (data_of (an_edge 1 ∷ an_edge 2 ∷ [])) ∷ a_node 1 ∷ [])
+    ∷ (a_path (record { start = 1; steps = (1, 2) ∷ (3, 3) ∷ [] }) ∷ a_node 1 ∷ list (data_of (an_edge 1 ∷ an_edge 3 ∷ [])) ∷ a_node 3 ∷ []) ∷ [])
+unfolding size visible expansions layings value_of
+one_pattern_through_all_stages = refl

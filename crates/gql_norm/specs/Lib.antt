@@ -1,5 +1,6 @@
 pub mod NormalPattern
 pub mod NormalForm
+pub mod NormalData
 pub mod Places
 pub mod Item
 pub mod Expansion
@@ -23,5 +24,7 @@ pub mod WrongKinds
 pub mod JoinDefects
 pub mod Termination
 pub mod Finite
+pub mod Laws
 pub mod OtherDefects
 pub mod PatternRefusal
+pub mod Machinery

@@ -14,7 +14,7 @@ use Rattle.gql_ast.specs.declared.path.Prefix.{Prefix}
 use Rattle.gql_ast.specs.declared.path.Prefix.TheVariants as prefix
 use Rattle.gql_ast.specs.declared.pattern.Quantifier.{Quantifier}
 use Rattle.gql_ast.specs.declared.pattern.Quantifier.TheVariants as quantifier
-use Rattle.gql_norm.specs.NormalPattern.{Predicate, PropertyIs, Holds, ElementPattern, anonymous, Part, Node, Edge, Concat, Union, Alt, Quant, Opt, Scope, Sides, NoSide, Side, Selector, Any, Shortest, Groups, NormalPath, NormalPattern}
+use Rattle.gql_norm.specs.NormalPattern.{Predicate, PropertyIs, Holds, ElementPattern, anonymous, Part, Node, Edge, Concat, Union, Alt, Quant, Opt, Scope, Sides, sides_of, in_a_row, side_by_side, NoSide, Side, Selector, Any, Shortest, Groups, NormalPath, NormalPattern}
 
 -- `{p: e}` asks that the element's p equals e
 abbrev pub predicates_of : Option ConditionTree → List Predicate
@@ -43,19 +43,6 @@ most_copies (quantifier.Between m n) = option_map value_of_digits n
 abbrev pub quantified : Pattern → Part → Part
 quantified (edge d f) p = Concat (Node anonymous) (Concat p (Node anonymous))
 quantified _ p = p
-
--- parts in a row, and beside each other
-abbrev pub in_a_row : Part → List Part → Part
-in_a_row p [] = p
-in_a_row p (r ∷ rs) = Concat p (in_a_row r rs)
-
-abbrev pub side_by_side : Part → List Part → Part
-side_by_side p [] = p
-side_by_side p (r ∷ rs) = Union p (side_by_side r rs)
-
-abbrev pub sides_of : List Part → Sides
-sides_of [] = NoSide
-sides_of (p ∷ ps) = Side p (sides_of ps)
 
 -- parentheses without a mode have WALK
 abbrev mutual
