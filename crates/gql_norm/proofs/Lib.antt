@@ -20,3 +20,4 @@ pub mod ScopeLemmas
 pub mod Finiteness
 pub mod FiniteLists
 pub mod PathLemmas
+pub mod TrailLemmas

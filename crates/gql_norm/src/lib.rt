@@ -12,7 +12,7 @@ mod path;
 
 pub use element::{ElementPattern, Predicate, Predicates};
 pub use laws::{
-    acyclic_is_simple, bindings_are_finite, match_tables_grow, members_are_paths,
+    acyclic_is_simple, acyclic_is_trail, bindings_are_finite, match_tables_grow, members_are_paths,
     modes_admit_beginnings, row_order_has_no_duplicates, row_order_is_total,
 };
 pub use part::{Part, PartList, PartSub};
