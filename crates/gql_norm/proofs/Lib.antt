@@ -21,3 +21,4 @@ pub mod Finiteness
 pub mod FiniteLists
 pub mod PathLemmas
 pub mod TrailLemmas
+pub mod RowLengths

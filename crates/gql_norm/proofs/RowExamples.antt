@@ -152,3 +152,13 @@ one_pattern_through_all_stages : rows 0 [] through_all_stages false ([] ∷ [])
     ∷ (a_path (record { start = 1; steps = (1, 2) ∷ (3, 3) ∷ [] }) ∷ a_node 1 ∷ list (data_of (an_edge 1 ∷ an_edge 3 ∷ [])) ∷ a_node 3 ∷ []) ∷ [])
 unfolding size visible expansions layings value_of
 one_pattern_through_all_stages = refl
+
+-- (x)->{1,65536}(y), and (x)->{0,65535}(y) is within the limit
+abbrev right_between : List ℕ → List ℕ → NormalPattern
+right_between m n = matched (plain (part_of (sequence (bare (codes "x")) (patterns_of (repeated (edge direction.Right blank) (quantifier.Between (Some m) (Some n)) ∷ bare (codes "y") ∷ [])))) ∷ []) None
+
+a_bound_above_the_limit : bounds_at_fault (right_between (codes "1") (codes "65536")) ≡ 65536 ∷ []
+a_bound_above_the_limit = refl
+
+the_greatest_bound : bounds_at_fault (right_between (codes "0") (codes "65535")) ≡ []
+the_greatest_bound = refl

@@ -13,7 +13,7 @@ mod path;
 pub use element::{ElementPattern, Predicate, Predicates};
 pub use laws::{
     acyclic_is_simple, acyclic_is_trail, bindings_are_finite, match_tables_grow, members_are_paths,
-    modes_admit_beginnings, row_order_has_no_duplicates, row_order_is_total,
+    modes_admit_beginnings, row_order_has_no_duplicates, row_order_is_total, rows_fit_columns,
 };
 pub use part::{Part, PartList, PartSub};
 pub use path::{NormalPath, NormalPaths, NormalPattern, Selector};
