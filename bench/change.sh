@@ -4,7 +4,7 @@
 # statement's time is that of the session with it less that of the session without it, the least of three runs each.
 top=$(cd "$(dirname "$0")/.." && pwd) || exit 70
 [ -x "$top/gql" ] || { echo "the command gql is missing" >&2; exit 70; }
-"$top/gql" run "$top/examples/first.gql" >/dev/null || exit 70
+"$top/gql" --build >/dev/null || exit 70
 folder=$(mktemp -d) || exit 70
 trap 'rm -rf "$folder"' EXIT
 python3 - "$top/gql" "$folder" <<'PY'

@@ -5,7 +5,7 @@
 top=$(cd "$(dirname "$0")/.." && pwd) || exit 70
 folder=$(mktemp -d) || exit 70
 trap 'rm -rf "$folder"' EXIT
-"$top/gql" run "$top/examples/first.gql" >/dev/null || exit 70
+"$top/gql" --build >/dev/null || exit 70
 yes 'RETURN 1+1;' | head -n 20000 >"$folder/statements.gql"
 yes 'MATCH (x:A) RETURN x;' | head -n 1000000 >"$folder/matches.gql"
 head -c 67108864 /dev/zero | tr '\0' ' ' >"$folder/blanks.gql"

@@ -4,16 +4,10 @@
 //! beginning of what was to be added: it is of no further use.
 
 mod escapes;
-#[cfg(test)]
-mod expression_tests;
 mod expressions;
-#[cfg(test)]
-mod label_tests;
 mod labels;
 mod names;
 mod numbers;
-#[cfg(test)]
-mod value_tests;
 mod values;
 mod words;
 

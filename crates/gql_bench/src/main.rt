@@ -7,17 +7,11 @@
 #![tactic(auto)]
 
 mod evaluation;
-#[cfg(test)]
-mod examples;
 mod lexer;
 #[cfg(test)]
-mod limits;
+mod long_chain;
 mod parsing;
-#[cfg(test)]
-mod postfix;
 mod scope;
-#[cfg(test)]
-mod small_graph;
 mod tables;
 
 use anyhow::{Result, bail};

@@ -11,7 +11,7 @@ use Rattle.gql_ast.specs.declared.words.SetQuantifier.{SetQuantifier}
 use Rattle.gql_ast.specs.declared.words.SetQuantifier.TheVariants as quantifier
 use Rattle.gql_exprs.specs.declared.atom_word.AtomWord.{AtomWord}
 use Rattle.gql_exprs.specs.declared.atom_word.AtomWord.TheVariants as atom
-use Rattle.gql_front.specs.SymbolPlaces.{opening, closing, opening_bracket, closing_bracket, comma, star}
+use Rattle.gql_lexer.specs.SymbolPlaces.{opening, closing, opening_bracket, closing_bracket, comma, star}
 use Rattle.gql_front.specs.Tables.{Begins}
 use Rattle.gql_front.specs.Reading.{◌>>=◌, Reader, is_sign, after, op_at}
 use Rattle.gql_front.proofs.Found.{Found, exact, longer, Complete, exact_at}
@@ -19,7 +19,7 @@ use Rattle.gql_front.proofs.LexemeTests.{after_sign}
 use Rattle.gql_front.proofs.TableLemmas.{read_begins, begins_shorter, word_row}
 use Rattle.gql_exprs.specs.ExprWords.{atom_word, quantifier_words, quantifier_op}
 use Rattle.gql_exprs.specs.Grammar.{at_atom, OpensList, IsQuantifier, Is, IsItems, IsList}
-use Rattle.gql_exprs.specs.Readers.{quantifier_of, star_of, closed_of, paren_of, list_of, listing_of, word_listing_of, aggregate_of, call_of, first_of, modulo_of, coalesce_of, word_atom_of, atom_of}
+use Rattle.gql_exprs.specs.Machinery.Readers.{quantifier_of, star_of, closed_of, paren_of, list_of, listing_of, word_listing_of, aggregate_of, call_of, expr_before_comma_of, modulo_of, coalesce_of, word_atom_of, atom_of}
 use Rattle.gql_exprs.proofs.ExprChains.{At, trees_of-items_of_trees}
 use Rattle.gql_exprs.proofs.ExprLists.{goes_atom, goes_or, goes_list, Inner, list_found}
 use Rattle.gql_exprs.proofs.ExprShorter.{is_shorter}
@@ -36,8 +36,8 @@ module _ (n : ℕ) (f : Reader Tree) (inner : Inner n f) where
   unfolding closed_of
   closed_read e a s le h = rw (inner_read e a (lex.Sign closing) s le h refl) refl
 
-  first_read : (e : Tree) (a b : List Lexeme) → length a < n → Is e a (lex.Sign comma ∷ b) → first_of f (lex.Sign opening ∷ a) ≡ Some (e, b)
-  unfolding first_of
+  first_read : (e : Tree) (a b : List Lexeme) → length a < n → Is e a (lex.Sign comma ∷ b) → expr_before_comma_of f (lex.Sign opening ∷ a) ≡ Some (e, b)
+  unfolding expr_before_comma_of
   first_read e a b le h = rw (inner_read e a (lex.Sign comma) b le h refl) refl
 
   -- what derives is not refused

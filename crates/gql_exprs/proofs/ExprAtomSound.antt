@@ -11,8 +11,8 @@ use Rattle.gql_ast.specs.declared.words.SetQuantifier.{SetQuantifier}
 use Rattle.gql_ast.specs.declared.words.SetQuantifier.TheVariants as quantifier
 use Rattle.gql_exprs.specs.declared.atom_word.AtomWord.{AtomWord}
 use Rattle.gql_exprs.specs.declared.atom_word.AtomWord.TheVariants as atom
-use Rattle.gql_front.specs.SymbolPlaces.{opening, closing, opening_bracket, closing_bracket, comma, dot, star}
-use Rattle.gql_front.specs.WordPlaces.{ALL, DISTINCT}
+use Rattle.gql_lexer.specs.SymbolPlaces.{opening, closing, opening_bracket, closing_bracket, comma, dot, star}
+use Rattle.gql_lexer.specs.WordPlaces.{ALL, DISTINCT}
 use Rattle.gql_front.specs.Tables.{entry, Begins}
 use Rattle.gql_front.specs.Reading.{◌>>=◌, Reader, is_sign, any_name_in, after, op_at, ended}
 use Rattle.gql_front.proofs.Found.{Goes, Found, exact, longer, Sound, some_is, bind_some}
@@ -20,7 +20,7 @@ use Rattle.gql_front.proofs.LexemeTests.{after_sign}
 use Rattle.gql_front.proofs.TableLemmas.{read_begins, word_row}
 use Rattle.gql_exprs.specs.ExprWords.{atom_words, atom_word, quantifier_words, quantifier_op}
 use Rattle.gql_exprs.specs.Grammar.{at_atom, OpensList, IsQuantifier, Is, IsItems, IsList}
-use Rattle.gql_exprs.specs.Readers.{field, named, quantifier_or_all, quantifier_of, star_of, closed_of, paren_of, list_of, empty_or_items, listing_of, word_listing_of, all_or_item, aggregate_of, call_of, first_of, modulo_of, coalesce_of, word_atom_of, atom_of}
+use Rattle.gql_exprs.specs.Machinery.Readers.{field, named, quantifier_or_all, quantifier_of, star_of, closed_of, paren_of, list_of, empty_or_items, listing_of, word_listing_of, all_or_item, aggregate_of, call_of, expr_before_comma_of, modulo_of, coalesce_of, word_atom_of, atom_of}
 use Rattle.gql_exprs.proofs.ExprChains.{At}
 use Rattle.gql_exprs.proofs.ExprLists.{goes_atom, Inner, list_sound}
 
@@ -169,8 +169,8 @@ module _ (n : ℕ) (f : Reader Tree) (inner : Inner n f) where
           derived = (a.0, subst (λ (z : List Lexeme). Begins atom_word (atom.Call g) whole z) (after_sign opening ts a.0 a.1) begins, closed_sound a.0 b.0.0 b.0.1 b.1);
         })
 
-  first_sound : (ts : List Lexeme) (x : Tree) (r : List Lexeme) → first_of f ts ≡ Some (x, r) → (a : List Lexeme) × (ts ≡ lex.Sign opening ∷ a) × Is x a (lex.Sign comma ∷ r)
-  unfolding first_of
+  first_sound : (ts : List Lexeme) (x : Tree) (r : List Lexeme) → expr_before_comma_of f ts ≡ Some (x, r) → (a : List Lexeme) × (ts ≡ lex.Sign opening ∷ a) × Is x a (lex.Sign comma ∷ r)
+  unfolding expr_before_comma_of
   first_sound ts x r e =
       let a = bind_some (after (is_sign opening) ts) (λ a. f a >>= λ e. after (is_sign comma) e.1 >>= λ r. Some (e.0, r)) (x, r) e in
       let b = bind_some (f a.0) (λ e. after (is_sign comma) e.1 >>= λ r. Some (e.0, r)) (x, r) a.2 in
@@ -185,7 +185,7 @@ module _ (n : ℕ) (f : Reader Tree) (inner : Inner n f) where
     modulo_sound : (ts : List Lexeme) → Begins atom_word atom.Mod whole ts → (x : Tree) (r : List Lexeme) → modulo_of f ts ≡ Some (x, r) → At at_atom x whole r
     unfolding modulo_of
     modulo_sound ts begins x r e =
-        let a = bind_some (first_of f ts) (λ e. closed_of f e.1 >>= λ d. Some (modulo e.0 d.0, d.1)) (x, r) e in
+        let a = bind_some (expr_before_comma_of f ts) (λ e. closed_of f e.1 >>= λ d. Some (modulo e.0 d.0, d.1)) (x, r) e in
         let b = bind_some (closed_of f a.0.1) (λ d. Some (modulo a.0.0 d.0, d.1)) (x, r) a.2 in
         let first = first_sound ts a.0.0 a.0.1 a.1 in
         subst (λ (z : Tree × List Lexeme). At at_atom z.0 whole z.1) (some_is (modulo a.0.0 b.0.0, b.0.1) (x, r) b.2)
@@ -197,7 +197,7 @@ module _ (n : ℕ) (f : Reader Tree) (inner : Inner n f) where
     coalesce_sound : (ts : List Lexeme) → Begins atom_word atom.Coalesce whole ts → (x : Tree) (r : List Lexeme) → coalesce_of f ts ≡ Some (x, r) → At at_atom x whole r
     unfolding coalesce_of
     coalesce_sound ts begins x r e =
-        let a = bind_some (first_of f ts) (λ e. list_of f e.1 >>= λ es. after (is_sign closing) es.1 >>= λ r. Some (coalesce e.0 (trees_of es.0), r)) (x, r) e in
+        let a = bind_some (expr_before_comma_of f ts) (λ e. list_of f e.1 >>= λ es. after (is_sign closing) es.1 >>= λ r. Some (coalesce e.0 (trees_of es.0), r)) (x, r) e in
         let b = bind_some (list_of f a.0.1) (λ es. after (is_sign closing) es.1 >>= λ r. Some (coalesce a.0.0 (trees_of es.0), r)) (x, r) a.2 in
         let c = bind_some (after (is_sign closing) b.0.1) (λ r. Some (coalesce a.0.0 (trees_of b.0.0), r)) (x, r) b.2 in
         let first = first_sound ts a.0.0 a.0.1 a.1 in

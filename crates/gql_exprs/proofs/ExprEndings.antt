@@ -8,8 +8,8 @@ use Rattle.gql_ast.specs.declared.words.Sense.{Sense}
 use Rattle.gql_ast.specs.declared.words.Sense.TheVariants as sense
 use Rattle.gql_exprs.specs.declared.test_word.TestWord.{TestWord}
 use Rattle.gql_exprs.specs.declared.test_word.TestWord.TheVariants as asked
-use Rattle.gql_front.specs.SymbolPlaces.{colon}
-use Rattle.gql_front.specs.WordPlaces.{IS, NOT, OF}
+use Rattle.gql_lexer.specs.SymbolPlaces.{colon}
+use Rattle.gql_lexer.specs.WordPlaces.{IS, NOT, OF}
 use Rattle.gql_front.specs.Tables.{Begins}
 use Rattle.gql_front.specs.Reading.{◌>>=◌, is_word, name_in, after, op_at}
 use Rattle.gql_front.proofs.Found.{Goes, Found, exact, Sound, Shrinks, some_is, bind_some}
@@ -18,9 +18,9 @@ use Rattle.gql_front.proofs.Parts.{last_found}
 use Rattle.gql_front.proofs.TableLemmas.{begins_read, read_begins, word_row}
 use Rattle.gql_exprs.specs.ExprWords.{test_words, test_word}
 use Rattle.gql_exprs.specs.LabelGrammar.{IsLabel}
-use Rattle.gql_exprs.specs.LabelReaders.{read_label}
+use Rattle.gql_exprs.specs.Machinery.LabelReaders.{read_label}
 use Rattle.gql_exprs.specs.Grammar.{Asks, AsksLabels, Ending, has_quality, has_labels, is_end, IsEnding}
-use Rattle.gql_exprs.specs.Readers.{not_or_is, sense_of, labels_ending, end_ending, asked_ending, is_ending, ending}
+use Rattle.gql_exprs.specs.Machinery.Readers.{not_or_is, sense_of, labels_ending, end_ending, asked_ending, is_ending, ending}
 use Rattle.gql_exprs.proofs.LabelLevels.{goes_label, label_sound, label_complete}
 use Rattle.gql_exprs.proofs.ExprShorter.{ending_shorter}
 use Rattle.gql_exprs.proofs.ExprLists.{goes_comparison, begins_ending}

@@ -3,15 +3,15 @@ use Rattle.std.proofs.Common.{◌≡◌, ℕ, ◌<◌, Bool, true, false, ◌||�
 use Rattle.gql_lexer.specs.declared.lexeme.Lexeme.{Lexeme}
 use Rattle.gql_lexer.specs.declared.lexeme.Lexeme.TheVariants as lex
 use Rattle.gql_ast.specs.Tree.{Tree, Trees, trees_of, items_of_trees, no_trees, more_trees}
-use Rattle.gql_front.specs.SymbolPlaces.{comma, colon, dot, star, closing_bracket}
-use Rattle.gql_front.specs.WordPlaces.{IS, ALL, DISTINCT}
+use Rattle.gql_lexer.specs.SymbolPlaces.{comma, colon, dot, star, closing_bracket}
+use Rattle.gql_lexer.specs.WordPlaces.{IS, ALL, DISTINCT}
 use Rattle.gql_front.specs.Reading.{Reader, is_sign, is_word, step}
 use Rattle.gql_front.proofs.Found.{Found, Sound, Complete, Shrinks, is_there, StepIs, step_goes, step_sound, step_complete}
 use Rattle.gql_front.proofs.Chains.{Consumes, Many, operators_apart, sequence_read, sequence_found}
 use Rattle.gql_front.proofs.LexemeTests.{cond_some_is, sign_is}
 use Rattle.gql_exprs.specs.ExprWords.{product_op, sum_op, comparison_op, and_op, or_op}
 use Rattle.gql_exprs.specs.Grammar.{Is, IsList, IsOthers}
-use Rattle.gql_exprs.specs.Readers.{comma_op, operand, items, list_of}
+use Rattle.gql_exprs.specs.Machinery.Readers.{comma_op, operand, items, list_of}
 use Rattle.gql_exprs.proofs.LabelLevels.{goes_label}
 use Rattle.gql_exprs.proofs.ExprChains.{trees_of-items_of_trees}
 use Rattle.gql_exprs.proofs.ExprShorter.{is_shorter}

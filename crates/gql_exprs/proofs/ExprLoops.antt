@@ -4,12 +4,12 @@ use Rattle.gql_lexer.specs.declared.lexeme.Lexeme.{Lexeme}
 use Rattle.gql_ast.specs.Tree.{Tree, Link, link}
 use Rattle.gql_exprs.specs.declared.chain.Chain.{Chain}
 use Rattle.gql_exprs.specs.declared.chain.Chain.TheVariants as level
-use Rattle.gql_front.specs.SymbolPlaces.{comma}
+use Rattle.gql_lexer.specs.SymbolPlaces.{comma}
 use Rattle.gql_front.specs.Reading.{◌>>=◌, Reader, is_sign, after, op_at, before, step, many, sequence}
 use Rattle.gql_front.proofs.Loops.{with_front, loop_stops, loop_goes_on}
 use Rattle.gql_front.proofs.Found.{Shrinks, step_shrinks}
 use Rattle.gql_exprs.specs.Grammar.{at_signed, at_product, at_not, at_and}
-use Rattle.gql_exprs.specs.Readers.{comma_op, operand, operator_in, node_of, chain_or_side, side_of, steps_of, chain_of, list_of, read_expr, or_of, and_of, not_of, product_of, signed_of, sum_of}
+use Rattle.gql_exprs.specs.Machinery.Readers.{comma_op, operand, operator_in, node_of, chain_or_side, side_of, steps_of, chain_of, list_of, read_expr, or_of, and_of, not_of, product_of, signed_of, sum_of}
 use Rattle.gql_exprs.proofs.ExprChains.{at_shrinks}
 use Rattle.gql_exprs.proofs.ExprLists.{shrinks}
 use Rattle.gql_exprs.proofs.ExprLevels.{signed_reads, product_reads, not_reads, and_reads}

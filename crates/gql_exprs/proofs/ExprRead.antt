@@ -4,14 +4,14 @@ use Rattle.std.proofs.Common.{◌≡◌, ℕ, zero, suc, ◌≤◌, List, [], �
 use Rattle.gql_lexer.specs.declared.lexeme.Lexeme.{Lexeme}
 use Rattle.gql_lexer.specs.declared.lexeme.Lexeme.TheVariants as lex
 use Rattle.gql_ast.specs.Tree.{Tree, signed}
-use Rattle.gql_front.specs.SymbolPlaces.{closing_bracket, star}
-use Rattle.gql_front.specs.WordPlaces.{ALL, DISTINCT}
+use Rattle.gql_lexer.specs.SymbolPlaces.{closing_bracket, star}
+use Rattle.gql_lexer.specs.WordPlaces.{ALL, DISTINCT}
 use Rattle.gql_front.specs.Longest.{Longest}
 use Rattle.gql_front.specs.Reading.{sequence, prefix, suffix}
 use Rattle.gql_front.proofs.Agree.{agree, is_longest}
 use Rattle.gql_front.proofs.Found.{Found, exact, longer, Sound, Complete, some_is}
 use Rattle.gql_exprs.specs.Grammar.{rank, at_or, Is, Derives}
-use Rattle.gql_exprs.specs.Readers.{atom_of, signed_of, product_of, sum_of, comparison_of, test_of, not_of, and_of, or_of, read_to, read_expr}
+use Rattle.gql_exprs.specs.Machinery.Readers.{atom_of, signed_of, product_of, sum_of, comparison_of, test_of, not_of, and_of, or_of, read_to, read_expr}
 use Rattle.gql_exprs.proofs.ExprLists.{goes_or, Inner}
 use Rattle.gql_exprs.proofs.ExprLevels.{or_reads}
 

@@ -12,8 +12,8 @@ use Rattle.gql_ast.specs.declared.words.SetQuantifier.{SetQuantifier}
 use Rattle.gql_ast.specs.declared.words.SetQuantifier.TheVariants as quantifier
 use Rattle.gql_exprs.specs.declared.atom_word.AtomWord.TheVariants as atom
 use Rattle.gql_exprs.specs.declared.test_word.TestWord.TheVariants as asked
-use Rattle.gql_front.specs.SymbolPlaces.{opening, closing, opening_bracket, closing_bracket, comma, star}
-use Rattle.gql_front.specs.WordPlaces.{OF}
+use Rattle.gql_lexer.specs.SymbolPlaces.{opening, closing, opening_bracket, closing_bracket, comma, star}
+use Rattle.gql_lexer.specs.WordPlaces.{OF}
 use Rattle.gql_front.proofs.TableLemmas.{begins_shorter}
 use Rattle.gql_exprs.specs.ExprWords.{or_op, and_op, sum_op, product_op, sign_op, comparison_op, atom_word, test_word}
 use Rattle.gql_exprs.specs.Grammar.{at_signed, at_product, at_not, at_and, IsConstant, OpensList, IsQuantifier, Asks, AsksLabels, Ending, has_quality, has_labels, is_end, IsEnding, Is, IsSteps, IsItems, IsList, IsOthers}

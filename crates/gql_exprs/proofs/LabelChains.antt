@@ -8,7 +8,7 @@ use Rattle.gql_ast.specs.Label.{Label}
 use Rattle.gql_exprs.specs.declared.labels.LabelChain.{LabelChain}
 use Rattle.gql_exprs.specs.declared.labels.LabelChain.TheVariants.{Or, And}
 use Rattle.gql_exprs.specs.LabelGrammar.{at_factor, at_term}
-use Rattle.gql_exprs.specs.LabelReaders.{symbol_op, operand, symbol_of, node_of, side_of, sides_of, chain_of, term_of, expression_of, read_label}
+use Rattle.gql_exprs.specs.Machinery.LabelReaders.{symbol_op, operand, symbol_of, node_of, side_of, sides_of, chain_of, term_of, expression_of, read_label}
 use Rattle.gql_exprs.proofs.LabelLevels.{at_consumes, read_label_reads, factor_reads, term_reads}
 
 -- how far a chain is above a base, for measures

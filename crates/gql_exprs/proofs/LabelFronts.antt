@@ -2,7 +2,7 @@
 use Rattle.std.proofs.Common.{ℕ, List, [], ◌∷◌, refl}
 use Rattle.gql_lexer.specs.declared.lexeme.Lexeme.{Lexeme}
 use Rattle.gql_lexer.specs.declared.lexeme.Lexeme.TheVariants.{Sign}
-use Rattle.gql_front.specs.SymbolPlaces.{opening, closing, percent, ampersand, bar, bang}
+use Rattle.gql_lexer.specs.SymbolPlaces.{opening, closing, percent, ampersand, bar, bang}
 use Rattle.gql_front.proofs.Fronts.{Front, Token, token, nothing, front_then, closed}
 use Rattle.gql_ast.specs.Label.{Label, Labels, name, wildcard, paren, negation, conjunction, disjunction, no_labels, more_labels}
 use Rattle.gql_exprs.specs.LabelGrammar.{at_factor, at_term, IsLabel, AreSides}

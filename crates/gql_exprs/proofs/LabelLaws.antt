@@ -4,7 +4,7 @@ use Rattle.gql_lexer.specs.declared.lexeme.Lexeme.{Lexeme}
 use Rattle.gql_front.proofs.Found.{some_is, exact_at}
 use Rattle.gql_ast.specs.Label.{Label}
 use Rattle.gql_exprs.specs.LabelGrammar.{DerivesLabel}
-use Rattle.gql_exprs.specs.LabelReaders.{read_label}
+use Rattle.gql_exprs.specs.Machinery.LabelReaders.{read_label}
 use Rattle.gql_exprs.proofs.LabelLevels.{goes_label, label_complete}
 
 pub derived_is_read : (ts : List Lexeme) (x : Label) → DerivesLabel ts x → read_label ts ≡ Some (x, [])

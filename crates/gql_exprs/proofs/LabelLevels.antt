@@ -3,7 +3,7 @@
 use Rattle.std.proofs.Common.{◌≡◌, ℕ, zero, suc, ◌<◌, ◌≤◌, inl, inr, Bool, true, false, ◌||◌, cond, nat_eq, eqb-true, List, [], ◌∷◌, length, Some, None, refl, sym, ap, subst, ◌∙◌, arith}
 use Rattle.gql_lexer.specs.declared.lexeme.Lexeme.{Lexeme}
 use Rattle.gql_lexer.specs.declared.lexeme.Lexeme.TheVariants.{Word, Name, Chars, Number, Param, Sign}
-use Rattle.gql_front.specs.SymbolPlaces.{opening, closing, percent, ampersand, bar, bang}
+use Rattle.gql_lexer.specs.SymbolPlaces.{opening, closing, percent, ampersand, bar, bang}
 use Rattle.gql_front.specs.Longest.{Longest}
 use Rattle.gql_front.specs.Reading.{◌>>=◌, Reader, is_sign, any_name_in, after, step, sequence, prefix, one_or}
 use Rattle.gql_front.proofs.Found.{Found, exact, Sound, Complete, some_is, bind_some, exact_at, is_there, PrefixRead, prefix_some, prefix_none, prefix_split, StepIs, step_goes, step_sound, step_complete}
@@ -12,7 +12,7 @@ use Rattle.gql_front.proofs.Chains.{Consumes, Many, operators_apart, sequence_fo
 use Rattle.gql_front.proofs.Agree.{agree, is_longest}
 use Rattle.gql_ast.specs.Label.{Label, Labels, labels_listed, items_of_labels, name, wildcard, paren, negation, conjunction, disjunction, no_labels, more_labels}
 use Rattle.gql_exprs.specs.LabelGrammar.{at_base, at_factor, at_term, at_expression, label_rank, IsLabel, AreSides}
-use Rattle.gql_exprs.specs.LabelReaders.{symbol_op, operand, negated, conjoined, disjoined, paren_of, base_of, factor_of, term_of, expression_of, read_to, read_label}
+use Rattle.gql_exprs.specs.Machinery.LabelReaders.{symbol_op, operand, negated, conjoined, disjoined, paren_of, base_of, factor_of, term_of, expression_of, read_to, read_label}
 
 labels_listed-items_of_labels : (es : Labels) → labels_listed (items_of_labels es) ≡ es
 labels_listed-items_of_labels no_labels = refl

@@ -17,8 +17,8 @@ use Rattle.gql_exprs.specs.declared.atom_word.AtomWord.{AtomWord}
 use Rattle.gql_exprs.specs.declared.atom_word.AtomWord.TheVariants as atom
 use Rattle.gql_exprs.specs.declared.test_word.TestWord.{TestWord}
 use Rattle.gql_exprs.specs.declared.test_word.TestWord.TheVariants as test
-use Rattle.gql_front.specs.SymbolPlaces as symbol
-use Rattle.gql_front.specs.WordPlaces as word
+use Rattle.gql_lexer.specs.SymbolPlaces as symbol
+use Rattle.gql_lexer.specs.WordPlaces as word
 use Rattle.gql_front.specs.Tables.{word_in, sign_in}
 
 -- the operators of the chains

@@ -30,8 +30,8 @@ use Rattle.gql_ast.specs.declared.words.SetQuantifier.{SetQuantifier}
 use Rattle.gql_ast.specs.declared.words.SetQuantifier.TheVariants as quantifier
 use Rattle.gql_exprs.specs.declared.atom_word.AtomWord.TheVariants as atom
 use Rattle.gql_exprs.specs.declared.test_word.TestWord.TheVariants as asked
-use Rattle.gql_front.specs.SymbolPlaces.{opening, closing, opening_bracket, closing_bracket, comma, colon, dot, star}
-use Rattle.gql_front.specs.WordPlaces.{ALL, DISTINCT, IS, NOT, OF}
+use Rattle.gql_lexer.specs.SymbolPlaces.{opening, closing, opening_bracket, closing_bracket, comma, colon, dot, star}
+use Rattle.gql_lexer.specs.WordPlaces.{ALL, DISTINCT, IS, NOT, OF}
 use Rattle.gql_front.specs.Tables.{Begins}
 use Rattle.gql_front.specs.Reading.{any_name_in}
 use Rattle.gql_front.specs.Longest.{IsFrontOf}

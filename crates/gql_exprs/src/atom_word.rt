@@ -5,7 +5,7 @@ ghost use Rattle.gql_front.specs.Tables.{entry};
 ghost use Rattle.gql_exprs.specs.ExprWords.{atom_words};
 
 use gql_ast::{Aggregate, Function};
-use gql_front::words::{
+use gql_lexer::words::{
     ABS, CARDINALITY, CHAR_LENGTH, COALESCE, COLLECT_LIST, COUNT, ELEMENTS, FALSE, LIST, MAX, MIN,
     MOD, NULL, PATH_LENGTH, SUM, TRUE, UNKNOWN,
 };

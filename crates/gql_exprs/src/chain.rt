@@ -2,15 +2,15 @@
 
 ghost use Rattle.std.specs.Prelude.{◌≡◌, ◌<◌, length, IfOk};
 ghost use Rattle.gql_front.specs.Reading.{op_at};
-ghost use Rattle.gql_front.specs.Gives.{Takes};
+ghost use Rattle.gql_front.specs.Reads.{Takes};
 ghost use Rattle.gql_ast.specs.Meaning.{tree_of};
-ghost use Rattle.gql_exprs.specs.Readers.{operator_in, node_of, chain_or_side};
+ghost use Rattle.gql_exprs.specs.Machinery.Readers.{operator_in, node_of, chain_or_side};
 
 use gql_ast::{Expr, Operator, Steps, Sub};
 use gql_front::NoFront;
-use gql_front::symbols::{DOUBLE_BAR, MINUS, PLUS, SLASH, STAR};
-use gql_front::words::{AND, OR, XOR};
 use gql_lexer::Lexeme;
+use gql_lexer::symbols::{DOUBLE_BAR, MINUS, PLUS, SLASH, STAR};
+use gql_lexer::words::{AND, OR, XOR};
 use gql_values3::OutOfMemory;
 use std::alloc::Global;
 
@@ -46,8 +46,7 @@ fn operator_in(kind: Chain, lexeme: &Lexeme) -> Option<Operator>
 
 /// The operator at the front.
 pub fn operator_at(kind: Chain, rest: &[Lexeme]) -> Result<(Operator, &[Lexeme]), NoFront>
-    ensures given { Takes (λ x. (x.0, x.1.now)) result (op_at (operator_in kind) rest.now) }
-    ensures shorter { IfOk result (λ x. length x.1.now < length rest.now) }
+    ensures { Takes result rest.now (op_at (operator_in kind)) }
 {
     if let [lexeme, after @ ..] = rest {
         if let Some(operator) = operator_in(kind, lexeme) {

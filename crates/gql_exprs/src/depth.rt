@@ -1,8 +1,9 @@
+//! How deep brackets are nested.
+
 ghost use Rattle.std.specs.Prelude.{◌≡◌, ◌≤◌};
 ghost use Rattle.gql_exprs.specs.Depth.{is_opening, is_closing, count_behind, too_deep};
 
-use gql_front::symbols;
-use gql_lexer::Lexeme;
+use gql_lexer::{Lexeme, symbols};
 
 /// How deep brackets may be nested.
 pub const MOST_DEEP: u32 = 64;

@@ -1,18 +1,18 @@
 //! What may stand behind a comparison.
 
 ghost use Rattle.std.specs.Prelude.{◌≡◌, ◌<◌, ◌≤◌, length, IfOk};
-ghost use Rattle.gql_front.specs.Gives.{Gives};
+ghost use Rattle.gql_front.specs.Reads.{ReadsAs, MayReadAs};
 ghost use Rattle.gql_ast.specs.Meaning.{tree_of};
-ghost use Rattle.gql_exprs.specs.EndingMeaning.{ending_of};
-ghost use Rattle.gql_exprs.specs.Readers.{sense_of, labels_ending, end_ending, asked_ending, is_ending, ending, tested};
+ghost use Rattle.gql_exprs.specs.Machinery.EndingMeaning.{ending_of};
+ghost use Rattle.gql_exprs.specs.Machinery.Readers.{sense_of, labels_ending, end_ending, asked_ending, is_ending, ending, tested};
 
 use crate::labels::label_expression;
 use crate::test_word::{TestWord, asked_at};
 use gql_ast::{EdgeEnd, Expr, LabelExpr, ParseFault, Quality, Sense, Sub};
-use gql_front::symbols::COLON;
-use gql_front::words::{IS, NOT, OF};
-use gql_front::{after_word, plain_name};
+use gql_front::{ParseResult, after_word, plain_name};
 use gql_lexer::Lexeme;
+use gql_lexer::symbols::COLON;
+use gql_lexer::words::{IS, NOT, OF};
 use gql_values3::{OutOfMemory, Text};
 use std::alloc::Global;
 
@@ -25,13 +25,9 @@ pub enum TestEnding {
 }
 
 /// The ending at the front, and the lexemes behind it. `Syntax` comes exactly where none is.
-#[tactic(auto, unfolding(crate::specs::Readers::ending))]
-pub fn ending<'a>(
-    alloc: Global,
-    rest: &'a [Lexeme],
-) -> Result<(TestEnding, &'a [Lexeme]), ParseFault>
-    ensures given { Gives (λ x. (ending_of x.0, x.1.now)) result (ending rest.now) }
-    ensures shorter { IfOk result (λ x. length x.1.now < length rest.now) }
+#[tactic(auto, unfolding(crate::specs::Machinery::Readers::ending))]
+pub fn ending<'a>(alloc: Global, rest: &'a [Lexeme]) -> ParseResult<'a, TestEnding>
+    ensures { ReadsAs ending_of result rest.now ending }
 {
     match rest {
         [Lexeme::Sign(COLON), rest @ ..] => labels(alloc, Sense::Is, rest),
@@ -53,13 +49,9 @@ pub fn tested(alloc: Global, expr: Expr, ending: TestEnding) -> Result<Expr, Out
 }
 
 /// Behind IS.
-#[tactic(auto, unfolding(crate::specs::Readers::is_ending))]
-fn behind_is<'a>(
-    alloc: Global,
-    rest: &'a [Lexeme],
-) -> Result<(TestEnding, &'a [Lexeme]), ParseFault>
-    ensures given { Gives (λ x. (ending_of x.0, x.1.now)) result (is_ending rest.now) }
-    ensures shorter { IfOk result (λ x. length x.1.now < length rest.now) }
+#[tactic(auto, unfolding(crate::specs::Machinery::Readers::is_ending))]
+fn behind_is<'a>(alloc: Global, rest: &'a [Lexeme]) -> ParseResult<'a, TestEnding>
+    ensures { ReadsAs ending_of result rest.now is_ending }
 {
     let (sense, rest) = sense_of(rest);
     let (word, rest) = asked_at(rest)?;
@@ -67,7 +59,7 @@ fn behind_is<'a>(
 }
 
 /// NOT at the front, or nothing.
-#[tactic(auto, unfolding(crate::specs::Readers::sense_of))]
+#[tactic(auto, unfolding(crate::specs::Machinery::Readers::sense_of))]
 fn sense_of(rest: &[Lexeme]) -> (Sense, &[Lexeme])
     ensures given { (result.0, result.1.now) ≡ sense_of rest.now }
     ensures shorter { length result.1.now ≤ length rest.now }
@@ -84,9 +76,8 @@ fn asked<'a>(
     sense: Sense,
     word: TestWord,
     rest: &'a [Lexeme],
-) -> Result<(TestEnding, &'a [Lexeme]), ParseFault>
-    ensures given { Gives (λ x. (ending_of x.0, x.1.now)) result (asked_ending sense word rest.now) }
-    ensures shorter { IfOk result (λ x. length x.1.now ≤ length rest.now) }
+) -> ParseResult<'a, TestEnding>
+    ensures { MayReadAs ending_of result rest.now (asked_ending sense word) }
 {
     match word {
         TestWord::Quality(quality) => Ok((TestEnding::HasQuality(sense, quality), rest)),
@@ -96,29 +87,23 @@ fn asked<'a>(
 }
 
 /// A label expression, behind a colon or LABELED.
-#[tactic(auto, unfolding(crate::specs::Readers::labels_ending))]
-fn labels<'a>(
-    alloc: Global,
-    sense: Sense,
-    rest: &'a [Lexeme],
-) -> Result<(TestEnding, &'a [Lexeme]), ParseFault>
-    ensures given { Gives (λ x. (ending_of x.0, x.1.now)) result (labels_ending sense rest.now) }
-    ensures shorter { IfOk result (λ x. length x.1.now < length rest.now) }
+#[tactic(auto, unfolding(crate::specs::Machinery::Readers::labels_ending))]
+fn labels<'a>(alloc: Global, sense: Sense, rest: &'a [Lexeme]) -> ParseResult<'a, TestEnding>
+    ensures { ReadsAs ending_of result rest.now (labels_ending sense) }
 {
     let (labels, rest) = label_expression(alloc, rest)?;
     Ok((TestEnding::HasLabels(sense, labels), rest))
 }
 
 /// OF and a variable, behind SOURCE or DESTINATION.
-#[tactic(auto, unfolding(crate::specs::Readers::end_ending))]
+#[tactic(auto, unfolding(crate::specs::Machinery::Readers::end_ending))]
 fn end_of<'a>(
     alloc: Global,
     sense: Sense,
     end: EdgeEnd,
     rest: &'a [Lexeme],
-) -> Result<(TestEnding, &'a [Lexeme]), ParseFault>
-    ensures given { Gives (λ x. (ending_of x.0, x.1.now)) result (end_ending sense end rest.now) }
-    ensures shorter { IfOk result (λ x. length x.1.now < length rest.now) }
+) -> ParseResult<'a, TestEnding>
+    ensures { ReadsAs ending_of result rest.now (end_ending sense end) }
 {
     let rest = after_word(OF, rest)?;
     let (name, rest) = plain_name(rest)?;

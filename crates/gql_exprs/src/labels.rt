@@ -1,12 +1,14 @@
+//! Label expressions.
+
 ghost use Rattle.std.specs.Prelude.{◌≡◌, ◌<◌, ◌≤◌, length, IfOk};
-ghost use Rattle.gql_front.specs.Gives.{Gives};
+ghost use Rattle.gql_front.specs.Reads.{ReadsAs};
 ghost use Rattle.gql_front.specs.Reading.{one_or};
 ghost use Rattle.gql_ast.specs.LabelMeaning.{label_of};
-ghost use Rattle.gql_exprs.specs.LabelReaders.{paren_of, base_of, factor_of, symbol_of, node_of, side_of, sides_of, chain_of, read_label};
+ghost use Rattle.gql_exprs.specs.Machinery.LabelReaders.{paren_of, base_of, factor_of, symbol_of, node_of, side_of, sides_of, chain_of, read_label};
 
 use gql_ast::{LabelExpr, LabelList, LabelSub, ParseFault};
-use gql_front::{after_sign, symbols};
-use gql_lexer::Lexeme;
+use gql_front::{ParseResult, after_sign};
+use gql_lexer::{Lexeme, symbols};
 use gql_values3::OutOfMemory;
 use std::alloc::Global;
 
@@ -24,12 +26,8 @@ enum LabelChain {
 /// that are too deep before.
 #[cycle(labels)]
 #[tactic(auto, using(crate::proofs::LabelLevels::read_label_is))]
-pub fn label_expression<'a>(
-    alloc: Global,
-    rest: &'a [Lexeme],
-) -> Result<(LabelExpr, &'a [Lexeme]), ParseFault>
-    ensures given { Gives (λ x. (label_of x.0, x.1.now)) result (read_label rest.now) }
-    ensures shorter { IfOk result (λ x. length x.1.now < length rest.now) }
+pub fn label_expression<'a>(alloc: Global, rest: &'a [Lexeme]) -> ParseResult<'a, LabelExpr>
+    ensures { ReadsAs label_of result rest.now read_label }
 {
     chain(alloc, LabelChain::Or, rest)
 }
@@ -37,13 +35,8 @@ pub fn label_expression<'a>(
 /// A chain, or its only side.
 #[cycle(labels)]
 #[tactic(auto, using(crate::proofs::LabelChains::chain_is))]
-fn chain<'a>(
-    alloc: Global,
-    kind: LabelChain,
-    rest: &'a [Lexeme],
-) -> Result<(LabelExpr, &'a [Lexeme]), ParseFault>
-    ensures given { Gives (λ x. (label_of x.0, x.1.now)) result (chain_of kind read_label rest.now) }
-    ensures shorter { IfOk result (λ x. length x.1.now < length rest.now) }
+fn chain<'a>(alloc: Global, kind: LabelChain, rest: &'a [Lexeme]) -> ParseResult<'a, LabelExpr>
+    ensures { ReadsAs label_of result rest.now (chain_of kind read_label) }
 {
     let (first, rest) = side(alloc, kind, rest)?;
     let (others, rest) = sides(alloc, kind, rest)?;
@@ -52,13 +45,8 @@ fn chain<'a>(
 
 /// A side of a chain.
 #[cycle(labels)]
-fn side<'a>(
-    alloc: Global,
-    kind: LabelChain,
-    rest: &'a [Lexeme],
-) -> Result<(LabelExpr, &'a [Lexeme]), ParseFault>
-    ensures given { Gives (λ x. (label_of x.0, x.1.now)) result (side_of kind read_label rest.now) }
-    ensures shorter { IfOk result (λ x. length x.1.now < length rest.now) }
+fn side<'a>(alloc: Global, kind: LabelChain, rest: &'a [Lexeme]) -> ParseResult<'a, LabelExpr>
+    ensures { ReadsAs label_of result rest.now (side_of kind read_label) }
 {
     match kind {
         LabelChain::Or => chain(alloc, LabelChain::And, rest),
@@ -94,10 +82,9 @@ fn sides<'a>(
 
 /// A base, or `!` and a base.
 #[cycle(labels)]
-#[tactic(auto, unfolding(crate::specs::LabelReaders::factor_of, gql_front::specs::Reading::prefix))]
-fn factor<'a>(alloc: Global, rest: &'a [Lexeme]) -> Result<(LabelExpr, &'a [Lexeme]), ParseFault>
-    ensures given { Gives (λ x. (label_of x.0, x.1.now)) result (factor_of read_label rest.now) }
-    ensures shorter { IfOk result (λ x. length x.1.now < length rest.now) }
+#[tactic(auto, unfolding(crate::specs::Machinery::LabelReaders::factor_of, gql_front::specs::Reading::prefix))]
+fn factor<'a>(alloc: Global, rest: &'a [Lexeme]) -> ParseResult<'a, LabelExpr>
+    ensures { ReadsAs label_of result rest.now (factor_of read_label) }
 {
     match rest {
         [Lexeme::Sign(symbols::BANG), rest @ ..] => {
@@ -110,10 +97,9 @@ fn factor<'a>(alloc: Global, rest: &'a [Lexeme]) -> Result<(LabelExpr, &'a [Lexe
 
 /// A label, `%`, or a label expression in parentheses.
 #[cycle(labels)]
-#[tactic(auto, unfolding(crate::specs::LabelReaders::base_of))]
-fn base<'a>(alloc: Global, rest: &'a [Lexeme]) -> Result<(LabelExpr, &'a [Lexeme]), ParseFault>
-    ensures given { Gives (λ x. (label_of x.0, x.1.now)) result (base_of read_label rest.now) }
-    ensures shorter { IfOk result (λ x. length x.1.now < length rest.now) }
+#[tactic(auto, unfolding(crate::specs::Machinery::LabelReaders::base_of))]
+fn base<'a>(alloc: Global, rest: &'a [Lexeme]) -> ParseResult<'a, LabelExpr>
+    ensures { ReadsAs label_of result rest.now (base_of read_label) }
 {
     match rest {
         [Lexeme::Name(text), rest @ ..] => Ok((LabelExpr::Name(text.try_copy(alloc)?), rest)),
@@ -128,10 +114,9 @@ fn base<'a>(alloc: Global, rest: &'a [Lexeme]) -> Result<(LabelExpr, &'a [Lexeme
 
 /// A label expression in parentheses, behind the opening one.
 #[cycle(labels)]
-#[tactic(auto, unfolding(crate::specs::LabelReaders::paren_of))]
-fn paren<'a>(alloc: Global, rest: &'a [Lexeme]) -> Result<(LabelExpr, &'a [Lexeme]), ParseFault>
-    ensures given { Gives (λ x. (label_of x.0, x.1.now)) result (paren_of read_label rest.now) }
-    ensures shorter { IfOk result (λ x. length x.1.now < length rest.now) }
+#[tactic(auto, unfolding(crate::specs::Machinery::LabelReaders::paren_of))]
+fn paren<'a>(alloc: Global, rest: &'a [Lexeme]) -> ParseResult<'a, LabelExpr>
+    ensures { ReadsAs label_of result rest.now (paren_of read_label) }
 {
     let (expr, rest) = label_expression(alloc, rest)?;
     let rest = after_sign(symbols::CLOSING, rest)?;

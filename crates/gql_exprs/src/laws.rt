@@ -4,7 +4,7 @@ ghost use Rattle.gql_lexer.specs.declared.lexeme.Lexeme.{Lexeme};
 ghost use Rattle.gql_front.specs.Longest.{Longest};
 ghost use Rattle.gql_ast.specs.Label.{Label};
 ghost use Rattle.gql_exprs.specs.LabelGrammar.{IsLabel, DerivesLabel};
-ghost use Rattle.gql_exprs.specs.LabelReaders.{read_label};
+ghost use Rattle.gql_exprs.specs.Machinery.LabelReaders.{read_label};
 ghost use Rattle.gql_ast.specs.Tree.{Tree};
 ghost use Rattle.gql_exprs.specs.Grammar.{Derives};
 

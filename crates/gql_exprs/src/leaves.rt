@@ -1,26 +1,26 @@
 //! Parts of atoms that hold no expression.
 
 ghost use Rattle.std.specs.Prelude.{◌≡◌, ◌<◌, ◌≤◌, length, IfOk};
-ghost use Rattle.gql_front.specs.Gives.{Gives, Takes};
+ghost use Rattle.gql_front.specs.Gives.{Finds};
+ghost use Rattle.gql_front.specs.Reads.{MayReadAs, Takes, TakesAs};
 ghost use Rattle.gql_front.specs.Reading.{op_at};
 ghost use Rattle.gql_ast.specs.Meaning.{tree_of};
 ghost use Rattle.gql_exprs.specs.ExprWords.{sign_op, comparison_op, quantifier_op};
-ghost use Rattle.gql_exprs.specs.Readers.{field, named, quantifier_of, star_of};
+ghost use Rattle.gql_exprs.specs.Machinery.Readers.{field, named, quantifier_of, star_of};
 
 use gql_ast::{Aggregate, Expr, ParseFault, SetQuantifier, Sign};
-use gql_front::symbols::{
+use gql_front::{NoFront, ParseResult, after_sign, any_name};
+use gql_lexer::Lexeme;
+use gql_lexer::symbols::{
     DOT, EQUAL, GREATER, GREATER_OR_EQUAL, LESS, LESS_OR_EQUAL, MINUS, NOT_EQUAL, PLUS, STAR,
 };
-use gql_front::words::{ALL, DISTINCT};
-use gql_front::{NoFront, after_sign, any_name};
-use gql_lexer::Lexeme;
+use gql_lexer::words::{ALL, DISTINCT};
 use gql_values3::{Comparison, Text};
 use std::alloc::Global;
 
 /// The sign at the front.
 pub fn sign_at(rest: &[Lexeme]) -> Result<(Sign, &[Lexeme]), NoFront>
-    ensures given { Takes (λ x. (x.0, x.1.now)) result (op_at sign_op rest.now) }
-    ensures shorter { IfOk result (λ x. length x.1.now < length rest.now) }
+    ensures { Takes result rest.now (op_at sign_op) }
 {
     match rest {
         [Lexeme::Sign(PLUS), rest @ ..] => Ok((Sign::Plus, rest)),
@@ -31,8 +31,7 @@ pub fn sign_at(rest: &[Lexeme]) -> Result<(Sign, &[Lexeme]), NoFront>
 
 /// The sign of comparison at the front.
 pub fn comparison_at(rest: &[Lexeme]) -> Result<(Comparison, &[Lexeme]), NoFront>
-    ensures given { Takes (λ x. (x.0, x.1.now)) result (op_at comparison_op rest.now) }
-    ensures shorter { IfOk result (λ x. length x.1.now < length rest.now) }
+    ensures { Takes result rest.now (op_at comparison_op) }
 {
     match rest {
         [Lexeme::Sign(EQUAL), rest @ ..] => Ok((Comparison::Eq, rest)),
@@ -46,14 +45,9 @@ pub fn comparison_at(rest: &[Lexeme]) -> Result<(Comparison, &[Lexeme]), NoFront
 }
 
 /// A variable or a property of it, behind its name.
-#[tactic(auto, unfolding(crate::specs::Readers::named))]
-pub fn named<'a>(
-    alloc: Global,
-    name: &Text,
-    rest: &'a [Lexeme],
-) -> Result<(Expr, &'a [Lexeme]), ParseFault>
-    ensures given { Gives (λ x. (tree_of x.0, x.1.now)) result (named name.now rest.now) }
-    ensures shorter { IfOk result (λ x. length x.1.now ≤ length rest.now) }
+#[tactic(auto, unfolding(crate::specs::Machinery::Readers::named))]
+pub fn named<'a>(alloc: Global, name: &Text, rest: &'a [Lexeme]) -> ParseResult<'a, Expr>
+    ensures { MayReadAs tree_of result rest.now (named name.now) }
 {
     let name = name.try_copy(alloc)?;
     match property(rest) {
@@ -63,17 +57,16 @@ pub fn named<'a>(
 }
 
 /// A dot and a name.
-#[tactic(auto, unfolding(crate::specs::Readers::field))]
+#[tactic(auto, unfolding(crate::specs::Machinery::Readers::field))]
 fn property(rest: &[Lexeme]) -> Result<(&Text, &[Lexeme]), NoFront>
-    ensures given { Takes (λ x. (x.0.now, x.1.now)) result (field rest.now) }
-    ensures shorter { IfOk result (λ x. length x.1.now < length rest.now) }
+    ensures { TakesAs (λ x. x.now) result rest.now field }
 {
     let rest = after_sign(DOT, rest)?;
     any_name(rest)
 }
 
 /// DISTINCT or ALL at the front, or nothing, which means the same as ALL.
-#[tactic(auto, unfolding(crate::specs::Readers::quantifier_of))]
+#[tactic(auto, unfolding(crate::specs::Machinery::Readers::quantifier_of))]
 pub fn quantifier_of(rest: &[Lexeme]) -> (SetQuantifier, &[Lexeme])
     ensures given { (result.0, result.1.now) ≡ quantifier_of rest.now }
     ensures shorter { length result.1.now ≤ length rest.now }
@@ -93,7 +86,7 @@ pub fn quantifier_of(rest: &[Lexeme]) -> (SetQuantifier, &[Lexeme])
 
 /// What is behind the star of `COUNT(*)`.
 pub fn star_of(kind: Aggregate, rest: &[Lexeme]) -> Result<&[Lexeme], NoFront>
-    ensures given { Takes (λ x. x.now) result (star_of kind rest.now) }
+    ensures given { Finds (λ x. x.now) result (star_of kind rest.now) }
     ensures shorter { IfOk result (λ x. length x.now < length rest.now) }
 {
     match kind {

@@ -7,7 +7,7 @@ ghost use Rattle.gql_ast.specs.Meaning.{tree_of};
 ghost use Rattle.gql_exprs.specs.Depth.{too_deep};
 ghost use Rattle.gql_exprs.specs.Grammar.{IsFront};
 
-use crate::expression::expression;
+use crate::levels::expression;
 use gql_ast::{Expr, ParseFault};
 use gql_front::from_place;
 use gql_lexer::Lexeme;

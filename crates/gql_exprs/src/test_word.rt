@@ -3,13 +3,13 @@
 ghost use Rattle.std.specs.Prelude.{◌≡◌, ◌<◌, length, IfOk};
 ghost use Rattle.gql_front.specs.Tables.{entry};
 ghost use Rattle.gql_front.specs.Reading.{op_at};
-ghost use Rattle.gql_front.specs.Gives.{Takes};
+ghost use Rattle.gql_front.specs.Reads.{Takes};
 ghost use Rattle.gql_exprs.specs.ExprWords.{test_words, test_word};
 
 use gql_ast::{EdgeEnd, Quality};
 use gql_front::NoFront;
-use gql_front::words::{DESTINATION, DIRECTED, FALSE, LABELED, NULL, SOURCE, TRUE, UNKNOWN};
 use gql_lexer::Lexeme;
+use gql_lexer::words::{DESTINATION, DIRECTED, FALSE, LABELED, NULL, SOURCE, TRUE, UNKNOWN};
 
 /// What a reserved word behind IS or IS NOT asks.
 #[derive(Clone, Copy, Debug, PartialEq, Eq)]
@@ -39,8 +39,7 @@ pub fn test_word(place: u32) -> Option<TestWord>
 
 /// What the word at the front asks.
 pub fn asked_at(rest: &[Lexeme]) -> Result<(TestWord, &[Lexeme]), NoFront>
-    ensures given { Takes (λ x. (x.0, x.1.now)) result (op_at test_word rest.now) }
-    ensures shorter { IfOk result (λ x. length x.1.now < length rest.now) }
+    ensures { Takes result rest.now (op_at test_word) }
 {
     if let [Lexeme::Word { place, .. }, after @ ..] = rest {
         if let Some(word) = test_word(*place) {

@@ -1,4 +1,3 @@
-pub mod PlaceTables
 pub mod TableLemmas
 pub mod Found
 pub mod LexemeTests

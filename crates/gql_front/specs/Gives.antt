@@ -1,5 +1,6 @@
--- Gives: what a function of a parser answered is what reading gives, unless memory ran out.
-use Rattle.std.specs.Prelude.{◌≡◌, Option, Some, None, Result, Ok, Err}
+-- Gives: what a function of a parser answers is what reading gives, unless memory ran out.
+use Rattle.std.specs.Prelude.{◌≡◌, Option, None, Result, Ok, Err}
+use Rattle.gql_values3.specs.UpToMemory.{FindsBy}
 use Rattle.gql_ast.specs.declared.parse_fault.ParseFault.{ParseFault}
 use Rattle.gql_ast.specs.declared.parse_fault.ParseFault.TheVariants as fault
 
@@ -12,13 +13,11 @@ Fails fault.OutOfMemory given = Unit {0}
 
 -- the answer, seen by the view, is what is given
 abbrev pub Gives : {X Y : Type 0} → (X → Y) → Result X ParseFault → Option Y → Type 0
-Gives view (Ok x) given = given ≡ Some (view x)
-Gives view (Err e) given = Fails e given
+Gives view result given = FindsBy Fails view result given
 
--- the same where no memory is taken
-abbrev pub Takes : {X Y E : Type 0} → (X → Y) → Result X E → Option Y → Type 0
-Takes view (Ok x) given = given ≡ Some (view x)
-Takes view (Err e) given = given ≡ None
+-- the same where no memory is taken: nothing is found exactly where the answer is an error
+abbrev pub Finds : {X Y E : Type 0} → (X → Y) → Result X E → Option Y → Type 0
+Finds view result given = FindsBy (λ e given. given ≡ None) view result given
 
 -- no front derives
 abbrev pub IsSyntax : {X : Type 0} → Result X ParseFault → Type 0

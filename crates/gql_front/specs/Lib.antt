@@ -1,6 +1,5 @@
-pub mod WordPlaces
-pub mod SymbolPlaces
 pub mod Tables
 pub mod Reading
 pub mod Gives
+pub mod Reads
 pub mod Longest

@@ -2,7 +2,7 @@
 
 ghost use Rattle.std.specs.Prelude.{◌≡◌, ◌<◌, ◌≤◌, length, drop, IfOk};
 ghost use Rattle.gql_front.specs.Reading.{is_sign, is_word, name_in, any_name_in, after, op_at};
-ghost use Rattle.gql_front.specs.Gives.{Takes};
+ghost use Rattle.gql_front.specs.Reads.{TakesAs, GoesPast};
 
 use crate::no_front::NoFront;
 use gql_lexer::Lexeme;
@@ -10,8 +10,7 @@ use gql_values3::Text;
 
 /// What is behind the symbol of this place.
 pub fn after_sign(sign: u32, rest: &[Lexeme]) -> Result<&[Lexeme], NoFront>
-    ensures given { Takes (λ x. x.now) result (after (is_sign sign) rest.now) }
-    ensures shorter { IfOk result (λ x. length x.now < length rest.now) }
+    ensures { GoesPast result rest.now (is_sign sign) }
 {
     match rest {
         [Lexeme::Sign(found), rest @ ..] if *found == sign => Ok(rest),
@@ -21,8 +20,7 @@ pub fn after_sign(sign: u32, rest: &[Lexeme]) -> Result<&[Lexeme], NoFront>
 
 /// What is behind the reserved word of this place.
 pub fn after_word(word: u32, rest: &[Lexeme]) -> Result<&[Lexeme], NoFront>
-    ensures given { Takes (λ x. x.now) result (after (is_word word) rest.now) }
-    ensures shorter { IfOk result (λ x. length x.now < length rest.now) }
+    ensures { GoesPast result rest.now (is_word word) }
 {
     match rest {
         [Lexeme::Word { place, .. }, rest @ ..] if *place == word => Ok(rest),
@@ -32,8 +30,7 @@ pub fn after_word(word: u32, rest: &[Lexeme]) -> Result<&[Lexeme], NoFront>
 
 /// A name that is no reserved word, or a delimited name.
 pub fn plain_name(rest: &[Lexeme]) -> Result<(&Text, &[Lexeme]), NoFront>
-    ensures given { Takes (λ x. (x.0.now, x.1.now)) result (op_at name_in rest.now) }
-    ensures shorter { IfOk result (λ x. length x.1.now < length rest.now) }
+    ensures { TakesAs (λ x. x.now) result rest.now (op_at name_in) }
 {
     match rest {
         [Lexeme::Name(text), rest @ ..] => Ok((text, rest)),
@@ -43,8 +40,7 @@ pub fn plain_name(rest: &[Lexeme]) -> Result<(&Text, &[Lexeme]), NoFront>
 
 /// A name or a reserved word, as it is written.
 pub fn any_name(rest: &[Lexeme]) -> Result<(&Text, &[Lexeme]), NoFront>
-    ensures given { Takes (λ x. (x.0.now, x.1.now)) result (op_at any_name_in rest.now) }
-    ensures shorter { IfOk result (λ x. length x.1.now < length rest.now) }
+    ensures { TakesAs (λ x. x.now) result rest.now (op_at any_name_in) }
 {
     match rest {
         [Lexeme::Name(text), rest @ ..] => Ok((text, rest)),

@@ -9,6 +9,7 @@ use Rattle.std.proofs.lemmas.Bool.Decides.{nat_tests}
 use Rattle.std.proofs.Common.{lit<}
 use Rattle.std.proofs.lemmas.Str.{IsUtf8-nil, IsUtf8-append, IsUtf8-from_ascii}
 use Rattle.std.proofs.lemmas.List.Sums.{prefix_len-le-length}
+use Rattle.gql_lexer.specs.SymbolPlaces as symbol
 use Rattle.gql_lexer.proofs.FrontLemmas.{and-both}
 use Rattle.gql_lexer.specs.declared.front.Front.{Front}
 use Rattle.gql_lexer.specs.declared.front.Shape.{Shape}
@@ -17,7 +18,7 @@ use Rattle.gql_lexer.specs.Lengths.{begins, line_length, block_length, quoted_le
 use Rattle.gql_lexer.specs.Forms.{form, forms, front, closed, is_blank, blank, line_comment, block_comment, plain, between, ticked, digits, dollar, with_dollar, symbols, symbols_from, longer, longest}
 use Rattle.std.specs.Bool.{MatchBool}
 use Rattle.std.proofs.Common.{length-take-le}
-use Rattle.gql_lexer.specs.Shapes.{Tells}
+use Rattle.gql_lexer.specs.Machinery.Shapes.{Tells}
 use Rattle.gql_lexer.proofs.FrontLemmas.{no-name}
 use Rattle.gql_lexer.proofs.NameLemmas.{name-ahead}
 
@@ -230,7 +231,7 @@ dollar-fits (b ∷ bs) =
 -- no symbol is empty, and only `;` has the place of `;`
 abbrev sound : ℕ → List (List ℕ) → Bool
 sound place [] = true
-sound place (s ∷ ss) = (nat_lt 0 (length s) && (not (place == 33) || ((length s == 1) && (get_or s 0 0 == 59)))) && sound (place + 1) ss
+sound place (s ∷ ss) = (nat_lt 0 (length s) && (not (place == symbol.semicolon) || ((length s == 1) && (get_or s 0 0 == 59)))) && sound (place + 1) ss
 
 take-begun : (s bs : List ℕ) → begins s bs ≡ true → take (length s) bs ≡ s
 take-begun [] bs h = refl
@@ -253,12 +254,12 @@ not-or false q h e = cc
 symbols-fit : (place : ℕ) (ss : List (List ℕ)) (bs : List ℕ) → sound place ss ≡ true → EachFits bs (symbols_from place ss bs)
 symbols-fit place [] bs h = tt
 symbols-fit place (s ∷ ss) bs h =
-    let both = and-both (nat_lt 0 (length s) && (not (place == 33) || ((length s == 1) && (get_or s 0 0 == 59)))) (sound (place + 1) ss) h in
-    let here = and-both (nat_lt 0 (length s)) (not (place == 33) || ((length s == 1) && (get_or s 0 0 == 59))) both.0 in (
+    let both = and-both (nat_lt 0 (length s) && (not (place == symbol.semicolon) || ((length s == 1) && (get_or s 0 0 == 59)))) (sound (place + 1) ss) h in
+    let here = and-both (nat_lt 0 (length s)) (not (place == symbol.semicolon) || ((length s == 1) && (get_or s 0 0 == 59))) both.0 in (
       fits-if bs (begins s bs) (form (Symbol place) (length s)) (λ e. record {
         some = grind (arith, nat_tests);
         within = begins-length s bs e;
-        tells = λ p. take-begun s bs e ∙ is-end s (not-or (place == 33) _ here.1 p);
+        tells = λ p. take-begun s bs e ∙ is-end s (not-or (place == symbol.semicolon) _ here.1 p);
       }),
       symbols-fit (place + 1) ss bs both.1,
     )

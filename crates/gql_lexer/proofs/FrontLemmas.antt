@@ -8,12 +8,13 @@ use Rattle.std.proofs.lemmas.List.{drop_more}
 use Rattle.std.proofs.lemmas.Bool.Decides.{nat_tests}
 use Rattle.unicode_ident.proofs.IdentLemmas.{is_xid_start-ascii}
 use Rattle.bstr.specs.Utf8.{decoded}
+use Rattle.gql_lexer.specs.SymbolPlaces as symbol
 use Rattle.gql_lexer.specs.declared.front.Front.{Front}
 use Rattle.gql_lexer.specs.declared.front.Shape.{Shape}
 use Rattle.gql_lexer.specs.declared.front.Shape.TheVariants.{Gap, Plain, Ticked, Quoted, Digits, Symbol, Bad}
 use Rattle.gql_lexer.specs.Lengths.{line_length, block_length, quoted_length, first_passes, may_start, name_length, continue_length}
 use Rattle.gql_lexer.specs.Forms.{form, front, closed, is_blank, blank, plain, ticked, digits, with_dollar, symbols, symbols_from, longer, longest}
-use Rattle.gql_lexer.specs.Firsts.{is_ascii_start, is_letter, none_begins}
+use Rattle.gql_lexer.specs.Machinery.Firsts.{is_ascii_start, is_letter, none_begins}
 use Rattle.gql_lexer.proofs.LengthLemmas.{ascii-name}
 
 pub and-both : (a b : Bool) → (a && b) ≡ true → (a ≡ true) × (b ≡ true)
@@ -61,15 +62,15 @@ front-36 bs = rw (no-name 36 bs refl) refl
 
 front-line : (bs : List ℕ) → front (47 ∷ 47 ∷ bs) ≡ form Gap (2 + line_length bs)
 unfolding front symbols
-front-line bs = rw (no-name 47 (47 ∷ bs) refl) (longer-first (form Gap (2 + line_length bs)) (form (Symbol 18) 1) (omega arith))
+front-line bs = rw (no-name 47 (47 ∷ bs) refl) (longer-first (form Gap (2 + line_length bs)) (form (Symbol symbol.slash) 1) (omega arith))
 
 pub front-block : (bs : List ℕ) → front (47 ∷ 42 ∷ bs) ≡ closed Gap (option_map (λ n. n + 4) (block_length bs)) (47 ∷ 42 ∷ bs)
 unfolding front symbols
-front-block bs = rw (no-name 47 (42 ∷ bs) refl) (longer-first _ (form (Symbol 18) 1) (closed-size Gap (block_length bs) 4 47 (42 ∷ bs) (omega arith)))
+front-block bs = rw (no-name 47 (42 ∷ bs) refl) (longer-first _ (form (Symbol symbol.slash) 1) (closed-size Gap (block_length bs) 4 47 (42 ∷ bs) (omega arith)))
 
 front-dashes : (bs : List ℕ) → front (45 ∷ 45 ∷ bs) ≡ form Gap (2 + line_length bs)
 unfolding front symbols
-front-dashes bs = rw (no-name 45 (45 ∷ bs) refl) (longer-first (form Gap (2 + line_length bs)) (form (Symbol 11) 1) (omega arith))
+front-dashes bs = rw (no-name 45 (45 ∷ bs) refl) (longer-first (form Gap (2 + line_length bs)) (form (Symbol symbol.minus) 1) (omega arith))
 
 -- a string
 pub front-quoted : (bs : List ℕ) → 0 < length bs → (get_or bs 0 0 ≡ 39) ⊎ (get_or bs 0 0 ≡ 34)

@@ -8,7 +8,7 @@ use Rattle.gql_lexer.specs.declared.front.Front.{Front}
 use Rattle.gql_lexer.specs.declared.front.Shape.{Shape}
 use Rattle.gql_lexer.specs.declared.front.Shape.TheVariants.{Gap, Plain, Ticked, Quoted, Digits, Dollar, Symbol, Bad}
 use Rattle.gql_lexer.specs.declared.piece.Piece.{Piece}
-use Rattle.gql_lexer.specs.Shapes.{Tells}
+use Rattle.gql_lexer.specs.Machinery.Shapes.{Tells}
 use Rattle.gql_lexer.specs.Forms.{form, forms, front, longer, longest, closed}
 use Rattle.gql_lexer.specs.Spans.{Span, first_span, spans}
 use Rattle.gql_lexer.specs.Pieces.{is_end, piece, with_bytes, pieces_of}

@@ -12,7 +12,7 @@ use Rattle.unicode_ident.specs.Ident.{is_xid_start, is_xid_continue}
 use Rattle.bstr.specs.Utf8.{decoded}
 use Rattle.bstr.proofs.lemmas.PieceLemmas.{piece-bounds}
 use Rattle.gql_lexer.specs.Lengths.{begins, block_length, quoted_length, continue_length, name_length, first_passes, first_size, may_start}
-use Rattle.gql_lexer.specs.Firsts.{is_ascii_start}
+use Rattle.gql_lexer.specs.Machinery.Firsts.{is_ascii_start}
 
 -- a length that is counted from a place further on
 abbrev pub ahead : ℕ → Option ℕ → Option ℕ

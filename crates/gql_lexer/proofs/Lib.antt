@@ -8,3 +8,4 @@ pub mod PieceLemmas
 pub mod FrontLemmas
 pub mod NameLemmas
 pub mod SymbolLemmas
+pub mod PlaceTables

@@ -6,7 +6,7 @@ use Rattle.gql_lexer.specs.declared.front.Shape.{Shape}
 use Rattle.gql_lexer.specs.declared.front.Shape.TheVariants.{Gap, Plain, Ticked, Quoted, Digits, Dollar, Symbol, Bad}
 use Rattle.gql_lexer.specs.declared.piece.Piece.{Piece}
 use Rattle.gql_lexer.specs.Forms.{front}
-use Rattle.gql_lexer.specs.Shapes.{Tells}
+use Rattle.gql_lexer.specs.Machinery.Shapes.{Tells}
 use Rattle.gql_lexer.specs.Pieces.{is_end, piece, with_bytes, pieces_of, NoEndFrom}
 use Rattle.gql_lexer.proofs.FormLemmas.{front-fits}
 use Rattle.gql_lexer.proofs.SpanLemmas.{pieces-of-step, with_bytes-twice, pieces_at}

@@ -1,10 +1,11 @@
+pub mod WordPlaces
+pub mod SymbolPlaces
 pub mod Lengths
 pub mod Forms
-pub mod Shapes
-pub mod Firsts
 pub mod Spans
 pub mod Pieces
 pub mod Quotes
 pub mod Lexemes
-pub mod Reads
+pub mod Gives
 pub mod Laws
+pub mod Machinery

@@ -3,11 +3,12 @@ use Rattle.std.specs.Prelude.{◌≢◌, ◌≤◌, ◌<◌, length, slice_index
 use Rattle.gql_lexer.specs.declared.front.Shape.{Shape}
 use Rattle.gql_lexer.specs.declared.front.Shape.TheVariants.{Symbol}
 use Rattle.gql_lexer.specs.declared.piece.Piece.{Piece}
+use Rattle.gql_lexer.specs.SymbolPlaces.{semicolon}
 use Rattle.gql_lexer.specs.Spans.{Span, spans}
 
--- the symbol `;`, whose place is 33
+-- the symbol `;`
 abbrev pub is_end : Shape → Bool
-is_end (Symbol place) = place == 33
+is_end (Symbol place) = place == semicolon
 is_end _ = false
 
 -- a piece; ended says that a `;` stands behind it

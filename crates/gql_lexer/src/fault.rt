@@ -1,3 +1,5 @@
+//! Why there are no lexemes.
+
 /// Why there are no lexemes.
 #[derive(Clone, Copy, Debug, PartialEq, Eq)]
 pub enum LexFault {

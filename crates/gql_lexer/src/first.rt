@@ -1,4 +1,11 @@
-ghost use Rattle.gql_lexer.specs.Firsts.{Told};
+//! What the first byte tells.
+
+ghost use Rattle.gql_lexer.specs.Machinery.Firsts.{Told};
+
+use crate::symbols::{
+    AMPERSAND, BANG, CLOSING, CLOSING_BRACE, CLOSING_BRACKET, COMMA, DOT, EQUAL, OPENING,
+    OPENING_BRACE, OPENING_BRACKET, PERCENT, PLUS, QUESTION, SEMICOLON, STAR,
+};
 
 /// What the first byte tells of the form that stands there.
 #[derive(Clone, Copy, Debug, PartialEq, Eq)]
@@ -33,22 +40,22 @@ pub fn told_by(byte: u8) -> First
     ensures { Told byte result }
 {
     match byte {
-        b'=' => First::Alone(15),
-        b'+' => First::Alone(16),
-        b'*' => First::Alone(17),
-        b'%' => First::Alone(19),
-        b'(' => First::Alone(20),
-        b')' => First::Alone(21),
-        b'[' => First::Alone(22),
-        b']' => First::Alone(23),
-        b'{' => First::Alone(24),
-        b'}' => First::Alone(25),
-        b',' => First::Alone(26),
-        b'.' => First::Alone(28),
-        b'&' => First::Alone(29),
-        b'!' => First::Alone(31),
-        b'?' => First::Alone(32),
-        b';' => First::Alone(33),
+        b'=' => First::Alone(EQUAL),
+        b'+' => First::Alone(PLUS),
+        b'*' => First::Alone(STAR),
+        b'%' => First::Alone(PERCENT),
+        b'(' => First::Alone(OPENING),
+        b')' => First::Alone(CLOSING),
+        b'[' => First::Alone(OPENING_BRACKET),
+        b']' => First::Alone(CLOSING_BRACKET),
+        b'{' => First::Alone(OPENING_BRACE),
+        b'}' => First::Alone(CLOSING_BRACE),
+        b',' => First::Alone(COMMA),
+        b'.' => First::Alone(DOT),
+        b'&' => First::Alone(AMPERSAND),
+        b'!' => First::Alone(BANG),
+        b'?' => First::Alone(QUESTION),
+        b';' => First::Alone(SEMICOLON),
         b'<' => First::Less,
         b'>' => First::Greater,
         b'~' => First::Tilde,

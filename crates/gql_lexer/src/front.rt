@@ -1,16 +1,19 @@
+//! The form that stands at the front of some bytes.
+
 ghost use Rattle.std.specs.Prelude.{◌≡◌, ◌≢◌, ◌⊎◌, ◌+◌, ◌<◌, ◌≤◌, length, take, drop, slice_index, false, true, IfSome};
 ghost use Rattle.std.specs.Option.{option_map, option_or};
 ghost use Rattle.gql_lexer.specs.declared.front.Shape.TheVariants.{Gap};
 ghost use Rattle.gql_lexer.specs.Lengths.{line_length, quoted_length};
 ghost use Rattle.gql_lexer.specs.Forms.{form, closed, is_blank, plain, ticked, dollar_shape, symbols, front};
-ghost use Rattle.gql_lexer.specs.Shapes.{Tells};
-ghost use Rattle.gql_lexer.specs.Firsts.{is_ascii_start, none_begins};
+ghost use Rattle.gql_lexer.specs.Machinery.Shapes.{Tells};
+ghost use Rattle.gql_lexer.specs.Machinery.Firsts.{is_ascii_start, none_begins};
 
 use crate::first::{First, told_by};
 use crate::lengths::{
     block_length, continue_length, digits_length, line_length, name_length, quoted_length,
 };
 use crate::symbol::{bar, byte_at, colon, greater, less, sign, tilde};
+use crate::symbols::{MINUS, RIGHT_ARROW, SLASH};
 
 /// Which form of the language some bytes are.
 #[derive(Clone, Copy, Debug, PartialEq, Eq)]
@@ -238,7 +241,7 @@ fn slash(rest: &[u8]) -> Front
     if second == b'*' {
         return closed(Shape::Gap, block_length(&rest[2..]), 4, rest);
     }
-    sign(18, 1)
+    sign(SLASH, 1)
 }
 
 /// A comment, or one of the symbols `->` and `-`.
@@ -252,9 +255,9 @@ fn minus(rest: &[u8]) -> Front
         return line_comment(rest);
     }
     if second == b'>' {
-        sign(3, 2)
+        sign(RIGHT_ARROW, 2)
     } else {
-        sign(11, 1)
+        sign(MINUS, 1)
     }
 }
 

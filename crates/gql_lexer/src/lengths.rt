@@ -1,3 +1,5 @@
+//! How far the parts of comments, names, numbers and quoted texts go.
+
 ghost use Rattle.std.specs.Prelude.{◌≡◌, ◌≢◌, ◌+◌, ◌<◌, ◌≤◌, ◌==◌, ◌||◌, codes, length, drop, slice_index, if◌then◌else◌, IfSome, IfNone, IsTrue, false};
 ghost use Rattle.std.specs.Option.{option_map};
 ghost use Rattle.std.specs.List.{prefix_len};

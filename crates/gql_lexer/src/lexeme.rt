@@ -1,3 +1,5 @@
+//! Lexemes: what the forms mean.
+
 ghost use Rattle.std.specs.Prelude.{◌≡◌, ◌<◌, ◌≤◌, ◌^◌, length, [], ◌∷◌, if◌then◌else◌};
 ghost use Rattle.std.specs.Option.{option_map};
 ghost use Rattle.std.specs.Vec.{vec_len, vec_capacity};
@@ -5,9 +7,9 @@ ghost use Rattle.std.specs.Bool.{MatchBool};
 ghost use Rattle.std.specs.Str.{IsUtf8};
 ghost use Rattle.gql_lexer.specs.declared.front.Shape.TheVariants.{Dollar};
 ghost use Rattle.gql_lexer.specs.Lengths.{begins};
-ghost use Rattle.gql_lexer.specs.Shapes.{Tells};
+ghost use Rattle.gql_lexer.specs.Machinery.Shapes.{Tells};
 ghost use Rattle.gql_lexer.specs.Lexemes.{name_or_word, inside, ticked_text, quoted_text, dollar_text, lexeme_of, is_gap, lexemes_of};
-ghost use Rattle.gql_lexer.specs.Reads.{Reads, Adds};
+ghost use Rattle.gql_lexer.specs.Gives.{Gives, Adds};
 
 use crate::fault::LexFault;
 use crate::front::{Shape, longest_form};
@@ -42,7 +44,7 @@ const FIRST_ROOM: usize = 42;
 /// The lexemes of a piece, or a fault where one of them is bad.
 pub fn lexemes(alloc: Global, piece: &[u8]) -> Result<Lexemes, LexFault>
     requires { length piece.now < 2 ^ 32 }
-    ensures { Reads result (lexemes_of piece.now) }
+    ensures { Gives result (lexemes_of piece.now) }
 {
     let mut all = Vec::with_capacity(alloc, FIRST_ROOM)?;
     let mut at = 0;
@@ -106,7 +108,7 @@ fn add_with_text(
 /// What bytes of a shape mean that are no gap.
 fn meaning(alloc: Global, shape: Shape, bytes: &[u8]) -> Result<Lexeme, LexFault>
     requires { Tells shape bytes.now }
-    ensures { Reads result (lexeme_of shape bytes.now) }
+    ensures { Gives result (lexeme_of shape bytes.now) }
 {
     match shape {
         Shape::Plain => plain(alloc, as_text(bytes)),
@@ -130,7 +132,7 @@ fn as_text(bytes: &[u8]) -> &str
 
 /// A name, or the reserved word that it is.
 fn plain(alloc: Global, text: &str) -> Result<Lexeme, LexFault>
-    ensures { Reads result (Some (name_or_word text.now)) }
+    ensures { Gives result (Some (name_or_word text.now)) }
 {
     let copy = Text::from_str(alloc, text)?;
     match reserved_place(text) {
@@ -144,7 +146,7 @@ fn plain(alloc: Global, text: &str) -> Result<Lexeme, LexFault>
 
 /// A number.
 fn number(alloc: Global, text: &str) -> Result<Lexeme, LexFault>
-    ensures { Reads result (Some (Lexeme.Number text.now)) }
+    ensures { Gives result (Some (Lexeme.Number text.now)) }
 {
     Ok(Lexeme::Number(Text::from_str(alloc, text)?))
 }
@@ -152,7 +154,7 @@ fn number(alloc: Global, text: &str) -> Result<Lexeme, LexFault>
 /// A delimited name.
 fn ticked(alloc: Global, bytes: &[u8]) -> Result<Lexeme, LexFault>
     requires { 2 ≤ length bytes.now }
-    ensures { Reads result (option_map Lexeme.Name (ticked_text bytes.now)) }
+    ensures { Gives result (option_map Lexeme.Name (ticked_text bytes.now)) }
 {
     Ok(Lexeme::Name(ticked_text(alloc, bytes)?))
 }
@@ -160,7 +162,7 @@ fn ticked(alloc: Global, bytes: &[u8]) -> Result<Lexeme, LexFault>
 /// The text of a delimited name.
 fn ticked_text(alloc: Global, bytes: &[u8]) -> Result<Text, LexFault>
     requires { 2 ≤ length bytes.now }
-    ensures { Reads result (ticked_text bytes.now) }
+    ensures { Gives result (ticked_text bytes.now) }
 {
     let text = text_between(alloc, inside(bytes), b'`')?;
     if text.len() == 0 {
@@ -181,7 +183,7 @@ fn inside(bytes: &[u8]) -> &[u8]
 /// A string.
 fn quoted(alloc: Global, bytes: &[u8]) -> Result<Lexeme, LexFault>
     requires { 2 ≤ length bytes.now }
-    ensures { Reads result (option_map Lexeme.Chars (quoted_text bytes.now)) }
+    ensures { Gives result (option_map Lexeme.Chars (quoted_text bytes.now)) }
 {
     Ok(Lexeme::Chars(text_between(alloc, inside(bytes), bytes[0])?))
 }
@@ -189,7 +191,7 @@ fn quoted(alloc: Global, bytes: &[u8]) -> Result<Lexeme, LexFault>
 /// A parameter.
 fn dollar(alloc: Global, bytes: &[u8]) -> Result<Lexeme, LexFault>
     requires { Tells Dollar bytes.now }
-    ensures { Reads result (option_map Lexeme.Param (dollar_text bytes.now)) }
+    ensures { Gives result (option_map Lexeme.Param (dollar_text bytes.now)) }
 {
     Ok(Lexeme::Param(dollar_text(alloc, bytes)?))
 }
@@ -197,7 +199,7 @@ fn dollar(alloc: Global, bytes: &[u8]) -> Result<Lexeme, LexFault>
 /// The name of a parameter.
 fn dollar_text(alloc: Global, bytes: &[u8]) -> Result<Text, LexFault>
     requires { Tells Dollar bytes.now }
-    ensures { Reads result (dollar_text bytes.now) }
+    ensures { Gives result (dollar_text bytes.now) }
 {
     name_text(alloc, &bytes[1..])
 }
@@ -206,7 +208,7 @@ fn dollar_text(alloc: Global, bytes: &[u8]) -> Result<Text, LexFault>
 fn name_text(alloc: Global, bytes: &[u8]) -> Result<Text, LexFault>
     requires some_bytes { 1 ≤ length bytes.now }
     requires tells { MatchBool (begins (96 ∷ []) bytes.now) (2 ≤ length bytes.now) (IsUtf8 bytes.now) }
-    ensures { Reads result (if begins (96 ∷ []) bytes.now then ticked_text bytes.now else Some bytes.now) }
+    ensures { Gives result (if begins (96 ∷ []) bytes.now then ticked_text bytes.now else Some bytes.now) }
 {
     if begins_tick(bytes) {
         return ticked_text(alloc, bytes);
@@ -224,7 +226,7 @@ fn begins_tick(bytes: &[u8]) -> bool
 
 /// A copy of a text.
 fn plain_text(alloc: Global, text: &str) -> Result<Text, LexFault>
-    ensures { Reads result (Some text.now) }
+    ensures { Gives result (Some text.now) }
 {
     Ok(Text::from_str(alloc, text)?)
 }

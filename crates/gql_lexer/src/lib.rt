@@ -9,15 +9,20 @@
 mod fault;
 mod first;
 mod front;
-pub mod laws;
+mod laws;
 mod lengths;
 mod lexeme;
 mod piece;
 mod quotes;
 mod symbol;
+pub mod symbols;
 #[cfg(test)]
 mod tests;
+pub mod words;
 
 pub use fault::LexFault;
+pub use laws::{
+    lexemes_are_one_list, pieces_join, spans_join, the_longest_form_counts, what_is_open_is_bad,
+};
 pub use lexeme::{Lexeme, Lexemes, lexemes};
 pub use piece::{Piece, Pieces, pieces};

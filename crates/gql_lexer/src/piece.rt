@@ -1,7 +1,10 @@
+//! Pieces: the bytes of a session, cut at each symbol `;`.
+
 ghost use Rattle.std.specs.Prelude.{◌≡◌, ◌≤◌, [], ◌∷◌, ◌++◌, length, IfOk, OnOk};
 ghost use Rattle.gql_lexer.specs.Pieces.{is_end, piece, pieces_of, NoEndFrom};
 
 use crate::front::{Shape, longest_form};
+use crate::symbols::SEMICOLON;
 use gql_values3::{Bytes, OutOfMemory, Sequence};
 use memchr::memrchr;
 use std::alloc::Global;
@@ -58,7 +61,7 @@ fn is_end(shape: Shape) -> bool
     ensures { result ≡ is_end shape }
 {
     match shape {
-        Shape::Symbol(place) => place == 33,
+        Shape::Symbol(place) => place == SEMICOLON,
         _ => false,
     }
 }

@@ -1,9 +1,11 @@
+//! The text that stands between two quotes or backticks.
+
 ghost use Rattle.std.specs.Prelude.{◌≡◌, ◌≢◌, ◌+◌, ◌<◌, ◌≤◌, ◌==◌, ◌&&◌, ◌||◌, not, [], ◌∷◌, drop, length, MatchOption, ℕ, ◌*◌};
 ghost use Rattle.std.specs.Option.{option_map};
 ghost use Rattle.std.specs.List.{list_all};
 ghost use Rattle.std.specs.Str.{IsUtf8, chars, encode_utf8_all};
 ghost use Rattle.gql_lexer.specs.Quotes.{short_escape, hex_value, coded, escape, part, unescaped, text_between};
-ghost use Rattle.gql_lexer.specs.Reads.{Reads};
+ghost use Rattle.gql_lexer.specs.Gives.{Gives};
 
 use crate::fault::LexFault;
 use gql_values3::Text;
@@ -12,7 +14,7 @@ use std::str;
 
 /// The text that stands between two quotes.
 pub fn text_between(alloc: Global, bytes: &[u8], quote: u8) -> Result<Text, LexFault>
-    ensures { Reads result (text_between quote bytes.now) }
+    ensures { Gives result (text_between quote bytes.now) }
 {
     match str::from_utf8(bytes) {
         Ok(text) => undone(alloc, text, quote as char),
@@ -22,7 +24,7 @@ pub fn text_between(alloc: Global, bytes: &[u8], quote: u8) -> Result<Text, LexF
 
 /// The text with its escapes and doubled quotes undone.
 fn undone(alloc: Global, text: &str, quote: char) -> Result<Text, LexFault>
-    ensures { Reads result (option_map encode_utf8_all (unescaped quote 0 (chars text.now))) }
+    ensures { Gives result (option_map encode_utf8_all (unescaped quote 0 (chars text.now))) }
 {
     if is_plain(text, quote) {
         copied(alloc, text)
@@ -33,7 +35,7 @@ fn undone(alloc: Global, text: &str, quote: char) -> Result<Text, LexFault>
 
 /// A copy of a text with no escapes and no quotes.
 fn copied(alloc: Global, text: &str) -> Result<Text, LexFault>
-    ensures { Reads result (Some text.now) }
+    ensures { Gives result (Some text.now) }
 {
     Ok(Text::from_str(alloc, text)?)
 }
@@ -47,7 +49,7 @@ fn is_plain(text: &str, quote: char) -> bool
 
 /// The text that the characters stand for, each by itself.
 fn unescaped(alloc: Global, text: &str, quote: char) -> Result<Text, LexFault>
-    ensures { Reads result (option_map encode_utf8_all (unescaped quote 0 (chars text.now))) }
+    ensures { Gives result (option_map encode_utf8_all (unescaped quote 0 (chars text.now))) }
 {
     let mut made = String::new(alloc);
     let mut rest = text;

@@ -1,8 +1,14 @@
+//! The symbols that begin with a byte with which others begin too.
+
 ghost use Rattle.std.specs.Prelude.{◌≡◌, ◌<◌, length, slice_index};
 ghost use Rattle.gql_lexer.specs.declared.front.Shape.TheVariants.{Symbol};
 ghost use Rattle.gql_lexer.specs.Forms.{form, front};
 
 use crate::front::{Front, Shape};
+use crate::symbols::{
+    BAR, COLON, DOUBLE_BAR, DOUBLE_COLON, GREATER, GREATER_OR_EQUAL, LEFT_ARROW, LEFT_RIGHT_ARROW,
+    LEFT_TILDE, LESS, LESS_OR_EQUAL, MULTISET_BAR, NOT_EQUAL, RIGHT_TILDE, TILDE,
+};
 
 /// A symbol of some bytes, by its place in the list of symbols.
 pub fn sign(place: u32, size: usize) -> Front
@@ -31,21 +37,21 @@ pub fn less(rest: &[u8]) -> Front
     let second = byte_at(rest, 1);
     if second == b'-' {
         return if byte_at(rest, 2) == b'>' {
-            sign(0, 3)
+            sign(LEFT_RIGHT_ARROW, 3)
         } else {
-            sign(2, 2)
+            sign(LEFT_ARROW, 2)
         };
     }
     if second == b'~' {
-        return sign(4, 2);
+        return sign(LEFT_TILDE, 2);
     }
     if second == b'>' {
-        return sign(6, 2);
+        return sign(NOT_EQUAL, 2);
     }
     if second == b'=' {
-        return sign(7, 2);
+        return sign(LESS_OR_EQUAL, 2);
     }
-    sign(13, 1)
+    sign(LESS, 1)
 }
 
 /// `>=` or `>`.
@@ -55,9 +61,9 @@ pub fn greater(rest: &[u8]) -> Front
     ensures { result ≡ front rest.now }
 {
     if byte_at(rest, 1) == b'=' {
-        sign(8, 2)
+        sign(GREATER_OR_EQUAL, 2)
     } else {
-        sign(14, 1)
+        sign(GREATER, 1)
     }
 }
 
@@ -68,9 +74,9 @@ pub fn tilde(rest: &[u8]) -> Front
     ensures { result ≡ front rest.now }
 {
     if byte_at(rest, 1) == b'>' {
-        sign(5, 2)
+        sign(RIGHT_TILDE, 2)
     } else {
-        sign(12, 1)
+        sign(TILDE, 1)
     }
 }
 
@@ -81,9 +87,9 @@ pub fn colon(rest: &[u8]) -> Front
     ensures { result ≡ front rest.now }
 {
     if byte_at(rest, 1) == b':' {
-        sign(10, 2)
+        sign(DOUBLE_COLON, 2)
     } else {
-        sign(27, 1)
+        sign(COLON, 1)
     }
 }
 
@@ -95,14 +101,14 @@ pub fn bar(rest: &[u8]) -> Front
 {
     let second = byte_at(rest, 1);
     if second == b'|' {
-        return sign(9, 2);
+        return sign(DOUBLE_BAR, 2);
     }
     if second == b'+' {
         return if byte_at(rest, 2) == b'|' {
-            sign(1, 3)
+            sign(MULTISET_BAR, 3)
         } else {
-            sign(30, 1)
+            sign(BAR, 1)
         };
     }
-    sign(30, 1)
+    sign(BAR, 1)
 }

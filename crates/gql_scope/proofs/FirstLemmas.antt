@@ -9,7 +9,7 @@ use Rattle.gql_scope.specs.UnsetParameters.{unset, is_set}
 use Rattle.gql_ast.specs.RowAggregates.{RowAggregate}
 use Rattle.gql_ast.specs.Projections.{has_none}
 use Rattle.gql_scope.specs.Misuses.{are_two}
-use Rattle.gql_scope.specs.First.{first}
+use Rattle.gql_scope.specs.Machinery.First.{first}
 use Rattle.gql_scope.proofs.KnowingLemmas.{same_text-refl}
 
 pub first_in_two : {A : Type 0} (xs ys : List A) → first (xs ++ ys) ≡ option_or (first xs) (first ys)

@@ -9,7 +9,7 @@ use Rattle.gql_values3.specs.declared.table.ColumnKind.{ColumnKind}
 use Rattle.gql_values3.specs.declared.table.ColumnKind.TheVariants as kind
 use Rattle.gql_ast.specs.ClauseColumns.{ColumnList, is_column}
 use Rattle.gql_ast.specs.Outputs.{kind_of_name}
-use Rattle.gql_scope.specs.Knowing.{first_kind}
+use Rattle.gql_scope.specs.Machinery.Knowing.{first_kind}
 
 abbrev found : ColumnList → List ℕ → Option (List ℕ × ColumnKind)
 found columns x = find (λ (c : List ℕ × ColumnKind). same_text x c.0) columns

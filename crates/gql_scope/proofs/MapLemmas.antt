@@ -13,8 +13,8 @@ use Rattle.gql_ast.specs.declared.change.Fill.{Fill}
 use Rattle.gql_ast.specs.declared.filler.MapItem.{MapItem}
 use Rattle.gql_ast.specs.declared.refusal.Refusal.TheVariants as refusal
 use Rattle.gql_ast.specs.declared.refusal.Refusal.{Refusal}
-use Rattle.gql_scope.specs.Answers.{Answers, Refuses}
-use Rattle.gql_scope.specs.Questions.{map_refusal, first_in_maps}
+use Rattle.gql_scope.specs.Gives.{Gives, Fails}
+use Rattle.gql_scope.specs.Machinery.Questions.{map_refusal, first_in_maps}
 use Rattle.gql_scope.specs.declared.fault.ScopeFault.{ScopeFault}
 use Rattle.gql_scope.specs.declared.insert_maps.MapQuestion.{MapQuestion}
 use Rattle.gql_scope.specs.declared.insert_maps.MapQuestion.TheVariants as question
@@ -36,7 +36,7 @@ maps_cut q f xs i x whole below is h =
 
 -- an item's maps stop the walk, ..
 pub maps_stop : {A : Type 0} (q : MapQuestion) (f : A → Spots) (xs : List A) (i : ℕ) (x : A) (whole : Option Refusal) (e : ScopeFault)
-    → i < length xs → x ≡ get_or xs i x → first_in_maps q (flat_map f (drop i xs)) ≡ whole → Refuses e (first_in_maps q (f x)) → Refuses e whole
+    → i < length xs → x ≡ get_or xs i x → first_in_maps q (flat_map f (drop i xs)) ≡ whole → Fails e (first_in_maps q (f x)) → Fails e whole
 maps_stop q f xs i x whole e below is h refuses =
     stops e (first_in_maps q (f x)) (first_in_maps q (flat_map f (drop (i + 1) xs))) whole refuses (maps_cut q f xs i x whole below is h)
 
@@ -72,5 +72,5 @@ unset_is_first q params (s ∷ ss) same =
     ∙ ap (option_or (map_refusal q s.1.map)) (unset_is_first q params ss same)
 
 -- an answer to one question is one to another that asks the same
-pub answers_same : (r : Result (Unit {0}) ScopeFault) (o p : Option Refusal) → Answers r o → p ≡ o → Answers r p
-answers_same r o p h e = subst (Answers r) (sym e) h
+pub gives_same : (r : Result (Unit {0}) ScopeFault) (o p : Option Refusal) → Gives r o → p ≡ o → Gives r p
+gives_same r o p h e = subst (Gives r) (sym e) h

@@ -7,8 +7,8 @@ use Rattle.gql_ast.specs.Scope.{names_in}
 use Rattle.gql_ast.specs.ClauseColumns.{ColumnList}
 use Rattle.gql_ast.specs.Outputs.{kind_of_name, element_kind}
 use Rattle.gql_scope.specs.Misuses.{misused, within, is_group_column, are_two, is_over_rows, item_columns, groups_in}
-use Rattle.gql_scope.specs.First.{first}
-use Rattle.gql_scope.specs.Places.{argument_misused}
+use Rattle.gql_scope.specs.Machinery.First.{first}
+use Rattle.gql_scope.specs.Machinery.Places.{argument_misused}
 use Rattle.gql_scope.proofs.FirstLemmas.{first-filter, none_passes, are_two-filter}
 
 -- by the list of its groups

@@ -572,3 +572,13 @@ a_sort_key_by_its_column = refl
 two_columns_of_one_text : refused (match (codes "x") ∷ give_back (plain (expr.Property (codes "x") (codes "n")) ∷ plain (expr.Property (codes "x") (codes "n")) ∷ []) ∷ []) ≡ Some (refusal.Column (column.Name (codes "x.n")))
 unfolding misused row_aggregates expr_text digits chars is_xid_start is_xid_continue in_ranges xid_start_ranges xid_continue_ranges reserved_words
 two_columns_of_one_text = refl
+
+-- LET x = 1 RETURN 1 AS `COUNT(*) + x`, COUNT(*) + x
+a_repeated_name_without_as_begins_its_item : refused (clause.Let (to (codes "x") one ∷ []) ∷ give_back (called one (codes "COUNT(*) + x") ∷ plain (expr.Sum count_all (link operators.Add (name (codes "x")) ∷ [])) ∷ []) ∷ []) ≡ Some (refusal.Column (column.Name (codes "COUNT(*) + x")))
+unfolding misused row_aggregates expr_text digits chars is_xid_start is_xid_continue in_ranges xid_start_ranges xid_continue_ranges reserved_words
+a_repeated_name_without_as_begins_its_item = refl
+
+-- MATCH (x) RETURN 1 AS `COUNT(*) + x.n`, COUNT(*) + x.n
+a_repeated_text_without_as_begins_its_item : refused (match (codes "x") ∷ give_back (called one (codes "COUNT(*) + x.n") ∷ plain (expr.Sum count_all (link operators.Add (property (codes "x") (codes "n")) ∷ [])) ∷ []) ∷ []) ≡ Some (refusal.Column (column.Name (codes "COUNT(*) + x.n")))
+unfolding misused row_aggregates expr_text digits chars is_xid_start is_xid_continue in_ranges xid_start_ranges xid_continue_ranges reserved_words
+a_repeated_text_without_as_begins_its_item = refl

@@ -13,10 +13,10 @@ use Rattle.gql_scope.specs.UnsetParameters.{unset, is_set}
 use Rattle.gql_values3.specs.Datum.{Datum}
 use Rattle.gql_ast.specs.declared.refusal.Refusal.TheVariants as refusal
 use Rattle.gql_ast.specs.declared.refusal.Refusal.{Refusal}
-use Rattle.gql_scope.specs.First.{first}
+use Rattle.gql_scope.specs.Machinery.First.{first}
 use Rattle.std.specs.Result.{IsErr, IsErrAnd}
 use Rattle.std.proofs.lemmas.Grind.{common_steps}
-use Rattle.gql_scope.specs.Answers.{Answers, Refuses}
+use Rattle.gql_scope.specs.Gives.{Gives, Fails}
 use Rattle.gql_scope.proofs.FirstLemmas.{first-filter}
 use Rattle.gql_scope.specs.declared.fault.ScopeFault.{ScopeFault}
 use Rattle.gql_scope.specs.declared.fault.ScopeFault.TheVariants as fault
@@ -41,7 +41,7 @@ refusal_of_first-first f [] = refl
 refusal_of_first-first f (x ∷ xs) = refl
 
 -- a check that stops at the first of two answers the first of both
-pub stops : (e : ScopeFault) (o p whole : Option Refusal) → Refuses e o → whole ≡ option_or o p → Refuses e whole
+pub stops : (e : ScopeFault) (o p whole : Option Refusal) → Fails e o → whole ≡ option_or o p → Fails e whole
 stops (fault.Defect r) o p whole h q = q ∙ ap (λ z. option_or z p) h
 stops fault.OutOfMemory o p whole h q = tt
 
@@ -68,9 +68,9 @@ unset_of_two params (x ∷ xs) ys = by (not (is_set params x)) (unset_of_two par
 pub ruleset first_of_first = (refusal_of_first-first)
 
 -- what `?` gives back is the fault that it met
-pub answers_fault : (r : Result (Unit {0}) ScopeFault) (e : ScopeFault) (o : Option Refusal) → IsErr r → IsErrAnd r (λ f. f ≡ e) → Refuses e o → Answers r o
-answers_fault (Ok u) e o h same refuses = absurd (true≢false (sym h))
-answers_fault (Err f) e o h same refuses = subst (λ g. Refuses g o) (sym same) refuses
+pub gives_fault : (r : Result (Unit {0}) ScopeFault) (e : ScopeFault) (o : Option Refusal) → IsErr r → IsErrAnd r (λ f. f ≡ e) → Fails e o → Gives r o
+gives_fault (Ok u) e o h same refuses = absurd (true≢false (sym h))
+gives_fault (Err f) e o h same refuses = subst (λ g. Fails g o) (sym same) refuses
 
 -- the items from i on are the item there and those behind it
 pub drop_step : {A : Type 0} (xs : List A) (i : ℕ) (x : A) → i < length xs → x ≡ get_or xs i x → drop i xs ≡ x ∷ drop (i + 1) xs

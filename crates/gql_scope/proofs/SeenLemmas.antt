@@ -6,7 +6,7 @@ use Rattle.std.proofs.lemmas.List.{reverse-append, map-append}
 use Rattle.gql_values3.specs.Texts.{same_text}
 use Rattle.gql_values3.specs.declared.table.ColumnKind.{ColumnKind}
 use Rattle.gql_ast.specs.ClauseColumns.{ColumnList, is_column}
-use Rattle.gql_scope.specs.ColumnFaults.{is_among, repeated, columns_outside, repeated_name, faults_in_list, faults_in_names, omitted}
+use Rattle.gql_scope.specs.ColumnFaults.{is_among, repeated, faults_in_item, faults_in_list, faults_in_names, omitted}
 use Rattle.gql_ast.specs.Meaning.{tree_of}
 use Rattle.gql_ast.specs.Outputs.{item_name}
 use Rattle.gql_ast.specs.Projections.{is_key}
@@ -14,8 +14,8 @@ use Rattle.gql_scope.specs.StaticRefusals.{refusal_of_first}
 use Rattle.gql_ast.specs.declared.projection.ReturnItem.{ReturnItem}
 use Rattle.gql_ast.specs.declared.refusal.ColumnRef.TheVariants as column
 use Rattle.gql_ast.specs.declared.refusal.Refusal.TheVariants as refusal
-use Rattle.gql_scope.specs.First.{first}
-use Rattle.gql_scope.specs.Seen.{names_of, seen_names}
+use Rattle.gql_scope.specs.Machinery.First.{first}
+use Rattle.gql_scope.specs.Machinery.Seen.{names_of, seen_names}
 use Rattle.gql_scope.proofs.RefusalLemmas.{first_of_in_two}
 
 -- a name is a column exactly where it is among the columns' names
@@ -68,10 +68,10 @@ repeated_step seen x xs = by (is_among seen x)
 -- an item of RETURN, and then those behind it
 pub item_step : (columns : ColumnList) (seen : List (List ℕ)) (i : ReturnItem) (is : List ReturnItem)
     → refusal_of_first refusal.Column (faults_in_list columns seen (i ∷ is))
-    ≡ option_or (refusal_of_first refusal.Column (columns_outside columns (tree_of i.value) ++ repeated_name columns seen (item_name i)))
+    ≡ option_or (refusal_of_first refusal.Column (faults_in_item columns seen i))
     (refusal_of_first refusal.Column (faults_in_list columns (item_name i ∷ seen) is))
 item_step columns seen i is =
-    first_of_in_two refusal.Column (columns_outside columns (tree_of i.value) ++ repeated_name columns seen (item_name i)) (faults_in_list columns (item_name i ∷ seen) is)
+    first_of_in_two refusal.Column (faults_in_item columns seen i) (faults_in_list columns (item_name i ∷ seen) is)
 
 -- a name of GROUP BY, and then those behind it
 pub name_step : (columns : ColumnList) (keys seen : List (List ℕ)) (x : List ℕ) (xs : List (List ℕ))

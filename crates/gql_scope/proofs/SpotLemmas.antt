@@ -15,11 +15,11 @@ use Rattle.gql_scope.specs.UnknownNames.{misplaced, unknown_in_map, unknown_in_s
 use Rattle.gql_ast.specs.Endpoints.{wrong_endpoint, wrong_in_spots}
 use Rattle.gql_ast.specs.declared.refusal.Refusal.TheVariants as refusal
 use Rattle.gql_ast.specs.declared.refusal.Refusal.{Refusal}
-use Rattle.gql_scope.specs.Questions.{spot_refusal, first_in_spots}
+use Rattle.gql_scope.specs.Machinery.Questions.{spot_refusal, first_in_spots}
 use Rattle.gql_scope.specs.declared.insert_spots.SpotQuestion.{SpotQuestion}
 use Rattle.gql_scope.specs.declared.insert_spots.SpotQuestion.TheVariants as question
 use Rattle.gql_scope.specs.declared.fault.ScopeFault.{ScopeFault}
-use Rattle.gql_scope.specs.Answers.{Refuses}
+use Rattle.gql_scope.specs.Gives.{Fails}
 use Rattle.gql_scope.proofs.KnowingLemmas.{is_some-first_kind}
 use Rattle.gql_scope.proofs.RefusalLemmas.{first_of_in_two, stops, goes_on, drop_step}
 
@@ -106,7 +106,7 @@ spots_cut q incoming f xs i x before whole below is h =
 
 pub spots_stop : {A : Type 0} (q : SpotQuestion) (incoming : ColumnList) (f : A → Spots) (xs : List A) (i : ℕ) (x : A) (before : ColumnList) (whole : Option Refusal) (e : ScopeFault)
     → i < length xs → x ≡ get_or xs i x → first_in_spots q incoming before (flat_map f (drop i xs)) ≡ whole
-    → Refuses e (first_in_spots q incoming before (f x)) → Refuses e whole
+    → Fails e (first_in_spots q incoming before (f x)) → Fails e whole
 spots_stop q incoming f xs i x before whole e below is h refuses =
     stops e (first_in_spots q incoming before (f x)) (first_in_spots q incoming (spot_columns before (f x)) (flat_map f (drop (i + 1) xs))) whole refuses
     (spots_cut q incoming f xs i x before whole below is h)

@@ -85,13 +85,20 @@ module _ (columns : ColumnList) where
   abbrev pub columns_outside : Tree → List ColumnRef
   columns_outside e = if is_key columns e then [] else map column.Name (names_outside e)
 
-  -- an output column's name stands behind its expression, also where AS is missing
   abbrev pub repeated_name : List (List ℕ) → List ℕ → List ColumnRef
   repeated_name seen x = if is_among seen x then column.Name x ∷ [] else []
 
+  -- a name behind AS stands behind its expression; without AS the expression is the name, which so begins where the item does
+  abbrev pub faults_at : Option (List ℕ) → List ColumnRef → List ColumnRef → List ColumnRef
+  faults_at (Some x) outside again = outside ++ again
+  faults_at None outside again = again ++ outside
+
+  abbrev pub faults_in_item : List (List ℕ) → ReturnItem → List ColumnRef
+  faults_in_item seen i = faults_at i.name (columns_outside (tree_of i.value)) (repeated_name seen (item_name i))
+
   abbrev pub faults_in_list : List (List ℕ) → List ReturnItem → List ColumnRef
   faults_in_list seen [] = []
-  faults_in_list seen (i ∷ is) = columns_outside (tree_of i.value) ++ repeated_name seen (item_name i) ++ faults_in_list (item_name i ∷ seen) is
+  faults_in_list seen (i ∷ is) = faults_in_item seen i ++ faults_in_list (item_name i ∷ seen) is
 
   abbrev pub faults_in_items : ReturnItems → List ColumnRef
   faults_in_items items.All = none columns

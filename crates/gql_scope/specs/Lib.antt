@@ -1,14 +1,8 @@
+pub mod StaticRefusals
 pub mod UnknownNames
 pub mod WrongKinds
 pub mod Misuses
 pub mod ColumnFaults
 pub mod UnsetParameters
-pub mod StaticRefusals
-pub mod Knowing
-pub mod Sought
-pub mod First
-pub mod Places
-pub mod Answers
-pub mod Seen
-pub mod ValueRefusal
-pub mod Questions
+pub mod Gives
+pub mod Machinery

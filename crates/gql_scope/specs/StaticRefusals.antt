@@ -5,6 +5,7 @@ use Rattle.std.specs.List.{flat_map}
 use Rattle.std.specs.Option.{option_or}
 use Rattle.gql_values3.specs.Datum.{Datum}
 use Rattle.gql_ast.specs.Meaning.{tree_of}
+use Rattle.gql_ast.specs.Tree.{Tree}
 use Rattle.gql_scope.specs.UnknownNames.{unknown_in, unknown_in_clauses}
 use Rattle.gql_scope.specs.WrongKinds.{wrong_in_clauses}
 use Rattle.gql_scope.specs.Misuses.{misused, misused_clauses, elsewhere}
@@ -43,10 +44,13 @@ module _ (params : List (List ℕ × Datum)) where
       first_by_code (unknown_in_clauses [] cs) (wrong_in_clauses [] cs) (misused_clauses [] cs) (faults_in_clauses [] cs)
       (unset params (flat_map parameters_of_clause cs))
 
+  -- of a value that is evaluated over no columns
+  abbrev pub value_refusal : Tree → Option Refusal
+  value_refusal e = first_by_code (unknown_in [] e) [] (misused [] elsewhere e) [] (unset params (parameters_in e))
+
   -- SESSION SET VALUE evaluates its expression over no columns
   abbrev pub session_refusal : SessionStatement → Option Refusal
-  session_refusal (session.SetValue p e) =
-      first_by_code (unknown_in [] (tree_of e)) [] (misused [] elsewhere (tree_of e)) [] (unset params (parameters_in (tree_of e)))
+  session_refusal (session.SetValue p e) = value_refusal (tree_of e)
   session_refusal _ = None
 
   abbrev pub static_refusal : Statement → Option Refusal

@@ -6,12 +6,12 @@ ghost use Rattle.gql_ast.specs.Meaning.{tree_of, link_of};
 ghost use Rattle.gql_ast.specs.Projections.{has_none};
 ghost use Rattle.gql_ast.specs.RowAggregates.{is_over_group, row_aggregates, row_aggregates_of, row_aggregates_in};
 
-use crate::columns::Scope;
+use crate::columns::KnownColumns;
 use crate::names::{Sought, first_name};
 use gql_ast::{Expr, Step};
 
 /// Whether the expression names a group, so that an aggregate of it is over that group.
-pub fn is_over_group(scope: &Scope, expr: &Expr) -> bool
+pub fn is_over_group(scope: &KnownColumns, expr: &Expr) -> bool
     ensures { result ≡ is_over_group scope.now (tree_of expr.now) }
 {
     match first_name(scope, &Sought::Group, expr) {
@@ -23,7 +23,7 @@ pub fn is_over_group(scope: &Scope, expr: &Expr) -> bool
 /// Whether the expression has an aggregate over rows.
 #[cycle(aggregates)]
 #[tactic(auto, using(crate::proofs::FirstLemmas::some_in_two), unfolding(gql_ast::specs::RowAggregates::row_aggregates))]
-pub fn has_aggregate(scope: &Scope, expr: &Expr) -> bool
+pub fn has_aggregate(scope: &KnownColumns, expr: &Expr) -> bool
     ensures { result ≡ not (has_none (row_aggregates scope.now (tree_of expr.now))) }
 {
     match expr {
@@ -55,7 +55,7 @@ pub fn has_aggregate(scope: &Scope, expr: &Expr) -> bool
 
 #[cycle(aggregates)]
 #[tactic(auto, unfolding(gql_ast::specs::RowAggregates::row_aggregates))]
-fn any_has_aggregate(scope: &Scope, parts: &[Expr]) -> bool
+fn any_has_aggregate(scope: &KnownColumns, parts: &[Expr]) -> bool
     ensures { result ≡ not (has_none (row_aggregates_of scope.now (trees_of (map tree_of parts.now)))) }
 {
     for i in 0..parts.len() {
@@ -69,7 +69,7 @@ fn any_has_aggregate(scope: &Scope, parts: &[Expr]) -> bool
 
 #[cycle(aggregates)]
 #[tactic(auto, unfolding(gql_ast::specs::RowAggregates::row_aggregates))]
-fn side_has_aggregate(scope: &Scope, steps: &[Step]) -> bool
+fn side_has_aggregate(scope: &KnownColumns, steps: &[Step]) -> bool
     ensures { result ≡ not (has_none (row_aggregates_in scope.now (links_of (map link_of steps.now)))) }
 {
     for i in 0..steps.len() {

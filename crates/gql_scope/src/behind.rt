@@ -1,23 +1,20 @@
 //! The columns behind each clause.
 
 ghost use Rattle.std.specs.Prelude.{◌≡◌, [], ◌∷◌, ◌++◌, OnOk};
-ghost use Rattle.std.specs.Option.{option_copied};
 ghost use Rattle.gql_ast.specs.Meaning.{tree_of};
 ghost use Rattle.gql_ast.specs.Outputs.{kind_of, element_kind};
-ghost use Rattle.gql_ast.specs.ClauseColumns.{let_columns, counter_column, for_columns, node_of_pattern, node_among, with_node, match_columns};
+ghost use Rattle.gql_ast.specs.ClauseColumns.{let_columns, counter_column, for_columns, with_node, match_columns};
 ghost use Rattle.gql_ast.specs.Projections.{columns_behind, output_columns};
 
-use crate::columns::Scope;
+use crate::columns::KnownColumns;
 use crate::insert_columns::push_change;
 use crate::outputs::output_scope;
-use gql_ast::{
-    Clause, Counting, Expr, Filler, For, GraphPattern, LetItem, PathExpr, PathPattern, ReturnItems,
-};
+use gql_ast::{Clause, Counting, Expr, For, GraphPattern, LetItem, ReturnItems, node_of_pattern};
 use gql_values3::{ColumnKind, OutOfMemory, Text};
 use std::alloc::Global;
 
 /// What a column of the value holds: a bare variable keeps what it holds.
-pub fn kind_of(scope: &Scope, expr: &Expr) -> ColumnKind
+pub fn kind_of(scope: &KnownColumns, expr: &Expr) -> ColumnKind
     ensures { result ≡ kind_of scope.now (tree_of expr.now) }
 {
     match expr {
@@ -40,7 +37,7 @@ pub fn element_kind(kind: ColumnKind) -> ColumnKind
 /// Adds a column, with a copy of its name.
 pub fn push_copy(
     alloc: Global,
-    scope: &mut Scope,
+    scope: &mut KnownColumns,
     name: &Text,
     kind: ColumnKind,
 ) -> Result<(), OutOfMemory>
@@ -50,7 +47,11 @@ pub fn push_copy(
 }
 
 /// Adds the column of an item of LET.
-pub fn push_let_item(alloc: Global, scope: &mut Scope, item: &LetItem) -> Result<(), OutOfMemory>
+pub fn push_let_item(
+    alloc: Global,
+    scope: &mut KnownColumns,
+    item: &LetItem,
+) -> Result<(), OutOfMemory>
     ensures { OnOk result (scope.new ≡ scope.old ++ (item.now.name, kind_of scope.old (tree_of item.now.value)) ∷ []) }
 {
     let kind = kind_of(scope, &item.value);
@@ -58,7 +59,11 @@ pub fn push_let_item(alloc: Global, scope: &mut Scope, item: &LetItem) -> Result
 }
 
 /// Adds the columns of LET.
-pub fn push_let(alloc: Global, scope: &mut Scope, items: &[LetItem]) -> Result<(), OutOfMemory>
+pub fn push_let(
+    alloc: Global,
+    scope: &mut KnownColumns,
+    items: &[LetItem],
+) -> Result<(), OutOfMemory>
     ensures { OnOk result (scope.new ≡ let_columns scope.old items.now) }
 {
     for item in items {
@@ -68,7 +73,11 @@ pub fn push_let(alloc: Global, scope: &mut Scope, items: &[LetItem]) -> Result<(
 }
 
 /// Adds the column of the item of FOR.
-pub fn push_for_item(alloc: Global, scope: &mut Scope, clause: &For) -> Result<(), OutOfMemory>
+pub fn push_for_item(
+    alloc: Global,
+    scope: &mut KnownColumns,
+    clause: &For,
+) -> Result<(), OutOfMemory>
     ensures { OnOk result (scope.new ≡ scope.old ++ (clause.now.name, element_kind (kind_of scope.old (tree_of clause.now.list))) ∷ []) }
 {
     let kind = element_kind(kind_of(scope, &clause.list));
@@ -78,7 +87,7 @@ pub fn push_for_item(alloc: Global, scope: &mut Scope, clause: &For) -> Result<(
 /// Adds the column of FOR's counter, where there is one.
 pub fn push_counter(
     alloc: Global,
-    scope: &mut Scope,
+    scope: &mut KnownColumns,
     counter: &Option<(Counting, Text)>,
 ) -> Result<(), OutOfMemory>
     ensures { OnOk result (scope.new ≡ scope.old ++ counter_column counter.now) }
@@ -90,39 +99,17 @@ pub fn push_counter(
 }
 
 /// Adds the columns of FOR.
-pub fn push_for(alloc: Global, scope: &mut Scope, clause: &For) -> Result<(), OutOfMemory>
+pub fn push_for(alloc: Global, scope: &mut KnownColumns, clause: &For) -> Result<(), OutOfMemory>
     ensures { OnOk result (scope.new ≡ for_columns scope.old clause.now) }
 {
     push_for_item(alloc, scope, clause)?;
     push_counter(alloc, scope, &clause.counter)
 }
 
-/// The node of a pattern that is one node alone, without a name and a prefix.
-pub fn node_of(pattern: &GraphPattern) -> Option<&Filler>
-    ensures { option_copied result ≡ node_of_pattern pattern.now }
-{
-    node_among(pattern.paths.as_slice())
-}
-
-fn node_among(paths: &[PathPattern]) -> Option<&Filler>
-    ensures { option_copied result ≡ node_among paths.now }
-{
-    match paths {
-        [
-            PathPattern {
-                name: None,
-                prefix: None,
-                expr: PathExpr::Node(filler),
-            },
-        ] => Some(filler),
-        _ => None,
-    }
-}
-
 /// Adds the column of a node's variable, where that is no column yet.
 pub fn push_node(
     alloc: Global,
-    scope: &mut Scope,
+    scope: &mut KnownColumns,
     variable: &Option<Text>,
 ) -> Result<(), OutOfMemory>
     ensures { OnOk result (scope.new ≡ with_node scope.old variable.now) }
@@ -136,19 +123,19 @@ pub fn push_node(
 /// Adds the columns of a pattern's variables.
 pub fn push_pattern(
     alloc: Global,
-    scope: &mut Scope,
+    scope: &mut KnownColumns,
     pattern: &GraphPattern,
 ) -> Result<(), OutOfMemory>
     ensures { OnOk result (scope.new ≡ match_columns scope.old pattern.now) }
 {
-    match node_of(pattern) {
+    match node_of_pattern(pattern) {
         Some(filler) => push_node(alloc, scope, &filler.variable),
         None => Ok(()),
     }
 }
 
 /// Changes the columns to those behind the clause.
-pub fn step(alloc: Global, scope: &mut Scope, clause: &Clause) -> Result<(), OutOfMemory>
+pub fn step(alloc: Global, scope: &mut KnownColumns, clause: &Clause) -> Result<(), OutOfMemory>
     ensures { OnOk result (scope.new ≡ columns_behind scope.old clause.now) }
 {
     match clause {
@@ -164,7 +151,7 @@ pub fn step(alloc: Global, scope: &mut Scope, clause: &Clause) -> Result<(), Out
 /// Changes the columns to those that RETURN gives.
 pub fn keep_outputs(
     alloc: Global,
-    scope: &mut Scope,
+    scope: &mut KnownColumns,
     items: &ReturnItems,
 ) -> Result<(), OutOfMemory>
     ensures { OnOk result (scope.new ≡ output_columns scope.old items.now) }

@@ -6,9 +6,9 @@ ghost use Rattle.gql_ast.specs.InsertColumns.{insert_spots};
 ghost use Rattle.gql_scope.specs.StaticRefusals.{refusal_of_first};
 ghost use Rattle.gql_ast.specs.Endpoints.{is_node, wrong_endpoint, wrong_in_spots};
 ghost use Rattle.gql_scope.specs.WrongKinds.{is_element, wrong_target, set_target, remove_target, wrong_in_change};
-ghost use Rattle.gql_scope.specs.Answers.{Answers};
+ghost use Rattle.gql_scope.specs.Gives.{Gives};
 
-use crate::columns::Scope;
+use crate::columns::KnownColumns;
 use crate::fault::ScopeFault;
 use crate::insert_spots::{SpotQuestion, check_spots};
 use crate::standing::{standing_kind, stands};
@@ -33,11 +33,11 @@ fn is_element(kind: ColumnKind) -> bool
 /// Checks that a node of INSERT that stands already is a node.
 fn check_node(
     alloc: Global,
-    incoming: &Scope,
-    fresh: &Scope,
+    incoming: &KnownColumns,
+    fresh: &KnownColumns,
     variable: &Option<Text>,
 ) -> Result<(), ScopeFault>
-    ensures { Answers result (refusal_of_first Refusal.Kind (wrong_endpoint (incoming.now ++ fresh.now) ColumnKind.Node variable.now)) }
+    ensures { Gives result (refusal_of_first Refusal.Kind (wrong_endpoint (incoming.now ++ fresh.now) ColumnKind.Node variable.now)) }
 {
     match variable {
         Some(name)
@@ -51,12 +51,12 @@ fn check_node(
 /// Checks a node or an edge of INSERT: only nodes may stand already.
 pub fn check_endpoint(
     alloc: Global,
-    incoming: &Scope,
-    fresh: &Scope,
+    incoming: &KnownColumns,
+    fresh: &KnownColumns,
     kind: ColumnKind,
     variable: &Option<Text>,
 ) -> Result<(), ScopeFault>
-    ensures { Answers result (refusal_of_first Refusal.Kind (wrong_endpoint (incoming.now ++ fresh.now) kind variable.now)) }
+    ensures { Gives result (refusal_of_first Refusal.Kind (wrong_endpoint (incoming.now ++ fresh.now) kind variable.now)) }
 {
     match kind {
         ColumnKind::Node => check_node(alloc, incoming, fresh, variable),
@@ -66,15 +66,15 @@ pub fn check_endpoint(
 
 /// Checks the endpoints of INSERT.
 #[tactic(auto, using(crate::proofs::SpotLemmas::wrong_is_first))]
-fn check_insert(alloc: Global, scope: &Scope, paths: &[InsertPath]) -> Result<(), ScopeFault>
-    ensures { Answers result (refusal_of_first Refusal.Kind (wrong_in_spots scope.now (insert_spots paths.now))) }
+fn check_insert(alloc: Global, scope: &KnownColumns, paths: &[InsertPath]) -> Result<(), ScopeFault>
+    ensures { Gives result (refusal_of_first Refusal.Kind (wrong_in_spots scope.now (insert_spots paths.now))) }
 {
     check_spots(alloc, SpotQuestion::Kinds, scope, paths)
 }
 
 /// Checks that a target, where it is a column, is an element.
-fn check_target(alloc: Global, scope: &Scope, name: &Text) -> Result<(), ScopeFault>
-    ensures { Answers result (refusal_of_first Refusal.Kind (wrong_target scope.now name.now)) }
+fn check_target(alloc: Global, scope: &KnownColumns, name: &Text) -> Result<(), ScopeFault>
+    ensures { Gives result (refusal_of_first Refusal.Kind (wrong_target scope.now name.now)) }
 {
     if scope.contains(name) && !is_element(scope.kind(name)) {
         return Err(ScopeFault::Defect(Refusal::Kind(name.try_copy(alloc)?)));
@@ -83,8 +83,8 @@ fn check_target(alloc: Global, scope: &Scope, name: &Text) -> Result<(), ScopeFa
 }
 
 /// Checks the target of an item of SET.
-fn check_set_item(alloc: Global, scope: &Scope, item: &SetItem) -> Result<(), ScopeFault>
-    ensures { Answers result (refusal_of_first Refusal.Kind (wrong_target scope.now (set_target item.now))) }
+fn check_set_item(alloc: Global, scope: &KnownColumns, item: &SetItem) -> Result<(), ScopeFault>
+    ensures { Gives result (refusal_of_first Refusal.Kind (wrong_target scope.now (set_target item.now))) }
 {
     match item {
         SetItem::Property(name, _, _) | SetItem::Label(name, _) => check_target(alloc, scope, name),
@@ -93,8 +93,8 @@ fn check_set_item(alloc: Global, scope: &Scope, item: &SetItem) -> Result<(), Sc
 
 /// Checks the targets of SET.
 #[tactic(auto, using(crate::proofs::RefusalLemmas::first_of_in_two))]
-fn check_set(alloc: Global, scope: &Scope, items: &[SetItem]) -> Result<(), ScopeFault>
-    ensures { Answers result (refusal_of_first Refusal.Kind (flat_map (λ i. wrong_target scope.now (set_target i)) items.now)) }
+fn check_set(alloc: Global, scope: &KnownColumns, items: &[SetItem]) -> Result<(), ScopeFault>
+    ensures { Gives result (refusal_of_first Refusal.Kind (flat_map (λ i. wrong_target scope.now (set_target i)) items.now)) }
 {
     for item in items {
         check_set_item(alloc, scope, item)?;
@@ -103,8 +103,12 @@ fn check_set(alloc: Global, scope: &Scope, items: &[SetItem]) -> Result<(), Scop
 }
 
 /// Checks the target of an item of REMOVE.
-fn check_remove_item(alloc: Global, scope: &Scope, item: &RemoveItem) -> Result<(), ScopeFault>
-    ensures { Answers result (refusal_of_first Refusal.Kind (wrong_target scope.now (remove_target item.now))) }
+fn check_remove_item(
+    alloc: Global,
+    scope: &KnownColumns,
+    item: &RemoveItem,
+) -> Result<(), ScopeFault>
+    ensures { Gives result (refusal_of_first Refusal.Kind (wrong_target scope.now (remove_target item.now))) }
 {
     match item {
         RemoveItem::Property(name, _) | RemoveItem::Label(name, _) => {
@@ -115,8 +119,8 @@ fn check_remove_item(alloc: Global, scope: &Scope, item: &RemoveItem) -> Result<
 
 /// Checks the targets of REMOVE.
 #[tactic(auto, using(crate::proofs::RefusalLemmas::first_of_in_two))]
-fn check_remove(alloc: Global, scope: &Scope, items: &[RemoveItem]) -> Result<(), ScopeFault>
-    ensures { Answers result (refusal_of_first Refusal.Kind (flat_map (λ i. wrong_target scope.now (remove_target i)) items.now)) }
+fn check_remove(alloc: Global, scope: &KnownColumns, items: &[RemoveItem]) -> Result<(), ScopeFault>
+    ensures { Gives result (refusal_of_first Refusal.Kind (flat_map (λ i. wrong_target scope.now (remove_target i)) items.now)) }
 {
     for item in items {
         check_remove_item(alloc, scope, item)?;
@@ -126,8 +130,8 @@ fn check_remove(alloc: Global, scope: &Scope, items: &[RemoveItem]) -> Result<()
 
 /// Checks the targets of DELETE.
 #[tactic(auto, using(crate::proofs::RefusalLemmas::first_of_in_two))]
-fn check_delete(alloc: Global, scope: &Scope, names: &[Text]) -> Result<(), ScopeFault>
-    ensures { Answers result (refusal_of_first Refusal.Kind (flat_map (wrong_target scope.now) names.now)) }
+fn check_delete(alloc: Global, scope: &KnownColumns, names: &[Text]) -> Result<(), ScopeFault>
+    ensures { Gives result (refusal_of_first Refusal.Kind (flat_map (wrong_target scope.now) names.now)) }
 {
     for name in names {
         check_target(alloc, scope, name)?;
@@ -136,8 +140,12 @@ fn check_delete(alloc: Global, scope: &Scope, names: &[Text]) -> Result<(), Scop
 }
 
 /// Checks the kinds of a clause that changes data.
-pub fn check_change(alloc: Global, scope: &Scope, change: &ChangeClause) -> Result<(), ScopeFault>
-    ensures { Answers result (refusal_of_first Refusal.Kind (wrong_in_change scope.now change.now)) }
+pub fn check_change(
+    alloc: Global,
+    scope: &KnownColumns,
+    change: &ChangeClause,
+) -> Result<(), ScopeFault>
+    ensures { Gives result (refusal_of_first Refusal.Kind (wrong_in_change scope.now change.now)) }
 {
     match change {
         ChangeClause::Insert(paths) => check_insert(alloc, scope, paths.as_slice()),

@@ -5,9 +5,9 @@ ghost use Rattle.std.specs.List.{list_any};
 ghost use Rattle.gql_ast.specs.InsertColumns.{insert_spots};
 ghost use Rattle.gql_scope.specs.Misuses.{misused_map, misused_set, misused_change};
 ghost use Rattle.gql_scope.specs.StaticRefusals.{misuse_if};
-ghost use Rattle.gql_scope.specs.Answers.{Answers};
+ghost use Rattle.gql_scope.specs.Gives.{Gives};
 
-use crate::columns::Scope;
+use crate::columns::KnownColumns;
 use crate::fault::ScopeFault;
 use crate::insert_maps::{MapQuestion, check_maps};
 use crate::misused_clauses::check_expr;
@@ -15,15 +15,15 @@ use gql_ast::{ChangeClause, InsertPath, SetItem};
 use std::alloc::Global;
 
 /// Checks the maps of INSERT.
-fn check_insert(alloc: Global, scope: &Scope, paths: &[InsertPath]) -> Result<(), ScopeFault>
-    ensures { Answers result (misuse_if (list_any (λ s. misused_map scope.now s.1.map) (insert_spots paths.now))) }
+fn check_insert(alloc: Global, scope: &KnownColumns, paths: &[InsertPath]) -> Result<(), ScopeFault>
+    ensures { Gives result (misuse_if (list_any (λ s. misused_map scope.now s.1.map) (insert_spots paths.now))) }
 {
     check_maps(alloc, &MapQuestion::Misuse(scope), paths)
 }
 
 /// Checks the value of an item of SET.
-fn check_set_item(scope: &Scope, item: &SetItem) -> Result<(), ScopeFault>
-    ensures { Answers result (misuse_if (misused_set scope.now item.now)) }
+fn check_set_item(scope: &KnownColumns, item: &SetItem) -> Result<(), ScopeFault>
+    ensures { Gives result (misuse_if (misused_set scope.now item.now)) }
 {
     match item {
         SetItem::Property(_, _, value) => check_expr(scope, value),
@@ -33,8 +33,8 @@ fn check_set_item(scope: &Scope, item: &SetItem) -> Result<(), ScopeFault>
 
 /// Checks the values of SET.
 #[tactic(auto, using(crate::proofs::RefusalLemmas::misuse_in_two))]
-fn check_set(scope: &Scope, items: &[SetItem]) -> Result<(), ScopeFault>
-    ensures { Answers result (misuse_if (list_any (misused_set scope.now) items.now)) }
+fn check_set(scope: &KnownColumns, items: &[SetItem]) -> Result<(), ScopeFault>
+    ensures { Gives result (misuse_if (list_any (misused_set scope.now) items.now)) }
 {
     for item in items {
         check_set_item(scope, item)?;
@@ -43,8 +43,12 @@ fn check_set(scope: &Scope, items: &[SetItem]) -> Result<(), ScopeFault>
 }
 
 /// Checks the expressions of a clause that changes data.
-pub fn check_change(alloc: Global, scope: &Scope, change: &ChangeClause) -> Result<(), ScopeFault>
-    ensures { Answers result (misuse_if (misused_change scope.now change.now)) }
+pub fn check_change(
+    alloc: Global,
+    scope: &KnownColumns,
+    change: &ChangeClause,
+) -> Result<(), ScopeFault>
+    ensures { Gives result (misuse_if (misused_change scope.now change.now)) }
 {
     match change {
         ChangeClause::Insert(paths) => check_insert(alloc, scope, paths.as_slice()),

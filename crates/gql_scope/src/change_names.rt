@@ -5,9 +5,9 @@ ghost use Rattle.std.specs.List.{flat_map};
 ghost use Rattle.gql_ast.specs.InsertColumns.{insert_spots};
 ghost use Rattle.gql_scope.specs.StaticRefusals.{refusal_of_first};
 ghost use Rattle.gql_scope.specs.UnknownNames.{may_refer, misplaced, unknown_in_map, unknown_in_spots, missing, unknown_in_expr, unknown_in_set, unknown_in_remove, unknown_in_change};
-ghost use Rattle.gql_scope.specs.Answers.{Answers};
+ghost use Rattle.gql_scope.specs.Gives.{Gives};
 
-use crate::columns::Scope;
+use crate::columns::KnownColumns;
 use crate::fault::ScopeFault;
 use crate::insert_spots::{SpotQuestion, check_spots};
 use crate::standing::stands;
@@ -29,12 +29,12 @@ fn may_refer(kind: ColumnKind, fill: &Fill) -> bool
 /// Checks that a variable that stands already may stand here.
 fn check_variable(
     alloc: Global,
-    incoming: &Scope,
-    fresh: &Scope,
+    incoming: &KnownColumns,
+    fresh: &KnownColumns,
     kind: ColumnKind,
     fill: &Fill,
 ) -> Result<(), ScopeFault>
-    ensures { Answers result (refusal_of_first Refusal.Variable (misplaced (incoming.now ++ fresh.now) kind fill.now fill.now.variable)) }
+    ensures { Gives result (refusal_of_first Refusal.Variable (misplaced (incoming.now ++ fresh.now) kind fill.now fill.now.variable)) }
 {
     match &fill.variable {
         Some(name) if stands(incoming, fresh, name) && !may_refer(kind, fill) => {
@@ -45,8 +45,8 @@ fn check_variable(
 }
 
 /// Checks the names of a map that may be there.
-fn check_values(alloc: Global, scope: &Scope, map: &Option<Map>) -> Result<(), ScopeFault>
-    ensures { Answers result (refusal_of_first Refusal.Variable (unknown_in_map scope.now map.now)) }
+fn check_values(alloc: Global, scope: &KnownColumns, map: &Option<Map>) -> Result<(), ScopeFault>
+    ensures { Gives result (refusal_of_first Refusal.Variable (unknown_in_map scope.now map.now)) }
 {
     match map {
         None => Ok(()),
@@ -58,12 +58,12 @@ fn check_values(alloc: Global, scope: &Scope, map: &Option<Map>) -> Result<(), S
 #[tactic(auto, using(crate::proofs::RefusalLemmas::first_of_in_two))]
 pub fn check_fill(
     alloc: Global,
-    incoming: &Scope,
-    fresh: &Scope,
+    incoming: &KnownColumns,
+    fresh: &KnownColumns,
     kind: ColumnKind,
     fill: &Fill,
 ) -> Result<(), ScopeFault>
-    ensures { Answers result (refusal_of_first Refusal.Variable (misplaced (incoming.now ++ fresh.now) kind fill.now fill.now.variable ++ unknown_in_map incoming.now fill.now.map)) }
+    ensures { Gives result (refusal_of_first Refusal.Variable (misplaced (incoming.now ++ fresh.now) kind fill.now fill.now.variable ++ unknown_in_map incoming.now fill.now.map)) }
 {
     check_variable(alloc, incoming, fresh, kind, fill)?;
     check_values(alloc, incoming, &fill.map)
@@ -71,15 +71,15 @@ pub fn check_fill(
 
 /// Checks the names of INSERT.
 #[tactic(auto, using(crate::proofs::SpotLemmas::unknown_is_first))]
-fn check_insert(alloc: Global, scope: &Scope, paths: &[InsertPath]) -> Result<(), ScopeFault>
-    ensures { Answers result (refusal_of_first Refusal.Variable (unknown_in_spots scope.now scope.now (insert_spots paths.now))) }
+fn check_insert(alloc: Global, scope: &KnownColumns, paths: &[InsertPath]) -> Result<(), ScopeFault>
+    ensures { Gives result (refusal_of_first Refusal.Variable (unknown_in_spots scope.now scope.now (insert_spots paths.now))) }
 {
     check_spots(alloc, SpotQuestion::Names, scope, paths)
 }
 
 /// Checks that a target is a column.
-fn check_target(alloc: Global, scope: &Scope, name: &Text) -> Result<(), ScopeFault>
-    ensures { Answers result (refusal_of_first Refusal.Variable (missing scope.now name.now)) }
+fn check_target(alloc: Global, scope: &KnownColumns, name: &Text) -> Result<(), ScopeFault>
+    ensures { Gives result (refusal_of_first Refusal.Variable (missing scope.now name.now)) }
 {
     if scope.contains(name) {
         return Ok(());
@@ -91,19 +91,19 @@ fn check_target(alloc: Global, scope: &Scope, name: &Text) -> Result<(), ScopeFa
 #[tactic(auto, using(crate::proofs::RefusalLemmas::first_of_in_two))]
 fn check_assignment(
     alloc: Global,
-    scope: &Scope,
+    scope: &KnownColumns,
     name: &Text,
     value: &Expr,
 ) -> Result<(), ScopeFault>
-    ensures { Answers result (refusal_of_first Refusal.Variable (missing scope.now name.now ++ unknown_in_expr scope.now value.now)) }
+    ensures { Gives result (refusal_of_first Refusal.Variable (missing scope.now name.now ++ unknown_in_expr scope.now value.now)) }
 {
     check_target(alloc, scope, name)?;
     check_names(alloc, scope, value)
 }
 
 /// Checks the names of an item of SET.
-fn check_set_item(alloc: Global, scope: &Scope, item: &SetItem) -> Result<(), ScopeFault>
-    ensures { Answers result (refusal_of_first Refusal.Variable (unknown_in_set scope.now item.now)) }
+fn check_set_item(alloc: Global, scope: &KnownColumns, item: &SetItem) -> Result<(), ScopeFault>
+    ensures { Gives result (refusal_of_first Refusal.Variable (unknown_in_set scope.now item.now)) }
 {
     match item {
         SetItem::Property(name, _, value) => check_assignment(alloc, scope, name, value),
@@ -113,8 +113,8 @@ fn check_set_item(alloc: Global, scope: &Scope, item: &SetItem) -> Result<(), Sc
 
 /// Checks the names of SET.
 #[tactic(auto, using(crate::proofs::RefusalLemmas::first_of_in_two))]
-fn check_set(alloc: Global, scope: &Scope, items: &[SetItem]) -> Result<(), ScopeFault>
-    ensures { Answers result (refusal_of_first Refusal.Variable (flat_map (unknown_in_set scope.now) items.now)) }
+fn check_set(alloc: Global, scope: &KnownColumns, items: &[SetItem]) -> Result<(), ScopeFault>
+    ensures { Gives result (refusal_of_first Refusal.Variable (flat_map (unknown_in_set scope.now) items.now)) }
 {
     for item in items {
         check_set_item(alloc, scope, item)?;
@@ -123,8 +123,12 @@ fn check_set(alloc: Global, scope: &Scope, items: &[SetItem]) -> Result<(), Scop
 }
 
 /// Checks the name of an item of REMOVE.
-fn check_remove_item(alloc: Global, scope: &Scope, item: &RemoveItem) -> Result<(), ScopeFault>
-    ensures { Answers result (refusal_of_first Refusal.Variable (unknown_in_remove scope.now item.now)) }
+fn check_remove_item(
+    alloc: Global,
+    scope: &KnownColumns,
+    item: &RemoveItem,
+) -> Result<(), ScopeFault>
+    ensures { Gives result (refusal_of_first Refusal.Variable (unknown_in_remove scope.now item.now)) }
 {
     match item {
         RemoveItem::Property(name, _) | RemoveItem::Label(name, _) => {
@@ -135,8 +139,8 @@ fn check_remove_item(alloc: Global, scope: &Scope, item: &RemoveItem) -> Result<
 
 /// Checks the names of REMOVE.
 #[tactic(auto, using(crate::proofs::RefusalLemmas::first_of_in_two))]
-fn check_remove(alloc: Global, scope: &Scope, items: &[RemoveItem]) -> Result<(), ScopeFault>
-    ensures { Answers result (refusal_of_first Refusal.Variable (flat_map (unknown_in_remove scope.now) items.now)) }
+fn check_remove(alloc: Global, scope: &KnownColumns, items: &[RemoveItem]) -> Result<(), ScopeFault>
+    ensures { Gives result (refusal_of_first Refusal.Variable (flat_map (unknown_in_remove scope.now) items.now)) }
 {
     for item in items {
         check_remove_item(alloc, scope, item)?;
@@ -146,8 +150,8 @@ fn check_remove(alloc: Global, scope: &Scope, items: &[RemoveItem]) -> Result<()
 
 /// Checks the names of DELETE.
 #[tactic(auto, using(crate::proofs::RefusalLemmas::first_of_in_two))]
-fn check_delete(alloc: Global, scope: &Scope, names: &[Text]) -> Result<(), ScopeFault>
-    ensures { Answers result (refusal_of_first Refusal.Variable (flat_map (missing scope.now) names.now)) }
+fn check_delete(alloc: Global, scope: &KnownColumns, names: &[Text]) -> Result<(), ScopeFault>
+    ensures { Gives result (refusal_of_first Refusal.Variable (flat_map (missing scope.now) names.now)) }
 {
     for name in names {
         check_target(alloc, scope, name)?;
@@ -156,8 +160,12 @@ fn check_delete(alloc: Global, scope: &Scope, names: &[Text]) -> Result<(), Scop
 }
 
 /// Checks the names of a clause that changes data.
-pub fn check_change(alloc: Global, scope: &Scope, change: &ChangeClause) -> Result<(), ScopeFault>
-    ensures { Answers result (refusal_of_first Refusal.Variable (unknown_in_change scope.now change.now)) }
+pub fn check_change(
+    alloc: Global,
+    scope: &KnownColumns,
+    change: &ChangeClause,
+) -> Result<(), ScopeFault>
+    ensures { Gives result (refusal_of_first Refusal.Variable (unknown_in_change scope.now change.now)) }
 {
     match change {
         ChangeClause::Insert(paths) => check_insert(alloc, scope, paths.as_slice()),

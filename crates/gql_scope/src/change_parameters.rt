@@ -6,7 +6,7 @@ ghost use Rattle.gql_ast.specs.InsertColumns.{insert_spots};
 ghost use Rattle.gql_scope.specs.StaticRefusals.{refusal_of_first};
 ghost use Rattle.gql_scope.specs.UnsetParameters.{unset, parameters_of_map, parameters_of_set, parameters_of_change};
 ghost use Rattle.gql_ast.specs.declared.refusal.Refusal.TheVariants as refusal;
-ghost use Rattle.gql_scope.specs.Answers.{Answers};
+ghost use Rattle.gql_scope.specs.Gives.{Gives};
 
 use crate::fault::ScopeFault;
 use crate::insert_maps::{MapQuestion, check_maps};
@@ -17,14 +17,14 @@ use std::alloc::Global;
 
 /// Checks the maps of INSERT.
 fn check_insert(alloc: Global, params: &Params, paths: &[InsertPath]) -> Result<(), ScopeFault>
-    ensures { Answers result (refusal_of_first refusal.Parameter (unset params.now (flat_map (λ s. parameters_of_map s.1.map) (insert_spots paths.now)))) }
+    ensures { Gives result (refusal_of_first refusal.Parameter (unset params.now (flat_map (λ s. parameters_of_map s.1.map) (insert_spots paths.now)))) }
 {
     check_maps(alloc, &MapQuestion::Parameter(params), paths)
 }
 
 /// Checks the value of an item of SET.
 fn check_set_item(alloc: Global, params: &Params, item: &SetItem) -> Result<(), ScopeFault>
-    ensures { Answers result (refusal_of_first refusal.Parameter (unset params.now (parameters_of_set item.now))) }
+    ensures { Gives result (refusal_of_first refusal.Parameter (unset params.now (parameters_of_set item.now))) }
 {
     match item {
         SetItem::Property(_, _, value) => check_expr(alloc, params, value),
@@ -34,7 +34,7 @@ fn check_set_item(alloc: Global, params: &Params, item: &SetItem) -> Result<(), 
 
 /// Checks the values of SET.
 fn check_set(alloc: Global, params: &Params, items: &[SetItem]) -> Result<(), ScopeFault>
-    ensures { Answers result (refusal_of_first refusal.Parameter (unset params.now (flat_map parameters_of_set items.now))) }
+    ensures { Gives result (refusal_of_first refusal.Parameter (unset params.now (flat_map parameters_of_set items.now))) }
 {
     for item in items {
         check_set_item(alloc, params, item)?;
@@ -44,7 +44,7 @@ fn check_set(alloc: Global, params: &Params, items: &[SetItem]) -> Result<(), Sc
 
 /// Checks the parameters of a clause that changes data.
 pub fn check_change(alloc: Global, params: &Params, change: &ChangeClause) -> Result<(), ScopeFault>
-    ensures { Answers result (refusal_of_first refusal.Parameter (unset params.now (parameters_of_change change.now))) }
+    ensures { Gives result (refusal_of_first refusal.Parameter (unset params.now (parameters_of_change change.now))) }
 {
     match change {
         ChangeClause::Insert(paths) => check_insert(alloc, params, paths.as_slice()),

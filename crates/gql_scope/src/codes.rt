@@ -2,12 +2,11 @@
 
 ghost use Rattle.std.specs.Prelude.{◌≡◌, [], Some, None, OnOk, IfErr};
 ghost use Rattle.gql_ast.specs.Meaning.{tree_of};
-ghost use Rattle.gql_scope.specs.StaticRefusals.{static_refusal, query_refusal, session_refusal};
-ghost use Rattle.gql_scope.specs.Answers.{Answers, Refuses};
-ghost use Rattle.gql_scope.specs.ValueRefusal.{value_refusal};
+ghost use Rattle.gql_scope.specs.StaticRefusals.{static_refusal, query_refusal, session_refusal, value_refusal};
+ghost use Rattle.gql_scope.specs.Gives.{Gives, Fails};
 
 use crate::column_faults::column_faults;
-use crate::columns::Scope;
+use crate::columns::KnownColumns;
 use crate::fault::ScopeFault;
 use crate::misused_clauses::{check_expr as check_misuse, misused_clauses};
 use crate::unknown_names::{check_names, unknown_names};
@@ -20,13 +19,13 @@ use std::alloc::Global;
 /// Whether the statement may be run under the parameters, or its first static refusal.
 pub fn check(alloc: Global, statement: &Statement, params: &Params) -> Result<(), ScopeFault>
     ensures clean { OnOk result (static_refusal params.now statement.now ≡ None) }
-    ensures defect { IfErr result (λ fault. Refuses fault (static_refusal params.now statement.now)) }
+    ensures defect { IfErr result (λ fault. Fails fault (static_refusal params.now statement.now)) }
 {
     check_statement(alloc, statement, params)
 }
 
 fn check_statement(alloc: Global, statement: &Statement, params: &Params) -> Result<(), ScopeFault>
-    ensures { Answers result (static_refusal params.now statement.now) }
+    ensures { Gives result (static_refusal params.now statement.now) }
 {
     match statement {
         Statement::Query(query) => check_query(alloc, query.clauses.as_slice(), params),
@@ -37,7 +36,7 @@ fn check_statement(alloc: Global, statement: &Statement, params: &Params) -> Res
 
 /// Checks a query, which begins without columns.
 fn check_query(alloc: Global, clauses: &[Clause], params: &Params) -> Result<(), ScopeFault>
-    ensures { Answers result (query_refusal params.now clauses.now) }
+    ensures { Gives result (query_refusal params.now clauses.now) }
 {
     unknown_names(alloc, clauses)?;
     wrong_kinds(alloc, clauses)?;
@@ -52,7 +51,7 @@ fn check_session(
     statement: &SessionStatement,
     params: &Params,
 ) -> Result<(), ScopeFault>
-    ensures { Answers result (session_refusal params.now statement.now) }
+    ensures { Gives result (session_refusal params.now statement.now) }
 {
     match statement {
         SessionStatement::SetValue(_, value) => check_value(alloc, value, params),
@@ -62,9 +61,9 @@ fn check_session(
 
 /// Checks the value of a parameter, which is evaluated over no columns.
 fn check_value(alloc: Global, value: &Expr, params: &Params) -> Result<(), ScopeFault>
-    ensures { Answers result (value_refusal params.now (tree_of value.now)) }
+    ensures { Gives result (value_refusal params.now (tree_of value.now)) }
 {
-    let scope = Scope::new(alloc);
+    let scope = KnownColumns::new(alloc);
     check_names(alloc, &scope, value)?;
     check_misuse(&scope, value)?;
     check_parameters(alloc, params, value)

@@ -2,32 +2,33 @@
 
 ghost use Rattle.std.specs.Prelude.{◌≡◌, [], ◌∷◌, ◌++◌, map, OnOk, IfOk, if◌then◌else◌};
 ghost use Rattle.std.specs.Option.{option_copied};
-ghost use Rattle.gql_scope.specs.ColumnFaults.{is_among, repeated, faults_in_condition, faults_in_node, columns_outside, repeated_name, faults_in_list, faults_in_items, faults_in_return, faults_in_clause, faults_in_clauses};
+ghost use Rattle.gql_scope.specs.ColumnFaults.{is_among, repeated, faults_in_condition, faults_in_node, columns_outside, repeated_name, faults_in_item, faults_in_list, faults_in_items, faults_in_return, faults_in_clause, faults_in_clauses};
 ghost use Rattle.gql_ast.specs.Meaning.{tree_of};
-ghost use Rattle.gql_ast.specs.Outputs.{item_name};
+ghost use Rattle.gql_ast.specs.Outputs.{item_name, text_name};
 ghost use Rattle.gql_ast.specs.Projections.{columns_behind};
 ghost use Rattle.gql_scope.specs.StaticRefusals.{refusal_of_first};
 ghost use Rattle.gql_ast.specs.declared.refusal.ColumnRef.TheVariants as column;
-ghost use Rattle.gql_scope.specs.Answers.{Answers, Refuses};
-ghost use Rattle.gql_scope.specs.Seen.{seen_names};
+ghost use Rattle.gql_scope.specs.Gives.{Gives, Fails};
+ghost use Rattle.gql_scope.specs.Machinery.Seen.{seen_names};
 
 use crate::aggregates::has_aggregate;
-use crate::behind::{node_of, push_copy, step};
+use crate::behind::{push_copy, step};
 use crate::change_maps::check_change;
-use crate::columns::Scope;
+use crate::columns::KnownColumns;
 use crate::fault::ScopeFault;
 use crate::grouping::check_grouping;
-use crate::outputs::item_name;
+use crate::outputs::text_name;
 use crate::outside::name_outside;
 use gql_ast::{
     Clause, ColumnRef, Condition, Expr, Filler, MapItem, Refusal, Return, ReturnItem, ReturnItems,
+    node_of_pattern,
 };
 use gql_values3::{ColumnKind, Text};
 use std::alloc::Global;
 
 /// The fault of a column, by its name.
 pub fn fault_of(alloc: Global, name: &Text) -> ScopeFault
-    ensures { Refuses result (Some (Refusal.Column (ColumnRef.Name name.now))) }
+    ensures { Fails result (Some (Refusal.Column (ColumnRef.Name name.now))) }
 {
     match name.try_copy(alloc) {
         Ok(copy) => ScopeFault::Defect(Refusal::Column(ColumnRef::Name(copy))),
@@ -37,8 +38,8 @@ pub fn fault_of(alloc: Global, name: &Text) -> ScopeFault
 
 /// Checks that the property was not seen before, and notes it.
 #[tactic(auto, using(crate::proofs::SeenLemmas::seen))]
-fn note_property(alloc: Global, seen: &mut Scope, name: &Text) -> Result<(), ScopeFault>
-    ensures fresh { Answers result (refusal_of_first Refusal.Column (if is_among (seen_names seen.old) name.now then ColumnRef.Property name.now ∷ [] else [])) }
+fn note_property(alloc: Global, seen: &mut KnownColumns, name: &Text) -> Result<(), ScopeFault>
+    ensures fresh { Gives result (refusal_of_first Refusal.Column (if is_among (seen_names seen.old) name.now then ColumnRef.Property name.now ∷ [] else [])) }
     ensures noted { OnOk result (seen_names seen.new ≡ name.now ∷ seen_names seen.old) }
 {
     if seen.contains(name) {
@@ -51,8 +52,8 @@ fn note_property(alloc: Global, seen: &mut Scope, name: &Text) -> Result<(), Sco
 
 /// Checks that the column's name was not seen before, and notes it.
 #[tactic(auto, using(crate::proofs::SeenLemmas::seen))]
-pub fn note_name(alloc: Global, seen: &mut Scope, name: &Text) -> Result<(), ScopeFault>
-    ensures fresh { Answers result (refusal_of_first Refusal.Column (if is_among (seen_names seen.old) name.now then ColumnRef.Name name.now ∷ [] else [])) }
+pub fn note_name(alloc: Global, seen: &mut KnownColumns, name: &Text) -> Result<(), ScopeFault>
+    ensures fresh { Gives result (refusal_of_first Refusal.Column (if is_among (seen_names seen.old) name.now then ColumnRef.Name name.now ∷ [] else [])) }
     ensures noted { OnOk result (seen_names seen.new ≡ name.now ∷ seen_names seen.old) }
 {
     if seen.contains(name) {
@@ -65,9 +66,9 @@ pub fn note_name(alloc: Global, seen: &mut Scope, name: &Text) -> Result<(), Sco
 /// Checks that a map names no property twice.
 #[tactic(auto, using(crate::proofs::SeenLemmas::repeated_step))]
 pub fn check_map(alloc: Global, items: &[MapItem]) -> Result<(), ScopeFault>
-    ensures { Answers result (refusal_of_first Refusal.Column (map column.Property (repeated [] (map (λ i. i.name) items.now)))) }
+    ensures { Gives result (refusal_of_first Refusal.Column (map column.Property (repeated [] (map (λ i. i.name) items.now)))) }
 {
-    let mut seen = Scope::new(alloc);
+    let mut seen = KnownColumns::new(alloc);
     for item in items {
         note_property(alloc, &mut seen, &item.name)?;
     }
@@ -76,7 +77,7 @@ pub fn check_map(alloc: Global, items: &[MapItem]) -> Result<(), ScopeFault>
 
 /// Checks the map of a node.
 fn check_node(alloc: Global, node: Option<&Filler>) -> Result<(), ScopeFault>
-    ensures { Answers result (refusal_of_first Refusal.Column (faults_in_node (option_copied node.entry))) }
+    ensures { Gives result (refusal_of_first Refusal.Column (faults_in_node (option_copied node.entry))) }
 {
     match node {
         None => Ok(()),
@@ -85,7 +86,7 @@ fn check_node(alloc: Global, node: Option<&Filler>) -> Result<(), ScopeFault>
 }
 
 fn check_condition(alloc: Global, condition: &Option<Condition>) -> Result<(), ScopeFault>
-    ensures { Answers result (refusal_of_first Refusal.Column (faults_in_condition condition.now)) }
+    ensures { Gives result (refusal_of_first Refusal.Column (faults_in_condition condition.now)) }
 {
     match condition {
         Some(Condition::Map(items)) => check_map(alloc, items.as_slice()),
@@ -95,8 +96,8 @@ fn check_condition(alloc: Global, condition: &Option<Condition>) -> Result<(), S
 
 /// Checks that an item with an aggregate over rows names no column outside it.
 #[tactic(auto, using(crate::proofs::SeenLemmas::named))]
-fn check_outside(alloc: Global, scope: &Scope, expr: &Expr) -> Result<(), ScopeFault>
-    ensures { Answers result (refusal_of_first Refusal.Column (columns_outside scope.now (tree_of expr.now))) }
+fn check_outside(alloc: Global, scope: &KnownColumns, expr: &Expr) -> Result<(), ScopeFault>
+    ensures { Gives result (refusal_of_first Refusal.Column (columns_outside scope.now (tree_of expr.now))) }
 {
     if !has_aggregate(scope, expr) {
         return Ok(());
@@ -107,28 +108,60 @@ fn check_outside(alloc: Global, scope: &Scope, expr: &Expr) -> Result<(), ScopeF
     }
 }
 
-/// Checks an item of RETURN, and notes the name of its column.
+/// Checks an item of RETURN with AS, and notes the name of its column, which stands behind the expression.
 #[tactic(auto, using(crate::proofs::RefusalLemmas::first_of_in_two))]
+fn check_named(
+    alloc: Global,
+    scope: &KnownColumns,
+    seen: &mut KnownColumns,
+    expr: &Expr,
+    name: &Text,
+) -> Result<(), ScopeFault>
+    ensures faults { Gives result (refusal_of_first Refusal.Column (columns_outside scope.now (tree_of expr.now) ++ repeated_name scope.now (seen_names seen.old) name.now)) }
+    ensures noted { OnOk result (seen_names seen.new ≡ name.now ∷ seen_names seen.old) }
+{
+    check_outside(alloc, scope, expr)?;
+    note_name(alloc, seen, name)
+}
+
+/// Checks an item of RETURN without AS, and notes the name of its column, which begins where the expression does.
+#[tactic(auto, using(crate::proofs::RefusalLemmas::first_of_in_two))]
+fn check_unnamed(
+    alloc: Global,
+    scope: &KnownColumns,
+    seen: &mut KnownColumns,
+    expr: &Expr,
+) -> Result<(), ScopeFault>
+    ensures faults { Gives result (refusal_of_first Refusal.Column (repeated_name scope.now (seen_names seen.old) (text_name (tree_of expr.now)) ++ columns_outside scope.now (tree_of expr.now))) }
+    ensures noted { OnOk result (seen_names seen.new ≡ text_name (tree_of expr.now) ∷ seen_names seen.old) }
+{
+    let name = text_name(alloc, expr)?;
+    note_name(alloc, seen, &name)?;
+    check_outside(alloc, scope, expr)
+}
+
+/// Checks an item of RETURN, and notes the name of its column.
 fn check_item(
     alloc: Global,
-    scope: &Scope,
-    seen: &mut Scope,
+    scope: &KnownColumns,
+    seen: &mut KnownColumns,
     item: &ReturnItem,
 ) -> Result<(), ScopeFault>
-    ensures faults { Answers result (refusal_of_first Refusal.Column (columns_outside scope.now (tree_of item.now.value) ++ repeated_name scope.now (seen_names seen.old) (item_name item.now))) }
+    ensures faults { Gives result (refusal_of_first Refusal.Column (faults_in_item scope.now (seen_names seen.old) item.now)) }
     ensures noted { OnOk result (seen_names seen.new ≡ item_name item.now ∷ seen_names seen.old) }
 {
-    check_outside(alloc, scope, &item.value)?;
-    let name = item_name(alloc, item)?;
-    note_name(alloc, seen, &name)
+    match &item.name {
+        Some(name) => check_named(alloc, scope, seen, &item.value, name),
+        None => check_unnamed(alloc, scope, seen, &item.value),
+    }
 }
 
 /// Checks the items of RETURN in order.
 #[tactic(auto, using(crate::proofs::SeenLemmas::item_step))]
-fn check_listed(alloc: Global, scope: &Scope, items: &[ReturnItem]) -> Result<(), ScopeFault>
-    ensures { Answers result (refusal_of_first Refusal.Column (faults_in_list scope.now [] items.now)) }
+fn check_listed(alloc: Global, scope: &KnownColumns, items: &[ReturnItem]) -> Result<(), ScopeFault>
+    ensures { Gives result (refusal_of_first Refusal.Column (faults_in_list scope.now [] items.now)) }
 {
-    let mut seen = Scope::new(alloc);
+    let mut seen = KnownColumns::new(alloc);
     for item in items {
         check_item(alloc, scope, &mut seen, item)?;
     }
@@ -136,8 +169,8 @@ fn check_listed(alloc: Global, scope: &Scope, items: &[ReturnItem]) -> Result<()
 }
 
 /// Checks what RETURN gives.
-fn check_items(alloc: Global, scope: &Scope, items: &ReturnItems) -> Result<(), ScopeFault>
-    ensures { Answers result (refusal_of_first Refusal.Column (faults_in_items scope.now items.now)) }
+fn check_items(alloc: Global, scope: &KnownColumns, items: &ReturnItems) -> Result<(), ScopeFault>
+    ensures { Gives result (refusal_of_first Refusal.Column (faults_in_items scope.now items.now)) }
 {
     match items {
         ReturnItems::All => check_all(scope),
@@ -146,8 +179,8 @@ fn check_items(alloc: Global, scope: &Scope, items: &ReturnItems) -> Result<(), 
 }
 
 /// Checks that there are columns for `*`.
-fn check_all(scope: &Scope) -> Result<(), ScopeFault>
-    ensures { Answers result (refusal_of_first Refusal.Column (faults_in_items scope.now ReturnItems.All)) }
+fn check_all(scope: &KnownColumns) -> Result<(), ScopeFault>
+    ensures { Gives result (refusal_of_first Refusal.Column (faults_in_items scope.now ReturnItems.All)) }
 {
     match scope.columns() {
         [] => Err(ScopeFault::Defect(Refusal::Column(ColumnRef::All))),
@@ -157,19 +190,19 @@ fn check_all(scope: &Scope) -> Result<(), ScopeFault>
 
 /// Checks RETURN.
 #[tactic(auto, using(crate::proofs::RefusalLemmas::first_of_in_two))]
-fn check_return(alloc: Global, scope: &Scope, clause: &Return) -> Result<(), ScopeFault>
-    ensures { Answers result (refusal_of_first Refusal.Column (faults_in_return scope.now clause.now)) }
+fn check_return(alloc: Global, scope: &KnownColumns, clause: &Return) -> Result<(), ScopeFault>
+    ensures { Gives result (refusal_of_first Refusal.Column (faults_in_return scope.now clause.now)) }
 {
     check_items(alloc, scope, &clause.items)?;
     check_grouping(alloc, scope, clause)
 }
 
 /// Checks a clause.
-fn check_clause(alloc: Global, scope: &Scope, clause: &Clause) -> Result<(), ScopeFault>
-    ensures { Answers result (refusal_of_first Refusal.Column (faults_in_clause scope.now clause.now)) }
+fn check_clause(alloc: Global, scope: &KnownColumns, clause: &Clause) -> Result<(), ScopeFault>
+    ensures { Gives result (refusal_of_first Refusal.Column (faults_in_clause scope.now clause.now)) }
 {
     match clause {
-        Clause::Match(m) => check_node(alloc, node_of(&m.pattern)),
+        Clause::Match(m) => check_node(alloc, node_of_pattern(&m.pattern)),
         Clause::Change(change) => check_change(alloc, change),
         Clause::Return(clause) => check_return(alloc, scope, clause),
         _ => Ok(()),
@@ -177,8 +210,8 @@ fn check_clause(alloc: Global, scope: &Scope, clause: &Clause) -> Result<(), Sco
 }
 
 /// Checks a clause, and changes the columns to those behind it.
-fn pass_clause(alloc: Global, scope: &mut Scope, clause: &Clause) -> Result<(), ScopeFault>
-    ensures faults { Answers result (refusal_of_first Refusal.Column (faults_in_clause scope.old clause.now)) }
+fn pass_clause(alloc: Global, scope: &mut KnownColumns, clause: &Clause) -> Result<(), ScopeFault>
+    ensures faults { Gives result (refusal_of_first Refusal.Column (faults_in_clause scope.old clause.now)) }
     ensures columns { OnOk result (scope.new ≡ columns_behind scope.old clause.now) }
 {
     check_clause(alloc, scope, clause)?;
@@ -189,9 +222,9 @@ fn pass_clause(alloc: Global, scope: &mut Scope, clause: &Clause) -> Result<(), 
 /// Checks a query's clauses.
 #[tactic(auto, using(crate::proofs::RefusalLemmas::first_of_in_two))]
 pub fn column_faults(alloc: Global, clauses: &[Clause]) -> Result<(), ScopeFault>
-    ensures { Answers result (refusal_of_first Refusal.Column (faults_in_clauses [] clauses.now)) }
+    ensures { Gives result (refusal_of_first Refusal.Column (faults_in_clauses [] clauses.now)) }
 {
-    let mut scope = Scope::new(alloc);
+    let mut scope = KnownColumns::new(alloc);
     for clause in clauses {
         pass_clause(alloc, &mut scope, clause)?;
     }

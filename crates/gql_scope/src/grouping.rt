@@ -8,13 +8,13 @@ ghost use Rattle.gql_ast.specs.Projections.{is_key};
 ghost use Rattle.gql_scope.specs.StaticRefusals.{refusal_of_first};
 ghost use Rattle.gql_ast.specs.declared.refusal.ColumnRef.TheVariants as column;
 ghost use Rattle.gql_ast.specs.declared.refusal.Refusal.TheVariants as refusal;
-ghost use Rattle.gql_scope.specs.Answers.{Answers};
-ghost use Rattle.gql_scope.specs.Seen.{names_of, seen_names};
+ghost use Rattle.gql_scope.specs.Gives.{Gives};
+ghost use Rattle.gql_scope.specs.Machinery.Seen.{names_of, seen_names};
 
 use crate::aggregates::has_aggregate;
 use crate::behind::push_copy;
 use crate::column_faults::{fault_of, note_name};
-use crate::columns::Scope;
+use crate::columns::KnownColumns;
 use crate::fault::ScopeFault;
 use crate::outputs::{item_name, push_columns};
 use gql_ast::{Return, ReturnItem, ReturnItems};
@@ -25,8 +25,8 @@ use std::alloc::Global;
 #[tactic(auto, using(crate::proofs::SeenLemmas::seen))]
 fn push_key(
     alloc: Global,
-    scope: &Scope,
-    keys: &mut Scope,
+    scope: &KnownColumns,
+    keys: &mut KnownColumns,
     item: &ReturnItem,
 ) -> Result<(), OutOfMemory>
     ensures { OnOk result (names_of keys.new ≡ names_of keys.old ++ (if is_key scope.now (tree_of item.now.value) then item_name item.now ∷ [] else [])) }
@@ -41,8 +41,8 @@ fn push_key(
 #[tactic(auto, using(crate::proofs::SeenLemmas::key_step))]
 fn push_keys(
     alloc: Global,
-    scope: &Scope,
-    keys: &mut Scope,
+    scope: &KnownColumns,
+    keys: &mut KnownColumns,
     items: &[ReturnItem],
 ) -> Result<(), OutOfMemory>
     ensures { OnOk result (names_of keys.new ≡ names_of keys.old ++ map item_name (filter (λ i. is_key scope.now (tree_of i.value)) items.now)) }
@@ -54,10 +54,14 @@ fn push_keys(
 }
 
 /// The output names of the keys.
-fn key_scope(alloc: Global, scope: &Scope, items: &ReturnItems) -> Result<Scope, OutOfMemory>
+fn key_scope(
+    alloc: Global,
+    scope: &KnownColumns,
+    items: &ReturnItems,
+) -> Result<KnownColumns, OutOfMemory>
     ensures { IfOk result (λ keys. names_of keys ≡ key_names scope.now items.now) }
 {
-    let mut keys = Scope::new(alloc);
+    let mut keys = KnownColumns::new(alloc);
     match items {
         ReturnItems::All => push_columns(alloc, &mut keys, scope.columns())?,
         ReturnItems::Listed(items) => push_keys(alloc, scope, &mut keys, items.as_slice())?,
@@ -67,10 +71,10 @@ fn key_scope(alloc: Global, scope: &Scope, items: &ReturnItems) -> Result<Scope,
 
 /// Names in order.
 #[tactic(auto, using(crate::proofs::SeenLemmas::seen))]
-fn name_scope(alloc: Global, names: &[Text]) -> Result<Scope, OutOfMemory>
+fn name_scope(alloc: Global, names: &[Text]) -> Result<KnownColumns, OutOfMemory>
     ensures { IfOk result (λ named. names_of named ≡ names.now) }
 {
-    let mut named = Scope::new(alloc);
+    let mut named = KnownColumns::new(alloc);
     for name in names {
         push_copy(alloc, &mut named, name, ColumnKind::Plain)?;
     }
@@ -79,8 +83,13 @@ fn name_scope(alloc: Global, names: &[Text]) -> Result<Scope, OutOfMemory>
 
 /// Checks that a name of GROUP BY is a key that was not seen before, and notes it.
 #[tactic(auto, using(crate::proofs::SeenLemmas::seen))]
-fn check_name(alloc: Global, keys: &Scope, seen: &mut Scope, name: &Text) -> Result<(), ScopeFault>
-    ensures key { Answers result (refusal_of_first refusal.Column (if is_among (names_of keys.now) name.now && not (is_among (seen_names seen.old) name.now) then [] else column.Name name.now ∷ [])) }
+fn check_name(
+    alloc: Global,
+    keys: &KnownColumns,
+    seen: &mut KnownColumns,
+    name: &Text,
+) -> Result<(), ScopeFault>
+    ensures key { Gives result (refusal_of_first refusal.Column (if is_among (names_of keys.now) name.now && not (is_among (seen_names seen.old) name.now) then [] else column.Name name.now ∷ [])) }
     ensures noted { OnOk result (seen_names seen.new ≡ name.now ∷ seen_names seen.old) }
 {
     if !keys.contains(name) {
@@ -91,10 +100,15 @@ fn check_name(alloc: Global, keys: &Scope, seen: &mut Scope, name: &Text) -> Res
 
 /// Checks the names of GROUP BY in order.
 #[tactic(auto, using(crate::proofs::SeenLemmas::name_step))]
-fn check_names(alloc: Global, scope: &Scope, keys: &Scope, names: &[Text]) -> Result<(), ScopeFault>
-    ensures { Answers result (refusal_of_first refusal.Column (faults_in_names scope.now (names_of keys.now) [] names.now)) }
+fn check_names(
+    alloc: Global,
+    scope: &KnownColumns,
+    keys: &KnownColumns,
+    names: &[Text],
+) -> Result<(), ScopeFault>
+    ensures { Gives result (refusal_of_first refusal.Column (faults_in_names scope.now (names_of keys.now) [] names.now)) }
 {
-    let mut seen = Scope::new(alloc);
+    let mut seen = KnownColumns::new(alloc);
     for name in names {
         check_name(alloc, keys, &mut seen, name)?;
     }
@@ -103,8 +117,8 @@ fn check_names(alloc: Global, scope: &Scope, keys: &Scope, names: &[Text]) -> Re
 
 /// Checks that a key is named.
 #[tactic(auto, using(crate::proofs::SeenLemmas::seen))]
-fn check_key(alloc: Global, named: &Scope, key: &Text) -> Result<(), ScopeFault>
-    ensures { Answers result (refusal_of_first refusal.Column (if is_among (names_of named.now) key.now then [] else column.Name key.now ∷ [])) }
+fn check_key(alloc: Global, named: &KnownColumns, key: &Text) -> Result<(), ScopeFault>
+    ensures { Gives result (refusal_of_first refusal.Column (if is_among (names_of named.now) key.now then [] else column.Name key.now ∷ [])) }
 {
     if !named.contains(key) {
         return Err(fault_of(alloc, key));
@@ -116,11 +130,11 @@ fn check_key(alloc: Global, named: &Scope, key: &Text) -> Result<(), ScopeFault>
 #[tactic(auto, using(crate::proofs::SeenLemmas::omitted_step))]
 fn check_omitted(
     alloc: Global,
-    scope: &Scope,
+    scope: &KnownColumns,
     keys: &[(Text, ColumnKind)],
-    named: &Scope,
+    named: &KnownColumns,
 ) -> Result<(), ScopeFault>
-    ensures { Answers result (refusal_of_first refusal.Column (omitted scope.now (names_of keys.now) (names_of named.now))) }
+    ensures { Gives result (refusal_of_first refusal.Column (omitted scope.now (names_of keys.now) (names_of named.now))) }
 {
     for key in keys {
         check_key(alloc, named, &key.0)?;
@@ -130,8 +144,13 @@ fn check_omitted(
 
 /// Checks the names of GROUP BY against the keys.
 #[tactic(auto, using(crate::proofs::RefusalLemmas::first_of_in_two))]
-fn check_keys(alloc: Global, scope: &Scope, keys: &Scope, names: &[Text]) -> Result<(), ScopeFault>
-    ensures { Answers result (refusal_of_first refusal.Column (faults_in_names scope.now (names_of keys.now) [] names.now ++ omitted scope.now (names_of keys.now) names.now)) }
+fn check_keys(
+    alloc: Global,
+    scope: &KnownColumns,
+    keys: &KnownColumns,
+    names: &[Text],
+) -> Result<(), ScopeFault>
+    ensures { Gives result (refusal_of_first refusal.Column (faults_in_names scope.now (names_of keys.now) [] names.now ++ omitted scope.now (names_of keys.now) names.now)) }
 {
     check_names(alloc, scope, keys, names)?;
     let named = name_scope(alloc, names)?;
@@ -139,8 +158,12 @@ fn check_keys(alloc: Global, scope: &Scope, keys: &Scope, names: &[Text]) -> Res
 }
 
 /// Checks GROUP BY, where it stands.
-pub fn check_grouping(alloc: Global, scope: &Scope, clause: &Return) -> Result<(), ScopeFault>
-    ensures { Answers result (refusal_of_first refusal.Column (faults_in_grouping scope.now (key_names scope.now clause.now.items) clause.now.grouping)) }
+pub fn check_grouping(
+    alloc: Global,
+    scope: &KnownColumns,
+    clause: &Return,
+) -> Result<(), ScopeFault>
+    ensures { Gives result (refusal_of_first refusal.Column (faults_in_grouping scope.now (key_names scope.now clause.now.items) clause.now.grouping)) }
 {
     match &clause.grouping {
         None => Ok(()),

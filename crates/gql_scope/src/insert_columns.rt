@@ -5,7 +5,7 @@ ghost use Rattle.std.specs.List.{flat_map};
 ghost use Rattle.gql_ast.specs.InsertColumns.{step_spots, path_spots, insert_spots, with_variable, spot_columns, change_columns};
 
 use crate::behind::push_copy;
-use crate::columns::Scope;
+use crate::columns::KnownColumns;
 use gql_ast::{ChangeClause, InsertPath, InsertStep};
 use gql_values3::{ColumnKind, OutOfMemory, Text};
 use std::alloc::Global;
@@ -13,7 +13,7 @@ use std::alloc::Global;
 /// Adds the column of a variable, where that is no column yet.
 fn push_variable(
     alloc: Global,
-    scope: &mut Scope,
+    scope: &mut KnownColumns,
     kind: ColumnKind,
     variable: &Option<Text>,
 ) -> Result<(), OutOfMemory>
@@ -26,7 +26,7 @@ fn push_variable(
 }
 
 /// Adds the columns of an edge and of the node to which it leads.
-fn push_step(alloc: Global, scope: &mut Scope, step: &InsertStep) -> Result<(), OutOfMemory>
+fn push_step(alloc: Global, scope: &mut KnownColumns, step: &InsertStep) -> Result<(), OutOfMemory>
     ensures { OnOk result (scope.new ≡ spot_columns scope.old (step_spots step.now)) }
 {
     push_variable(alloc, scope, ColumnKind::Edge, &step.edge.variable)?;
@@ -35,7 +35,11 @@ fn push_step(alloc: Global, scope: &mut Scope, step: &InsertStep) -> Result<(), 
 
 /// Adds the columns of a path's steps.
 #[tactic(auto, using(crate::proofs::SpotLemmas::columns_of_two))]
-fn push_steps(alloc: Global, scope: &mut Scope, steps: &[InsertStep]) -> Result<(), OutOfMemory>
+fn push_steps(
+    alloc: Global,
+    scope: &mut KnownColumns,
+    steps: &[InsertStep],
+) -> Result<(), OutOfMemory>
     ensures { OnOk result (scope.new ≡ spot_columns scope.old (flat_map step_spots steps.now)) }
 {
     for step in steps {
@@ -45,7 +49,7 @@ fn push_steps(alloc: Global, scope: &mut Scope, steps: &[InsertStep]) -> Result<
 }
 
 /// Adds the columns of a path.
-fn push_path(alloc: Global, scope: &mut Scope, path: &InsertPath) -> Result<(), OutOfMemory>
+fn push_path(alloc: Global, scope: &mut KnownColumns, path: &InsertPath) -> Result<(), OutOfMemory>
     ensures { OnOk result (scope.new ≡ spot_columns scope.old (path_spots path.now)) }
 {
     push_variable(alloc, scope, ColumnKind::Node, &path.start.variable)?;
@@ -54,7 +58,11 @@ fn push_path(alloc: Global, scope: &mut Scope, path: &InsertPath) -> Result<(), 
 
 /// Adds the columns of INSERT.
 #[tactic(auto, using(crate::proofs::SpotLemmas::columns_of_two))]
-fn push_paths(alloc: Global, scope: &mut Scope, paths: &[InsertPath]) -> Result<(), OutOfMemory>
+fn push_paths(
+    alloc: Global,
+    scope: &mut KnownColumns,
+    paths: &[InsertPath],
+) -> Result<(), OutOfMemory>
     ensures { OnOk result (scope.new ≡ spot_columns scope.old (insert_spots paths.now)) }
 {
     for path in paths {
@@ -66,7 +74,7 @@ fn push_paths(alloc: Global, scope: &mut Scope, paths: &[InsertPath]) -> Result<
 /// Adds the columns of a clause that changes data: only INSERT gives any.
 pub fn push_change(
     alloc: Global,
-    scope: &mut Scope,
+    scope: &mut KnownColumns,
     change: &ChangeClause,
 ) -> Result<(), OutOfMemory>
     ensures { OnOk result (scope.new ≡ change_columns scope.old change.now) }

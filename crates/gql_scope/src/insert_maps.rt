@@ -3,11 +3,11 @@
 ghost use Rattle.std.specs.Prelude.{◌≡◌};
 ghost use Rattle.std.specs.List.{flat_map};
 ghost use Rattle.gql_ast.specs.InsertColumns.{step_spots, path_spots, insert_spots};
-ghost use Rattle.gql_scope.specs.Answers.{Answers};
-ghost use Rattle.gql_scope.specs.Questions.{map_refusal, first_in_maps};
+ghost use Rattle.gql_scope.specs.Gives.{Gives};
+ghost use Rattle.gql_scope.specs.Machinery.Questions.{map_refusal, first_in_maps};
 
 use crate::column_faults::check_map as check_repeated;
-use crate::columns::Scope;
+use crate::columns::KnownColumns;
 use crate::fault::ScopeFault;
 use crate::misused_clauses::check_map as check_misuse;
 use crate::unset_parameters::check_map as check_parameters;
@@ -19,16 +19,16 @@ use std::alloc::Global;
 #[derive(Drop)]
 pub enum MapQuestion<'a> {
     /// Whether something is misused in its values, under these columns.
-    Misuse(&'a Scope),
+    Misuse(&'a KnownColumns),
     /// Whether it names a property twice.
     Repeated,
     /// Whether a parameter of its values isn't set.
     Parameter(&'a Params),
 }
 
-/// Answers the question about a map's items.
+/// Gives the question about a map's items.
 fn ask(alloc: Global, question: &MapQuestion, items: &[MapItem]) -> Result<(), ScopeFault>
-    ensures { Answers result (map_refusal question.now (Some items.now)) }
+    ensures { Gives result (map_refusal question.now (Some items.now)) }
 {
     match question {
         MapQuestion::Misuse(scope) => check_misuse(scope, items),
@@ -39,7 +39,7 @@ fn ask(alloc: Global, question: &MapQuestion, items: &[MapItem]) -> Result<(), S
 
 /// Checks a map that may be there.
 fn check_map(alloc: Global, question: &MapQuestion, map: &Option<Map>) -> Result<(), ScopeFault>
-    ensures { Answers result (map_refusal question.now map.now) }
+    ensures { Gives result (map_refusal question.now map.now) }
 {
     match map {
         None => Ok(()),
@@ -49,7 +49,7 @@ fn check_map(alloc: Global, question: &MapQuestion, map: &Option<Map>) -> Result
 
 /// Checks the map of an edge, and then that of the node to which it leads.
 fn check_step(alloc: Global, question: &MapQuestion, step: &InsertStep) -> Result<(), ScopeFault>
-    ensures { Answers result (first_in_maps question.now (step_spots step.now)) }
+    ensures { Gives result (first_in_maps question.now (step_spots step.now)) }
 {
     check_map(alloc, question, &step.edge.map)?;
     check_map(alloc, question, &step.node.map)
@@ -61,7 +61,7 @@ fn check_steps(
     question: &MapQuestion,
     steps: &[InsertStep],
 ) -> Result<(), ScopeFault>
-    ensures { Answers result (first_in_maps question.now (flat_map step_spots steps.now)) }
+    ensures { Gives result (first_in_maps question.now (flat_map step_spots steps.now)) }
 {
     for step in steps {
         check_step(alloc, question, step)?;
@@ -71,7 +71,7 @@ fn check_steps(
 
 /// Checks the maps of a path.
 fn check_path(alloc: Global, question: &MapQuestion, path: &InsertPath) -> Result<(), ScopeFault>
-    ensures { Answers result (first_in_maps question.now (path_spots path.now)) }
+    ensures { Gives result (first_in_maps question.now (path_spots path.now)) }
 {
     check_map(alloc, question, &path.start.map)?;
     check_steps(alloc, question, path.steps.as_slice())
@@ -83,7 +83,7 @@ pub fn check_maps(
     question: &MapQuestion,
     paths: &[InsertPath],
 ) -> Result<(), ScopeFault>
-    ensures { Answers result (first_in_maps question.now (insert_spots paths.now)) }
+    ensures { Gives result (first_in_maps question.now (insert_spots paths.now)) }
 {
     for path in paths {
         check_path(alloc, question, path)?;

@@ -3,12 +3,12 @@
 ghost use Rattle.std.specs.Prelude.{◌≡◌, ◌++◌, OnOk};
 ghost use Rattle.std.specs.List.{flat_map};
 ghost use Rattle.gql_ast.specs.InsertColumns.{step_spots, path_spots, insert_spots, with_variable, spot_columns};
-ghost use Rattle.gql_scope.specs.Answers.{Answers};
-ghost use Rattle.gql_scope.specs.Questions.{spot_refusal, first_in_spots};
+ghost use Rattle.gql_scope.specs.Gives.{Gives};
+ghost use Rattle.gql_scope.specs.Machinery.Questions.{spot_refusal, first_in_spots};
 
 use crate::change_kinds::check_endpoint;
 use crate::change_names::check_fill;
-use crate::columns::Scope;
+use crate::columns::KnownColumns;
 use crate::fault::ScopeFault;
 use crate::standing::push_fresh;
 use gql_ast::{Fill, InsertPath, InsertStep};
@@ -24,16 +24,16 @@ pub enum SpotQuestion {
     Kinds,
 }
 
-/// Answers the question at a node or an edge.
+/// Gives the question at a node or an edge.
 fn ask(
     alloc: Global,
     question: SpotQuestion,
-    incoming: &Scope,
-    fresh: &Scope,
+    incoming: &KnownColumns,
+    fresh: &KnownColumns,
     kind: ColumnKind,
     fill: &Fill,
 ) -> Result<(), ScopeFault>
-    ensures { Answers result (spot_refusal question incoming.now (incoming.now ++ fresh.now) kind fill.now) }
+    ensures { Gives result (spot_refusal question incoming.now (incoming.now ++ fresh.now) kind fill.now) }
 {
     match question {
         SpotQuestion::Names => check_fill(alloc, incoming, fresh, kind, fill),
@@ -45,12 +45,12 @@ fn ask(
 fn check_spot(
     alloc: Global,
     question: SpotQuestion,
-    incoming: &Scope,
-    fresh: &mut Scope,
+    incoming: &KnownColumns,
+    fresh: &mut KnownColumns,
     kind: ColumnKind,
     fill: &Fill,
 ) -> Result<(), ScopeFault>
-    ensures spot { Answers result (spot_refusal question incoming.now (incoming.now ++ fresh.old) kind fill.now) }
+    ensures spot { Gives result (spot_refusal question incoming.now (incoming.now ++ fresh.old) kind fill.now) }
     ensures columns { OnOk result (incoming.now ++ fresh.new ≡ with_variable (incoming.now ++ fresh.old) kind fill.now.variable) }
 {
     ask(alloc, question, incoming, fresh, kind, fill)?;
@@ -62,11 +62,11 @@ fn check_spot(
 fn check_step(
     alloc: Global,
     question: SpotQuestion,
-    incoming: &Scope,
-    fresh: &mut Scope,
+    incoming: &KnownColumns,
+    fresh: &mut KnownColumns,
     step: &InsertStep,
 ) -> Result<(), ScopeFault>
-    ensures spots { Answers result (first_in_spots question incoming.now (incoming.now ++ fresh.old) (step_spots step.now)) }
+    ensures spots { Gives result (first_in_spots question incoming.now (incoming.now ++ fresh.old) (step_spots step.now)) }
     ensures columns { OnOk result (incoming.now ++ fresh.new ≡ spot_columns (incoming.now ++ fresh.old) (step_spots step.now)) }
 {
     check_spot(
@@ -91,11 +91,11 @@ fn check_step(
 fn check_steps(
     alloc: Global,
     question: SpotQuestion,
-    incoming: &Scope,
-    fresh: &mut Scope,
+    incoming: &KnownColumns,
+    fresh: &mut KnownColumns,
     steps: &[InsertStep],
 ) -> Result<(), ScopeFault>
-    ensures spots { Answers result (first_in_spots question incoming.now (incoming.now ++ fresh.old) (flat_map step_spots steps.now)) }
+    ensures spots { Gives result (first_in_spots question incoming.now (incoming.now ++ fresh.old) (flat_map step_spots steps.now)) }
     ensures columns { OnOk result (incoming.now ++ fresh.new ≡ spot_columns (incoming.now ++ fresh.old) (flat_map step_spots steps.now)) }
 {
     for step in steps {
@@ -108,11 +108,11 @@ fn check_steps(
 fn check_path(
     alloc: Global,
     question: SpotQuestion,
-    incoming: &Scope,
-    fresh: &mut Scope,
+    incoming: &KnownColumns,
+    fresh: &mut KnownColumns,
     path: &InsertPath,
 ) -> Result<(), ScopeFault>
-    ensures spots { Answers result (first_in_spots question incoming.now (incoming.now ++ fresh.old) (path_spots path.now)) }
+    ensures spots { Gives result (first_in_spots question incoming.now (incoming.now ++ fresh.old) (path_spots path.now)) }
     ensures columns { OnOk result (incoming.now ++ fresh.new ≡ spot_columns (incoming.now ++ fresh.old) (path_spots path.now)) }
 {
     check_spot(
@@ -130,11 +130,11 @@ fn check_path(
 fn check_paths(
     alloc: Global,
     question: SpotQuestion,
-    incoming: &Scope,
-    fresh: &mut Scope,
+    incoming: &KnownColumns,
+    fresh: &mut KnownColumns,
     paths: &[InsertPath],
 ) -> Result<(), ScopeFault>
-    ensures { Answers result (first_in_spots question incoming.now (incoming.now ++ fresh.old) (insert_spots paths.now)) }
+    ensures { Gives result (first_in_spots question incoming.now (incoming.now ++ fresh.old) (insert_spots paths.now)) }
 {
     for path in paths {
         check_path(alloc, question, incoming, fresh, path)?;
@@ -147,11 +147,11 @@ fn check_paths(
 pub fn check_spots(
     alloc: Global,
     question: SpotQuestion,
-    incoming: &Scope,
+    incoming: &KnownColumns,
     paths: &[InsertPath],
 ) -> Result<(), ScopeFault>
-    ensures { Answers result (first_in_spots question incoming.now incoming.now (insert_spots paths.now)) }
+    ensures { Gives result (first_in_spots question incoming.now incoming.now (insert_spots paths.now)) }
 {
-    let mut fresh = Scope::new(alloc);
+    let mut fresh = KnownColumns::new(alloc);
     check_paths(alloc, question, incoming, &mut fresh, paths)
 }

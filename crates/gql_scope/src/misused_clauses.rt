@@ -10,25 +10,25 @@ ghost use Rattle.gql_scope.specs.Misuses.{misused_expr, misused_if, misused_cond
 ghost use Rattle.gql_ast.specs.Outputs.{kind_of};
 ghost use Rattle.gql_ast.specs.Projections.{columns_behind, sort_columns, output_columns};
 ghost use Rattle.gql_scope.specs.StaticRefusals.{misuse_if};
-ghost use Rattle.gql_scope.specs.Answers.{Answers};
-ghost use Rattle.gql_scope.specs.Places.{place_of, columns_at};
+ghost use Rattle.gql_scope.specs.Gives.{Gives};
+ghost use Rattle.gql_scope.specs.Machinery.Places.{place_of, columns_at};
 
-use crate::behind::{keep_outputs, node_of, push_for, push_let_item, push_node};
+use crate::behind::{keep_outputs, push_for, push_let_item, push_node};
 use crate::change_misuses::check_change;
-use crate::columns::Scope;
+use crate::columns::KnownColumns;
 use crate::fault::ScopeFault;
 use crate::insert_columns::push_change;
 use crate::misuses::{Place, is_misused};
 use crate::outputs::sort_scope;
 use gql_ast::{
     ChangeClause, Clause, Condition, Expr, Filler, For, GraphPattern, LetItem, MapItem, Page,
-    Refusal, Return, ReturnItem, ReturnItems, SortItem,
+    Refusal, Return, ReturnItem, ReturnItems, SortItem, node_of_pattern,
 };
 use std::alloc::Global;
 
 /// Checks an expression at its place.
-fn check_at(scope: &Scope, place: &Place, expr: &Expr) -> Result<(), ScopeFault>
-    ensures { Answers result (misuse_if (misused_expr (columns_at scope.now place.now) (place_of place.now) expr.now)) }
+fn check_at(scope: &KnownColumns, place: &Place, expr: &Expr) -> Result<(), ScopeFault>
+    ensures { Gives result (misuse_if (misused_expr (columns_at scope.now place.now) (place_of place.now) expr.now)) }
 {
     if is_misused(scope, place, expr) {
         return Err(ScopeFault::Defect(Refusal::Misuse));
@@ -37,15 +37,15 @@ fn check_at(scope: &Scope, place: &Place, expr: &Expr) -> Result<(), ScopeFault>
 }
 
 /// Checks an expression outside the items of RETURN.
-pub fn check_expr(scope: &Scope, expr: &Expr) -> Result<(), ScopeFault>
-    ensures { Answers result (misuse_if (misused_expr scope.now elsewhere expr.now)) }
+pub fn check_expr(scope: &KnownColumns, expr: &Expr) -> Result<(), ScopeFault>
+    ensures { Gives result (misuse_if (misused_expr scope.now elsewhere expr.now)) }
 {
     check_at(scope, &Place::Elsewhere, expr)
 }
 
 /// Checks an expression that may be there.
-fn check_if(scope: &Scope, expr: &Option<Expr>) -> Result<(), ScopeFault>
-    ensures { Answers result (misuse_if (misused_if scope.now expr.now)) }
+fn check_if(scope: &KnownColumns, expr: &Option<Expr>) -> Result<(), ScopeFault>
+    ensures { Gives result (misuse_if (misused_if scope.now expr.now)) }
 {
     match expr {
         None => Ok(()),
@@ -55,8 +55,8 @@ fn check_if(scope: &Scope, expr: &Option<Expr>) -> Result<(), ScopeFault>
 
 /// Checks a map's values.
 #[tactic(auto, using(crate::proofs::RefusalLemmas::misuse_in_two))]
-pub fn check_map(scope: &Scope, items: &[MapItem]) -> Result<(), ScopeFault>
-    ensures { Answers result (misuse_if (list_any (λ i. misused_expr scope.now elsewhere i.value) items.now)) }
+pub fn check_map(scope: &KnownColumns, items: &[MapItem]) -> Result<(), ScopeFault>
+    ensures { Gives result (misuse_if (list_any (λ i. misused_expr scope.now elsewhere i.value) items.now)) }
 {
     for item in items {
         check_expr(scope, &item.value)?;
@@ -65,8 +65,8 @@ pub fn check_map(scope: &Scope, items: &[MapItem]) -> Result<(), ScopeFault>
 }
 
 /// Checks a node's conditions.
-fn check_condition(scope: &Scope, condition: &Option<Condition>) -> Result<(), ScopeFault>
-    ensures { Answers result (misuse_if (misused_condition scope.now condition.now)) }
+fn check_condition(scope: &KnownColumns, condition: &Option<Condition>) -> Result<(), ScopeFault>
+    ensures { Gives result (misuse_if (misused_condition scope.now condition.now)) }
 {
     match condition {
         None => Ok(()),
@@ -76,8 +76,12 @@ fn check_condition(scope: &Scope, condition: &Option<Condition>) -> Result<(), S
 }
 
 /// Checks a node, and adds its variable.
-fn check_node(alloc: Global, scope: &mut Scope, node: Option<&Filler>) -> Result<(), ScopeFault>
-    ensures misuses { Answers result (misuse_if (misused_node scope.old (option_copied node.entry))) }
+fn check_node(
+    alloc: Global,
+    scope: &mut KnownColumns,
+    node: Option<&Filler>,
+) -> Result<(), ScopeFault>
+    ensures misuses { Gives result (misuse_if (misused_node scope.old (option_copied node.entry))) }
     ensures columns { OnOk result (scope.new ≡ with_filler scope.old (option_copied node.entry)) }
 {
     match node {
@@ -91,17 +95,21 @@ fn check_node(alloc: Global, scope: &mut Scope, node: Option<&Filler>) -> Result
 
 /// Checks a pattern, and adds its variables.
 #[tactic(auto, using(crate::proofs::RefusalLemmas::misuse_in_two))]
-fn check_pattern(alloc: Global, scope: &mut Scope, pattern: &GraphPattern) -> Result<(), ScopeFault>
-    ensures misuses { Answers result (misuse_if (misused_pattern scope.old pattern.now)) }
+fn check_pattern(
+    alloc: Global,
+    scope: &mut KnownColumns,
+    pattern: &GraphPattern,
+) -> Result<(), ScopeFault>
+    ensures misuses { Gives result (misuse_if (misused_pattern scope.old pattern.now)) }
     ensures columns { OnOk result (scope.new ≡ match_columns scope.old pattern.now) }
 {
-    check_node(alloc, scope, node_of(pattern))?;
+    check_node(alloc, scope, node_of_pattern(pattern))?;
     check_if(scope, &pattern.condition)
 }
 
 /// Checks an item of LET, and adds its column.
-fn check_let_item(alloc: Global, scope: &mut Scope, item: &LetItem) -> Result<(), ScopeFault>
-    ensures misuses { Answers result (misuse_if (misused_expr scope.old elsewhere item.now.value)) }
+fn check_let_item(alloc: Global, scope: &mut KnownColumns, item: &LetItem) -> Result<(), ScopeFault>
+    ensures misuses { Gives result (misuse_if (misused_expr scope.old elsewhere item.now.value)) }
     ensures columns { OnOk result (scope.new ≡ scope.old ++ (item.now.name, kind_of scope.old (tree_of item.now.value)) ∷ []) }
 {
     check_expr(scope, &item.value)?;
@@ -111,8 +119,8 @@ fn check_let_item(alloc: Global, scope: &mut Scope, item: &LetItem) -> Result<()
 
 /// Checks the items of LET in order, each under the columns of those before, and adds their columns.
 #[tactic(auto, using(crate::proofs::LetLemmas::let_items))]
-fn check_let(alloc: Global, scope: &mut Scope, items: &[LetItem]) -> Result<(), ScopeFault>
-    ensures misuses { Answers result (misuse_if (misused_let scope.old items.now)) }
+fn check_let(alloc: Global, scope: &mut KnownColumns, items: &[LetItem]) -> Result<(), ScopeFault>
+    ensures misuses { Gives result (misuse_if (misused_let scope.old items.now)) }
     ensures columns { OnOk result (scope.new ≡ let_columns scope.old items.now) }
 {
     for item in items {
@@ -122,8 +130,8 @@ fn check_let(alloc: Global, scope: &mut Scope, items: &[LetItem]) -> Result<(), 
 }
 
 /// Checks the list of FOR, and adds its columns.
-fn check_for(alloc: Global, scope: &mut Scope, clause: &For) -> Result<(), ScopeFault>
-    ensures misuses { Answers result (misuse_if (misused_expr scope.old elsewhere clause.now.list)) }
+fn check_for(alloc: Global, scope: &mut KnownColumns, clause: &For) -> Result<(), ScopeFault>
+    ensures misuses { Gives result (misuse_if (misused_expr scope.old elsewhere clause.now.list)) }
     ensures columns { OnOk result (scope.new ≡ for_columns scope.old clause.now) }
 {
     check_expr(scope, &clause.list)?;
@@ -133,8 +141,8 @@ fn check_for(alloc: Global, scope: &mut Scope, clause: &For) -> Result<(), Scope
 
 /// Checks sort keys.
 #[tactic(auto, using(crate::proofs::RefusalLemmas::misuse_in_two))]
-fn check_keys(scope: &Scope, keys: &[SortItem]) -> Result<(), ScopeFault>
-    ensures { Answers result (misuse_if (misused_keys scope.now keys.now)) }
+fn check_keys(scope: &KnownColumns, keys: &[SortItem]) -> Result<(), ScopeFault>
+    ensures { Gives result (misuse_if (misused_keys scope.now keys.now)) }
 {
     for item in keys {
         check_expr(scope, &item.key)?;
@@ -143,8 +151,8 @@ fn check_keys(scope: &Scope, keys: &[SortItem]) -> Result<(), ScopeFault>
 }
 
 /// Checks a page clause.
-fn check_page(scope: &Scope, page: &Page) -> Result<(), ScopeFault>
-    ensures { Answers result (misuse_if (misused_page scope.now page.now)) }
+fn check_page(scope: &KnownColumns, page: &Page) -> Result<(), ScopeFault>
+    ensures { Gives result (misuse_if (misused_page scope.now page.now)) }
 {
     match page {
         Page::Order(keys, _, _) => check_keys(scope, keys.as_slice()),
@@ -154,8 +162,8 @@ fn check_page(scope: &Scope, page: &Page) -> Result<(), ScopeFault>
 
 /// Checks the items of RETURN.
 #[tactic(auto, using(crate::proofs::RefusalLemmas::misuse_in_two))]
-fn check_listed(scope: &Scope, items: &[ReturnItem]) -> Result<(), ScopeFault>
-    ensures { Answers result (misuse_if (list_any (λ i. misused_expr scope.now item i.value) items.now)) }
+fn check_listed(scope: &KnownColumns, items: &[ReturnItem]) -> Result<(), ScopeFault>
+    ensures { Gives result (misuse_if (list_any (λ i. misused_expr scope.now item i.value) items.now)) }
 {
     for item in items {
         check_at(scope, &Place::Item, &item.value)?;
@@ -163,8 +171,8 @@ fn check_listed(scope: &Scope, items: &[ReturnItem]) -> Result<(), ScopeFault>
     Ok(())
 }
 
-fn check_items(scope: &Scope, items: &ReturnItems) -> Result<(), ScopeFault>
-    ensures { Answers result (misuse_if (misused_items scope.now items.now)) }
+fn check_items(scope: &KnownColumns, items: &ReturnItems) -> Result<(), ScopeFault>
+    ensures { Gives result (misuse_if (misused_items scope.now items.now)) }
 {
     match items {
         ReturnItems::All => Ok(()),
@@ -173,8 +181,8 @@ fn check_items(scope: &Scope, items: &ReturnItems) -> Result<(), ScopeFault>
 }
 
 /// Checks the sort keys of RETURN.
-fn check_order(alloc: Global, scope: &Scope, clause: &Return) -> Result<(), ScopeFault>
-    ensures { Answers result (misuse_if (misused_order (sort_columns scope.now clause.now) clause.now.order)) }
+fn check_order(alloc: Global, scope: &KnownColumns, clause: &Return) -> Result<(), ScopeFault>
+    ensures { Gives result (misuse_if (misused_order (sort_columns scope.now clause.now) clause.now.order)) }
 {
     match &clause.order {
         None => Ok(()),
@@ -187,8 +195,8 @@ fn check_order(alloc: Global, scope: &Scope, clause: &Return) -> Result<(), Scop
 
 /// Checks RETURN, and keeps its columns alone.
 #[tactic(auto, using(crate::proofs::RefusalLemmas::misuse_in_two))]
-fn check_return(alloc: Global, scope: &mut Scope, clause: &Return) -> Result<(), ScopeFault>
-    ensures misuses { Answers result (misuse_if (misused_items scope.old clause.now.items || misused_order (sort_columns scope.old clause.now) clause.now.order)) }
+fn check_return(alloc: Global, scope: &mut KnownColumns, clause: &Return) -> Result<(), ScopeFault>
+    ensures misuses { Gives result (misuse_if (misused_items scope.old clause.now.items || misused_order (sort_columns scope.old clause.now) clause.now.order)) }
     ensures columns { OnOk result (scope.new ≡ output_columns scope.old clause.now.items) }
 {
     check_items(scope, &clause.items)?;
@@ -198,8 +206,12 @@ fn check_return(alloc: Global, scope: &mut Scope, clause: &Return) -> Result<(),
 }
 
 /// Checks a clause that changes data, and adds its columns.
-fn pass_change(alloc: Global, scope: &mut Scope, change: &ChangeClause) -> Result<(), ScopeFault>
-    ensures misuses { Answers result (misuse_if (misused_change scope.old change.now)) }
+fn pass_change(
+    alloc: Global,
+    scope: &mut KnownColumns,
+    change: &ChangeClause,
+) -> Result<(), ScopeFault>
+    ensures misuses { Gives result (misuse_if (misused_change scope.old change.now)) }
     ensures columns { OnOk result (scope.new ≡ change_columns scope.old change.now) }
 {
     check_change(alloc, scope, change)?;
@@ -208,8 +220,8 @@ fn pass_change(alloc: Global, scope: &mut Scope, change: &ChangeClause) -> Resul
 }
 
 /// Checks a clause, and changes the columns to those behind it.
-fn check_clause(alloc: Global, scope: &mut Scope, clause: &Clause) -> Result<(), ScopeFault>
-    ensures misuses { Answers result (misuse_if (misused_clause scope.old clause.now)) }
+fn check_clause(alloc: Global, scope: &mut KnownColumns, clause: &Clause) -> Result<(), ScopeFault>
+    ensures misuses { Gives result (misuse_if (misused_clause scope.old clause.now)) }
     ensures columns { OnOk result (scope.new ≡ columns_behind scope.old clause.now) }
 {
     match clause {
@@ -226,9 +238,9 @@ fn check_clause(alloc: Global, scope: &mut Scope, clause: &Clause) -> Result<(),
 /// Checks a query's clauses.
 #[tactic(auto, using(crate::proofs::RefusalLemmas::misuse_in_two))]
 pub fn misused_clauses(alloc: Global, clauses: &[Clause]) -> Result<(), ScopeFault>
-    ensures { Answers result (misuse_if (misused_clauses [] clauses.now)) }
+    ensures { Gives result (misuse_if (misused_clauses [] clauses.now)) }
 {
-    let mut scope = Scope::new(alloc);
+    let mut scope = KnownColumns::new(alloc);
     for clause in clauses {
         check_clause(alloc, &mut scope, clause)?;
     }

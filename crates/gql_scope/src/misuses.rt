@@ -6,9 +6,9 @@ ghost use Rattle.gql_ast.specs.Meaning.{tree_of, link_of};
 ghost use Rattle.gql_scope.specs.Misuses.{misused, misused_any, misused_side, is_group_column, is_bare_group, bars_rows};
 ghost use Rattle.gql_ast.specs.Scope.{names_in};
 ghost use Rattle.gql_values3.specs.Texts.{same_text};
-ghost use Rattle.gql_scope.specs.Places.{place_of, columns_at, argument_misused, aggregate_misused};
+ghost use Rattle.gql_scope.specs.Machinery.Places.{place_of, columns_at, argument_misused, aggregate_misused};
 
-use crate::columns::Scope;
+use crate::columns::KnownColumns;
 use crate::names::{Sought, first_name, is_group_column};
 use gql_ast::{Expr, Step};
 use gql_values3::Text;
@@ -26,14 +26,14 @@ pub enum Place<'a> {
 
 /// Whether something in the expression is misused.
 #[cycle(misuses)]
-#[tactic(auto, unfolding(gql_ast::specs::Misuses::misused))]
-pub fn is_misused(scope: &Scope, place: &Place, expr: &Expr) -> bool
+#[tactic(auto, unfolding(crate::specs::Misuses::misused))]
+pub fn is_misused(scope: &KnownColumns, place: &Place, expr: &Expr) -> bool
     ensures { result ≡ misused (columns_at scope.now place.now) (place_of place.now) (tree_of expr.now) }
 {
     match expr {
         Expr::Constant(_) | Expr::Unknown | Expr::Number(_) | Expr::Parameter(_) => false,
         Expr::Name(_) => false,
-        Expr::Property(name, _) => is_group_at(scope, place, name),
+        Expr::Property(name, _) => is_group_column_at(scope, place, name),
         Expr::CountAll => bars_rows(place),
         Expr::Aggregate(_, _, part) => aggregate_is_misused(scope, place, part.expr()),
         Expr::Paren(part) | Expr::Call(_, part) | Expr::Signed(_, part) | Expr::Not(part) => {
@@ -44,7 +44,7 @@ pub fn is_misused(scope: &Scope, place: &Place, expr: &Expr) -> bool
         }
         Expr::IsEnd(part, _, _, edge) => {
             is_bare_group(scope, place, part.expr())
-                || is_group_at(scope, place, edge)
+                || is_group_column_at(scope, place, edge)
                 || is_misused(scope, place, part.expr())
         }
         Expr::List(parts) => any_is_misused(scope, place, parts.as_slice()),
@@ -72,7 +72,7 @@ fn bars_rows(place: &Place) -> bool
 }
 
 /// Whether the name stands for a group there.
-fn is_group_at(scope: &Scope, place: &Place, name: &Text) -> bool
+fn is_group_column_at(scope: &KnownColumns, place: &Place, name: &Text) -> bool
     ensures { result ≡ is_group_column (columns_at scope.now place.now) name.now }
 {
     match place {
@@ -82,11 +82,11 @@ fn is_group_at(scope: &Scope, place: &Place, name: &Text) -> bool
 }
 
 /// Whether the expression is a group by its name alone, also in parentheses.
-fn is_bare_group(scope: &Scope, place: &Place, expr: &Expr) -> bool
+fn is_bare_group(scope: &KnownColumns, place: &Place, expr: &Expr) -> bool
     ensures { result ≡ is_bare_group (columns_at scope.now place.now) (tree_of expr.now) }
 {
     match expr {
-        Expr::Name(name) => is_group_at(scope, place, name),
+        Expr::Name(name) => is_group_column_at(scope, place, name),
         Expr::Paren(part) => is_bare_group(scope, place, part.expr()),
         _ => false,
     }
@@ -94,8 +94,8 @@ fn is_bare_group(scope: &Scope, place: &Place, expr: &Expr) -> bool
 
 /// Whether an aggregate of the argument is misused.
 #[cycle(misuses)]
-#[tactic(auto, unfolding(gql_ast::specs::Misuses::misused))]
-fn aggregate_is_misused(scope: &Scope, place: &Place, argument: &Expr) -> bool
+#[tactic(auto, unfolding(crate::specs::Misuses::misused))]
+fn aggregate_is_misused(scope: &KnownColumns, place: &Place, argument: &Expr) -> bool
     ensures { result ≡ aggregate_misused (columns_at scope.now place.now) (place_of place.now) (tree_of argument.now) }
 {
     match place {
@@ -106,7 +106,7 @@ fn aggregate_is_misused(scope: &Scope, place: &Place, argument: &Expr) -> bool
 
 /// Whether an aggregate of the argument, outside other aggregates, is misused.
 #[cycle(misuses)]
-fn argument_is_misused(scope: &Scope, bars_rows: bool, argument: &Expr) -> bool
+fn argument_is_misused(scope: &KnownColumns, bars_rows: bool, argument: &Expr) -> bool
     ensures { result ≡ argument_misused scope.now bars_rows (tree_of argument.now) }
 {
     match first_name(scope, &Sought::Group, argument) {
@@ -119,7 +119,7 @@ fn argument_is_misused(scope: &Scope, bars_rows: bool, argument: &Expr) -> bool
 }
 
 /// Whether the expression names a group other than this one.
-fn names_other_group(scope: &Scope, group: &Text, expr: &Expr) -> bool
+fn names_other_group(scope: &KnownColumns, group: &Text, expr: &Expr) -> bool
     ensures { result ≡ is_some (find (λ x. is_group_column scope.now x && not (same_text group.now x)) (names_in (tree_of expr.now))) }
 {
     match first_name(scope, &Sought::OtherGroup(group), expr) {
@@ -129,8 +129,8 @@ fn names_other_group(scope: &Scope, group: &Text, expr: &Expr) -> bool
 }
 
 #[cycle(misuses)]
-#[tactic(auto, unfolding(gql_ast::specs::Misuses::misused))]
-fn any_is_misused(scope: &Scope, place: &Place, parts: &[Expr]) -> bool
+#[tactic(auto, unfolding(crate::specs::Misuses::misused))]
+fn any_is_misused(scope: &KnownColumns, place: &Place, parts: &[Expr]) -> bool
     ensures { result ≡ misused_any (columns_at scope.now place.now) (place_of place.now) (trees_of (map tree_of parts.now)) }
 {
     for i in 0..parts.len() {
@@ -143,8 +143,8 @@ fn any_is_misused(scope: &Scope, place: &Place, parts: &[Expr]) -> bool
 }
 
 #[cycle(misuses)]
-#[tactic(auto, unfolding(gql_ast::specs::Misuses::misused))]
-fn side_is_misused(scope: &Scope, place: &Place, steps: &[Step]) -> bool
+#[tactic(auto, unfolding(crate::specs::Misuses::misused))]
+fn side_is_misused(scope: &KnownColumns, place: &Place, steps: &[Step]) -> bool
     ensures { result ≡ misused_side (columns_at scope.now place.now) (place_of place.now) (links_of (map link_of steps.now)) }
 {
     for i in 0..steps.len() {

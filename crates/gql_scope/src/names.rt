@@ -6,9 +6,9 @@ ghost use Rattle.gql_ast.specs.Tree.{trees_of, links_of};
 ghost use Rattle.gql_ast.specs.Meaning.{tree_of, link_of};
 ghost use Rattle.gql_scope.specs.Misuses.{is_group_column};
 ghost use Rattle.gql_ast.specs.Scope.{names_in, names_in_trees, names_in_links};
-ghost use Rattle.gql_scope.specs.Sought.{is_sought};
+ghost use Rattle.gql_scope.specs.Machinery.Sought.{is_sought};
 
-use crate::columns::Scope;
+use crate::columns::KnownColumns;
 use gql_ast::{Expr, Step};
 use gql_values3::{ColumnKind, Text};
 
@@ -28,7 +28,7 @@ pub enum Sought<'a> {
 /// The first name of the expression that is of the sort.
 #[cycle(names)]
 #[tactic(auto, using(crate::proofs::PartLemmas::found_in_two))]
-pub fn first_name<'e>(scope: &Scope, sought: &Sought, expr: &'e Expr) -> Option<&'e Text>
+pub fn first_name<'e>(scope: &KnownColumns, sought: &Sought, expr: &'e Expr) -> Option<&'e Text>
     ensures { option_copied result ≡ find (is_sought scope.now sought.now) (names_in (tree_of expr.now)) }
 {
     match expr {
@@ -65,7 +65,7 @@ pub fn first_name<'e>(scope: &Scope, sought: &Sought, expr: &'e Expr) -> Option<
     }
 }
 
-fn if_sought<'e>(scope: &Scope, sought: &Sought, name: &'e Text) -> Option<&'e Text>
+fn if_sought<'e>(scope: &KnownColumns, sought: &Sought, name: &'e Text) -> Option<&'e Text>
     ensures { option_copied result ≡ find (is_sought scope.now sought.now) (name.now ∷ []) }
 {
     if is_sought(scope, sought, name) {
@@ -76,26 +76,27 @@ fn if_sought<'e>(scope: &Scope, sought: &Sought, name: &'e Text) -> Option<&'e T
 }
 
 /// Whether the name is of the sort.
-fn is_sought(scope: &Scope, sought: &Sought, name: &Text) -> bool
+fn is_sought(scope: &KnownColumns, sought: &Sought, name: &Text) -> bool
     ensures { result ≡ is_sought scope.now sought.now name.now }
 {
     match sought {
         Sought::Any => true,
         Sought::Unknown => !scope.contains(name),
         Sought::Group => is_group_column(scope, name),
-        Sought::OtherGroup(group) => is_group_column(scope, name) && group.as_str() != name.as_str(),
+        Sought::OtherGroup(group) => is_group_column(scope, name)
+            && group.as_str() != name.as_str(),
     }
 }
 
 /// Whether the name is a column of lists of elements.
-pub fn is_group_column(scope: &Scope, name: &Text) -> bool
+pub fn is_group_column(scope: &KnownColumns, name: &Text) -> bool
     ensures { result ≡ is_group_column scope.now name.now }
 {
     matches!(scope.kind(name), ColumnKind::Nodes | ColumnKind::Edges)
 }
 
 #[cycle(names)]
-fn first_of_parts<'e>(scope: &Scope, sought: &Sought, parts: &'e [Expr]) -> Option<&'e Text>
+fn first_of_parts<'e>(scope: &KnownColumns, sought: &Sought, parts: &'e [Expr]) -> Option<&'e Text>
     ensures { option_copied result ≡ find (is_sought scope.now sought.now) (names_in_trees (trees_of (map tree_of parts.now))) }
 {
     for i in 0..parts.len() {
@@ -108,7 +109,7 @@ fn first_of_parts<'e>(scope: &Scope, sought: &Sought, parts: &'e [Expr]) -> Opti
 }
 
 #[cycle(names)]
-fn first_of_steps<'e>(scope: &Scope, sought: &Sought, steps: &'e [Step]) -> Option<&'e Text>
+fn first_of_steps<'e>(scope: &KnownColumns, sought: &Sought, steps: &'e [Step]) -> Option<&'e Text>
     ensures { option_copied result ≡ find (is_sought scope.now sought.now) (names_in_links (links_of (map link_of steps.now))) }
 {
     for i in 0..steps.len() {

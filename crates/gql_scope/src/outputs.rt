@@ -8,9 +8,8 @@ ghost use Rattle.gql_ast.specs.Projections.{output_columns, output_trees, is_key
 
 use crate::aggregates::has_aggregate;
 use crate::behind::{kind_of, push_copy};
-use crate::columns::Scope;
-use gql_ast::expr_text;
-use gql_ast::{Expr, Return, ReturnItem, ReturnItems, SetQuantifier};
+use crate::columns::KnownColumns;
+use gql_ast::{Expr, Return, ReturnItem, ReturnItems, SetQuantifier, expr_text};
 use gql_values3::{ColumnKind, OutOfMemory, Text};
 use std::alloc::Global;
 
@@ -25,7 +24,7 @@ pub fn item_name(alloc: Global, item: &ReturnItem) -> Result<Text, OutOfMemory>
 }
 
 /// The name of a value that is given none.
-fn text_name(alloc: Global, expr: &Expr) -> Result<Text, OutOfMemory>
+pub fn text_name(alloc: Global, expr: &Expr) -> Result<Text, OutOfMemory>
     ensures { IfOk result (λ name. name ≡ text_name (tree_of expr.now)) }
 {
     match expr {
@@ -37,8 +36,8 @@ fn text_name(alloc: Global, expr: &Expr) -> Result<Text, OutOfMemory>
 /// Adds the column of an item of RETURN, whose value sees the incoming columns.
 pub fn push_item(
     alloc: Global,
-    outputs: &mut Scope,
-    scope: &Scope,
+    outputs: &mut KnownColumns,
+    scope: &KnownColumns,
     item: &ReturnItem,
 ) -> Result<(), OutOfMemory>
     ensures { OnOk result (outputs.new ≡ outputs.old ++ item_column scope.now item.now ∷ []) }
@@ -49,8 +48,8 @@ pub fn push_item(
 /// Adds the columns of a list of items.
 fn push_items(
     alloc: Global,
-    outputs: &mut Scope,
-    scope: &Scope,
+    outputs: &mut KnownColumns,
+    scope: &KnownColumns,
     items: &[ReturnItem],
 ) -> Result<(), OutOfMemory>
     ensures { OnOk result (outputs.new ≡ outputs.old ++ map (item_column scope.now) items.now) }
@@ -64,7 +63,7 @@ fn push_items(
 /// Adds copies of columns.
 pub fn push_columns(
     alloc: Global,
-    outputs: &mut Scope,
+    outputs: &mut KnownColumns,
     columns: &[(Text, ColumnKind)],
 ) -> Result<(), OutOfMemory>
     ensures { OnOk result (outputs.new ≡ outputs.old ++ columns.now) }
@@ -76,10 +75,14 @@ pub fn push_columns(
 }
 
 /// The columns that RETURN gives.
-pub fn output_scope(alloc: Global, scope: &Scope, items: &ReturnItems) -> Result<Scope, OutOfMemory>
+pub fn output_scope(
+    alloc: Global,
+    scope: &KnownColumns,
+    items: &ReturnItems,
+) -> Result<KnownColumns, OutOfMemory>
     ensures { IfOk result (λ outputs. outputs ≡ output_columns scope.now items.now) }
 {
-    let mut outputs = Scope::new(alloc);
+    let mut outputs = KnownColumns::new(alloc);
     match items {
         ReturnItems::All => push_columns(alloc, &mut outputs, scope.columns())?,
         ReturnItems::Listed(items) => push_items(alloc, &mut outputs, scope, items.as_slice())?,
@@ -88,7 +91,7 @@ pub fn output_scope(alloc: Global, scope: &Scope, items: &ReturnItems) -> Result
 }
 
 /// Whether an item has an aggregate over rows.
-fn any_aggregates(scope: &Scope, items: &ReturnItems) -> bool
+fn any_aggregates(scope: &KnownColumns, items: &ReturnItems) -> bool
     ensures { result ≡ list_any (λ e. not (is_key scope.now e)) (output_trees scope.now items.now) }
 {
     match items {
@@ -97,7 +100,7 @@ fn any_aggregates(scope: &Scope, items: &ReturnItems) -> bool
     }
 }
 
-fn any_listed(scope: &Scope, items: &[ReturnItem]) -> bool
+fn any_listed(scope: &KnownColumns, items: &[ReturnItem]) -> bool
     ensures { result ≡ list_any (λ e. not (is_key scope.now e)) (map (λ i. tree_of i.value) items.now) }
 {
     for item in items {
@@ -109,14 +112,18 @@ fn any_listed(scope: &Scope, items: &[ReturnItem]) -> bool
 }
 
 /// Whether RETURN is grouped.
-pub fn is_grouped(scope: &Scope, clause: &Return) -> bool
+pub fn is_grouped(scope: &KnownColumns, clause: &Return) -> bool
     ensures { result ≡ is_grouped scope.now clause.now }
 {
     clause.grouping.is_some() || any_aggregates(scope, &clause.items)
 }
 
 /// The columns that sort keys of RETURN see.
-pub fn sort_scope(alloc: Global, scope: &Scope, clause: &Return) -> Result<Scope, OutOfMemory>
+pub fn sort_scope(
+    alloc: Global,
+    scope: &KnownColumns,
+    clause: &Return,
+) -> Result<KnownColumns, OutOfMemory>
     ensures { IfOk result (λ keys. keys ≡ sort_columns scope.now clause.now) }
 {
     let mut keys = output_scope(alloc, scope, &clause.items)?;

@@ -7,10 +7,10 @@ ghost use Rattle.gql_ast.specs.Meaning.{tree_of, link_of};
 ghost use Rattle.gql_scope.specs.ColumnFaults.{names_outside, names_outside_each, names_outside_sides};
 ghost use Rattle.gql_ast.specs.RowAggregates.{is_over_group};
 ghost use Rattle.gql_ast.specs.Scope.{names_in};
-ghost use Rattle.gql_scope.specs.First.{first};
+ghost use Rattle.gql_scope.specs.Machinery.First.{first};
 
 use crate::aggregates::is_over_group;
-use crate::columns::Scope;
+use crate::columns::KnownColumns;
 use crate::names::{Sought, first_name};
 use gql_ast::{Expr, Step};
 use gql_values3::Text;
@@ -18,7 +18,7 @@ use gql_values3::Text;
 /// The first name outside the aggregates over rows.
 #[cycle(outside)]
 #[tactic(auto, using(crate::proofs::FirstLemmas::first_in_two))]
-pub fn name_outside<'e>(scope: &Scope, expr: &'e Expr) -> Option<&'e Text>
+pub fn name_outside<'e>(scope: &KnownColumns, expr: &'e Expr) -> Option<&'e Text>
     ensures { option_copied result ≡ first (names_outside scope.now (tree_of expr.now)) }
 {
     match expr {
@@ -54,7 +54,7 @@ pub fn name_outside<'e>(scope: &Scope, expr: &'e Expr) -> Option<&'e Text>
 }
 
 /// The first name of an aggregate's argument where that is over a group.
-fn name_over_group<'e>(scope: &Scope, argument: &'e Expr) -> Option<&'e Text>
+fn name_over_group<'e>(scope: &KnownColumns, argument: &'e Expr) -> Option<&'e Text>
     ensures { option_copied result ≡ first (if is_over_group scope.now (tree_of argument.now) then names_in (tree_of argument.now) else []) }
 {
     if is_over_group(scope, argument) {
@@ -65,7 +65,7 @@ fn name_over_group<'e>(scope: &Scope, argument: &'e Expr) -> Option<&'e Text>
 }
 
 #[cycle(outside)]
-fn outside_parts<'e>(scope: &Scope, parts: &'e [Expr]) -> Option<&'e Text>
+fn outside_parts<'e>(scope: &KnownColumns, parts: &'e [Expr]) -> Option<&'e Text>
     ensures { option_copied result ≡ first (names_outside_each scope.now (trees_of (map tree_of parts.now))) }
 {
     for i in 0..parts.len() {
@@ -78,7 +78,7 @@ fn outside_parts<'e>(scope: &Scope, parts: &'e [Expr]) -> Option<&'e Text>
 }
 
 #[cycle(outside)]
-fn outside_steps<'e>(scope: &Scope, steps: &'e [Step]) -> Option<&'e Text>
+fn outside_steps<'e>(scope: &KnownColumns, steps: &'e [Step]) -> Option<&'e Text>
     ensures { option_copied result ≡ first (names_outside_sides scope.now (links_of (map link_of steps.now))) }
 {
     for i in 0..steps.len() {

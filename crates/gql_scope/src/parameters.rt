@@ -5,7 +5,7 @@ ghost use Rattle.std.specs.Option.{option_copied};
 ghost use Rattle.gql_ast.specs.Tree.{trees_of, links_of};
 ghost use Rattle.gql_ast.specs.Meaning.{tree_of, link_of};
 ghost use Rattle.gql_scope.specs.UnsetParameters.{parameters_in, parameters_in_each, parameters_in_sides, unset, is_set};
-ghost use Rattle.gql_scope.specs.First.{first};
+ghost use Rattle.gql_scope.specs.Machinery.First.{first};
 
 use gql_ast::{Expr, Step};
 use gql_values3::{Params, Text};

@@ -7,13 +7,13 @@ ghost use Rattle.gql_ast.specs.InsertColumns.{with_variable};
 ghost use Rattle.gql_ast.specs.Outputs.{kind_of_name};
 
 use crate::behind::push_copy;
-use crate::columns::Scope;
+use crate::columns::KnownColumns;
 use gql_values3::{ColumnKind, OutOfMemory, Text};
 use std::alloc::Global;
 
 /// Whether the variable stands already.
 #[tactic(auto, using(crate::proofs::SpotLemmas::two_scopes))]
-pub fn stands(incoming: &Scope, fresh: &Scope, name: &Text) -> bool
+pub fn stands(incoming: &KnownColumns, fresh: &KnownColumns, name: &Text) -> bool
     ensures { result ≡ is_column (incoming.now ++ fresh.now) name.now }
 {
     incoming.contains(name) || fresh.contains(name)
@@ -21,7 +21,7 @@ pub fn stands(incoming: &Scope, fresh: &Scope, name: &Text) -> bool
 
 /// What a variable that stands already holds; any other is plain.
 #[tactic(auto, using(crate::proofs::SpotLemmas::two_scopes))]
-pub fn standing_kind(incoming: &Scope, fresh: &Scope, name: &Text) -> ColumnKind
+pub fn standing_kind(incoming: &KnownColumns, fresh: &KnownColumns, name: &Text) -> ColumnKind
     ensures { result ≡ kind_of_name (incoming.now ++ fresh.now) name.now }
 {
     if incoming.contains(name) {
@@ -35,8 +35,8 @@ pub fn standing_kind(incoming: &Scope, fresh: &Scope, name: &Text) -> ColumnKind
 #[tactic(auto, using(crate::proofs::SpotLemmas::appended))]
 pub fn push_fresh(
     alloc: Global,
-    incoming: &Scope,
-    fresh: &mut Scope,
+    incoming: &KnownColumns,
+    fresh: &mut KnownColumns,
     kind: ColumnKind,
     variable: &Option<Text>,
 ) -> Result<(), OutOfMemory>

@@ -10,26 +10,26 @@ ghost use Rattle.gql_ast.specs.InsertColumns.{change_columns};
 ghost use Rattle.gql_ast.specs.Projections.{columns_behind, sort_columns, output_columns};
 ghost use Rattle.gql_scope.specs.StaticRefusals.{refusal_of_first};
 ghost use Rattle.gql_scope.specs.UnknownNames.{unknown_in_expr, unknown_if, taken, unknown_in_condition, unknown_in_node, unknown_in_pattern, unknown_in_let, unknown_in_counter, unknown_in_for, unknown_in_keys, unknown_in_order, unknown_in_page, unknown_in_items, unknown_in_return, unknown_in_change, unknown_in_clause, unknown_in_clauses};
-ghost use Rattle.gql_scope.specs.Answers.{Answers};
+ghost use Rattle.gql_scope.specs.Gives.{Gives};
 
-use crate::behind::{keep_outputs, node_of, push_counter, push_for_item, push_let_item, push_node};
+use crate::behind::{keep_outputs, push_counter, push_for_item, push_let_item, push_node};
 use crate::change_names::check_change;
-use crate::columns::Scope;
+use crate::columns::KnownColumns;
 use crate::fault::ScopeFault;
 use crate::insert_columns::push_change;
 use crate::names::{Sought, first_name};
 use crate::outputs::sort_scope;
 use gql_ast::{
     ChangeClause, Clause, Condition, Counting, Expr, Filler, For, GraphPattern, LetItem, MapItem,
-    Page, Refusal, Return, ReturnItem, ReturnItems, SortItem,
+    Page, Refusal, Return, ReturnItem, ReturnItems, SortItem, node_of_pattern,
 };
 use gql_values3::Text;
 use std::alloc::Global;
 
 /// Checks the names of an expression.
 #[tactic(auto, using(crate::proofs::RefusalLemmas::known))]
-pub fn check_names(alloc: Global, scope: &Scope, expr: &Expr) -> Result<(), ScopeFault>
-    ensures { Answers result (refusal_of_first Refusal.Variable (unknown_in_expr scope.now expr.now)) }
+pub fn check_names(alloc: Global, scope: &KnownColumns, expr: &Expr) -> Result<(), ScopeFault>
+    ensures { Gives result (refusal_of_first Refusal.Variable (unknown_in_expr scope.now expr.now)) }
 {
     match first_name(scope, &Sought::Unknown, expr) {
         None => Ok(()),
@@ -38,8 +38,8 @@ pub fn check_names(alloc: Global, scope: &Scope, expr: &Expr) -> Result<(), Scop
 }
 
 /// Checks that a declared name is no column.
-fn check_free(alloc: Global, scope: &Scope, name: &Text) -> Result<(), ScopeFault>
-    ensures { Answers result (refusal_of_first Refusal.Variable (taken scope.now name.now)) }
+fn check_free(alloc: Global, scope: &KnownColumns, name: &Text) -> Result<(), ScopeFault>
+    ensures { Gives result (refusal_of_first Refusal.Variable (taken scope.now name.now)) }
 {
     if !scope.contains(name) {
         return Ok(());
@@ -48,8 +48,8 @@ fn check_free(alloc: Global, scope: &Scope, name: &Text) -> Result<(), ScopeFaul
 }
 
 /// Checks the names of an expression that may be there.
-fn check_if(alloc: Global, scope: &Scope, expr: &Option<Expr>) -> Result<(), ScopeFault>
-    ensures { Answers result (refusal_of_first Refusal.Variable (unknown_if scope.now expr.now)) }
+fn check_if(alloc: Global, scope: &KnownColumns, expr: &Option<Expr>) -> Result<(), ScopeFault>
+    ensures { Gives result (refusal_of_first Refusal.Variable (unknown_if scope.now expr.now)) }
 {
     match expr {
         None => Ok(()),
@@ -58,8 +58,8 @@ fn check_if(alloc: Global, scope: &Scope, expr: &Option<Expr>) -> Result<(), Sco
 }
 
 /// Checks the names of a map's values.
-pub fn check_map(alloc: Global, scope: &Scope, items: &[MapItem]) -> Result<(), ScopeFault>
-    ensures { Answers result (refusal_of_first Refusal.Variable (flat_map (λ i. unknown_in_expr scope.now i.value) items.now)) }
+pub fn check_map(alloc: Global, scope: &KnownColumns, items: &[MapItem]) -> Result<(), ScopeFault>
+    ensures { Gives result (refusal_of_first Refusal.Variable (flat_map (λ i. unknown_in_expr scope.now i.value) items.now)) }
 {
     for item in items {
         check_names(alloc, scope, &item.value)?;
@@ -70,10 +70,10 @@ pub fn check_map(alloc: Global, scope: &Scope, items: &[MapItem]) -> Result<(), 
 /// Checks the names of a node's conditions.
 fn check_condition(
     alloc: Global,
-    scope: &Scope,
+    scope: &KnownColumns,
     condition: &Option<Condition>,
 ) -> Result<(), ScopeFault>
-    ensures { Answers result (refusal_of_first Refusal.Variable (unknown_in_condition scope.now condition.now)) }
+    ensures { Gives result (refusal_of_first Refusal.Variable (unknown_in_condition scope.now condition.now)) }
 {
     match condition {
         None => Ok(()),
@@ -83,8 +83,12 @@ fn check_condition(
 }
 
 /// Checks the names of a node, and adds its variable.
-fn check_node(alloc: Global, scope: &mut Scope, node: Option<&Filler>) -> Result<(), ScopeFault>
-    ensures names { Answers result (refusal_of_first Refusal.Variable (unknown_in_node scope.old (option_copied node.entry))) }
+fn check_node(
+    alloc: Global,
+    scope: &mut KnownColumns,
+    node: Option<&Filler>,
+) -> Result<(), ScopeFault>
+    ensures names { Gives result (refusal_of_first Refusal.Variable (unknown_in_node scope.old (option_copied node.entry))) }
     ensures columns { OnOk result (scope.new ≡ with_filler scope.old (option_copied node.entry)) }
 {
     match node {
@@ -98,18 +102,22 @@ fn check_node(alloc: Global, scope: &mut Scope, node: Option<&Filler>) -> Result
 
 /// Checks the names of a pattern, and adds its variables.
 #[tactic(auto, using(crate::proofs::RefusalLemmas::first_of_in_two))]
-fn check_pattern(alloc: Global, scope: &mut Scope, pattern: &GraphPattern) -> Result<(), ScopeFault>
-    ensures names { Answers result (refusal_of_first Refusal.Variable (unknown_in_pattern scope.old pattern.now)) }
+fn check_pattern(
+    alloc: Global,
+    scope: &mut KnownColumns,
+    pattern: &GraphPattern,
+) -> Result<(), ScopeFault>
+    ensures names { Gives result (refusal_of_first Refusal.Variable (unknown_in_pattern scope.old pattern.now)) }
     ensures columns { OnOk result (scope.new ≡ match_columns scope.old pattern.now) }
 {
-    check_node(alloc, scope, node_of(pattern))?;
+    check_node(alloc, scope, node_of_pattern(pattern))?;
     check_if(alloc, scope, &pattern.condition)
 }
 
 /// Checks an item of LET, and adds its column.
 #[tactic(auto, using(crate::proofs::RefusalLemmas::first_of_in_two))]
-fn check_let_item(alloc: Global, scope: &mut Scope, item: &LetItem) -> Result<(), ScopeFault>
-    ensures names { Answers result (refusal_of_first Refusal.Variable (taken scope.old item.now.name ++ unknown_in_expr scope.old item.now.value)) }
+fn check_let_item(alloc: Global, scope: &mut KnownColumns, item: &LetItem) -> Result<(), ScopeFault>
+    ensures names { Gives result (refusal_of_first Refusal.Variable (taken scope.old item.now.name ++ unknown_in_expr scope.old item.now.value)) }
     ensures columns { OnOk result (scope.new ≡ scope.old ++ (item.now.name, kind_of scope.old (tree_of item.now.value)) ∷ []) }
 {
     check_free(alloc, scope, &item.name)?;
@@ -120,8 +128,8 @@ fn check_let_item(alloc: Global, scope: &mut Scope, item: &LetItem) -> Result<()
 
 /// Checks the items of LET in order, each under the columns of those before, and adds their columns.
 #[tactic(auto, using(crate::proofs::LetLemmas::let_items))]
-fn check_let(alloc: Global, scope: &mut Scope, items: &[LetItem]) -> Result<(), ScopeFault>
-    ensures names { Answers result (refusal_of_first Refusal.Variable (unknown_in_let scope.old items.now)) }
+fn check_let(alloc: Global, scope: &mut KnownColumns, items: &[LetItem]) -> Result<(), ScopeFault>
+    ensures names { Gives result (refusal_of_first Refusal.Variable (unknown_in_let scope.old items.now)) }
     ensures columns { OnOk result (scope.new ≡ let_columns scope.old items.now) }
 {
     for item in items {
@@ -133,10 +141,10 @@ fn check_let(alloc: Global, scope: &mut Scope, items: &[LetItem]) -> Result<(), 
 /// Checks the name of FOR's counter, and adds its column.
 fn check_counter(
     alloc: Global,
-    scope: &mut Scope,
+    scope: &mut KnownColumns,
     counter: &Option<(Counting, Text)>,
 ) -> Result<(), ScopeFault>
-    ensures names { Answers result (refusal_of_first Refusal.Variable (unknown_in_counter scope.old counter.now)) }
+    ensures names { Gives result (refusal_of_first Refusal.Variable (unknown_in_counter scope.old counter.now)) }
     ensures columns { OnOk result (scope.new ≡ scope.old ++ counter_column counter.now) }
 {
     if let Some((_, name)) = counter {
@@ -148,8 +156,8 @@ fn check_counter(
 
 /// Checks the name of FOR's item and its list, and adds the item's column.
 #[tactic(auto, using(crate::proofs::RefusalLemmas::first_of_in_two))]
-fn check_for_item(alloc: Global, scope: &mut Scope, clause: &For) -> Result<(), ScopeFault>
-    ensures names { Answers result (refusal_of_first Refusal.Variable (taken scope.old clause.now.name ++ unknown_in_expr scope.old clause.now.list)) }
+fn check_for_item(alloc: Global, scope: &mut KnownColumns, clause: &For) -> Result<(), ScopeFault>
+    ensures names { Gives result (refusal_of_first Refusal.Variable (taken scope.old clause.now.name ++ unknown_in_expr scope.old clause.now.list)) }
     ensures columns { OnOk result (scope.new ≡ scope.old ++ (clause.now.name, element_kind (kind_of scope.old (tree_of clause.now.list))) ∷ []) }
 {
     check_free(alloc, scope, &clause.name)?;
@@ -160,8 +168,8 @@ fn check_for_item(alloc: Global, scope: &mut Scope, clause: &For) -> Result<(), 
 
 /// Checks FOR, and adds its columns.
 #[tactic(auto, using(crate::proofs::RefusalLemmas::first_of_in_two))]
-fn check_for(alloc: Global, scope: &mut Scope, clause: &For) -> Result<(), ScopeFault>
-    ensures names { Answers result (refusal_of_first Refusal.Variable (unknown_in_for scope.old clause.now)) }
+fn check_for(alloc: Global, scope: &mut KnownColumns, clause: &For) -> Result<(), ScopeFault>
+    ensures names { Gives result (refusal_of_first Refusal.Variable (unknown_in_for scope.old clause.now)) }
     ensures columns { OnOk result (scope.new ≡ for_columns scope.old clause.now) }
 {
     check_for_item(alloc, scope, clause)?;
@@ -170,8 +178,8 @@ fn check_for(alloc: Global, scope: &mut Scope, clause: &For) -> Result<(), Scope
 
 /// Checks the names of sort keys.
 #[tactic(auto, using(crate::proofs::RefusalLemmas::first_of_in_two))]
-fn check_keys(alloc: Global, scope: &Scope, keys: &[SortItem]) -> Result<(), ScopeFault>
-    ensures { Answers result (refusal_of_first Refusal.Variable (unknown_in_keys scope.now keys.now)) }
+fn check_keys(alloc: Global, scope: &KnownColumns, keys: &[SortItem]) -> Result<(), ScopeFault>
+    ensures { Gives result (refusal_of_first Refusal.Variable (unknown_in_keys scope.now keys.now)) }
 {
     for item in keys {
         check_names(alloc, scope, &item.key)?;
@@ -180,8 +188,8 @@ fn check_keys(alloc: Global, scope: &Scope, keys: &[SortItem]) -> Result<(), Sco
 }
 
 /// Checks the names of a page clause.
-fn check_page(alloc: Global, scope: &Scope, page: &Page) -> Result<(), ScopeFault>
-    ensures { Answers result (refusal_of_first Refusal.Variable (unknown_in_page scope.now page.now)) }
+fn check_page(alloc: Global, scope: &KnownColumns, page: &Page) -> Result<(), ScopeFault>
+    ensures { Gives result (refusal_of_first Refusal.Variable (unknown_in_page scope.now page.now)) }
 {
     match page {
         Page::Order(keys, _, _) => check_keys(alloc, scope, keys.as_slice()),
@@ -191,8 +199,8 @@ fn check_page(alloc: Global, scope: &Scope, page: &Page) -> Result<(), ScopeFaul
 
 /// Checks the names of RETURN's items.
 #[tactic(auto, using(crate::proofs::RefusalLemmas::first_of_in_two))]
-fn check_listed(alloc: Global, scope: &Scope, items: &[ReturnItem]) -> Result<(), ScopeFault>
-    ensures { Answers result (refusal_of_first Refusal.Variable (flat_map (λ i. unknown_in_expr scope.now i.value) items.now)) }
+fn check_listed(alloc: Global, scope: &KnownColumns, items: &[ReturnItem]) -> Result<(), ScopeFault>
+    ensures { Gives result (refusal_of_first Refusal.Variable (flat_map (λ i. unknown_in_expr scope.now i.value) items.now)) }
 {
     for item in items {
         check_names(alloc, scope, &item.value)?;
@@ -200,8 +208,8 @@ fn check_listed(alloc: Global, scope: &Scope, items: &[ReturnItem]) -> Result<()
     Ok(())
 }
 
-fn check_items(alloc: Global, scope: &Scope, items: &ReturnItems) -> Result<(), ScopeFault>
-    ensures { Answers result (refusal_of_first Refusal.Variable (unknown_in_items scope.now items.now)) }
+fn check_items(alloc: Global, scope: &KnownColumns, items: &ReturnItems) -> Result<(), ScopeFault>
+    ensures { Gives result (refusal_of_first Refusal.Variable (unknown_in_items scope.now items.now)) }
 {
     match items {
         ReturnItems::All => Ok(()),
@@ -210,8 +218,8 @@ fn check_items(alloc: Global, scope: &Scope, items: &ReturnItems) -> Result<(), 
 }
 
 /// Checks the names of RETURN's sort keys.
-fn check_order(alloc: Global, scope: &Scope, clause: &Return) -> Result<(), ScopeFault>
-    ensures { Answers result (refusal_of_first Refusal.Variable (unknown_in_order (sort_columns scope.now clause.now) clause.now.order)) }
+fn check_order(alloc: Global, scope: &KnownColumns, clause: &Return) -> Result<(), ScopeFault>
+    ensures { Gives result (refusal_of_first Refusal.Variable (unknown_in_order (sort_columns scope.now clause.now) clause.now.order)) }
 {
     match &clause.order {
         None => Ok(()),
@@ -224,8 +232,8 @@ fn check_order(alloc: Global, scope: &Scope, clause: &Return) -> Result<(), Scop
 
 /// Checks the names of RETURN, and keeps its columns alone.
 #[tactic(auto, using(crate::proofs::RefusalLemmas::first_of_in_two))]
-fn check_return(alloc: Global, scope: &mut Scope, clause: &Return) -> Result<(), ScopeFault>
-    ensures names { Answers result (refusal_of_first Refusal.Variable (unknown_in_return scope.old clause.now)) }
+fn check_return(alloc: Global, scope: &mut KnownColumns, clause: &Return) -> Result<(), ScopeFault>
+    ensures names { Gives result (refusal_of_first Refusal.Variable (unknown_in_return scope.old clause.now)) }
     ensures columns { OnOk result (scope.new ≡ output_columns scope.old clause.now.items) }
 {
     check_items(alloc, scope, &clause.items)?;
@@ -235,8 +243,12 @@ fn check_return(alloc: Global, scope: &mut Scope, clause: &Return) -> Result<(),
 }
 
 /// Checks the names of a clause that changes data, and adds its columns.
-fn pass_change(alloc: Global, scope: &mut Scope, change: &ChangeClause) -> Result<(), ScopeFault>
-    ensures names { Answers result (refusal_of_first Refusal.Variable (unknown_in_change scope.old change.now)) }
+fn pass_change(
+    alloc: Global,
+    scope: &mut KnownColumns,
+    change: &ChangeClause,
+) -> Result<(), ScopeFault>
+    ensures names { Gives result (refusal_of_first Refusal.Variable (unknown_in_change scope.old change.now)) }
     ensures columns { OnOk result (scope.new ≡ change_columns scope.old change.now) }
 {
     check_change(alloc, scope, change)?;
@@ -245,8 +257,8 @@ fn pass_change(alloc: Global, scope: &mut Scope, change: &ChangeClause) -> Resul
 }
 
 /// Checks the names of a clause, and changes the columns to those behind it.
-fn check_clause(alloc: Global, scope: &mut Scope, clause: &Clause) -> Result<(), ScopeFault>
-    ensures names { Answers result (refusal_of_first Refusal.Variable (unknown_in_clause scope.old clause.now)) }
+fn check_clause(alloc: Global, scope: &mut KnownColumns, clause: &Clause) -> Result<(), ScopeFault>
+    ensures names { Gives result (refusal_of_first Refusal.Variable (unknown_in_clause scope.old clause.now)) }
     ensures columns { OnOk result (scope.new ≡ columns_behind scope.old clause.now) }
 {
     match clause {
@@ -263,9 +275,9 @@ fn check_clause(alloc: Global, scope: &mut Scope, clause: &Clause) -> Result<(),
 /// Checks the names of a query's clauses.
 #[tactic(auto, using(crate::proofs::RefusalLemmas::first_of_in_two))]
 pub fn unknown_names(alloc: Global, clauses: &[Clause]) -> Result<(), ScopeFault>
-    ensures { Answers result (refusal_of_first Refusal.Variable (unknown_in_clauses [] clauses.now)) }
+    ensures { Gives result (refusal_of_first Refusal.Variable (unknown_in_clauses [] clauses.now)) }
 {
-    let mut scope = Scope::new(alloc);
+    let mut scope = KnownColumns::new(alloc);
     for clause in clauses {
         check_clause(alloc, &mut scope, clause)?;
     }

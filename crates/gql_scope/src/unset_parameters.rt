@@ -5,22 +5,21 @@ ghost use Rattle.std.specs.Option.{option_copied};
 ghost use Rattle.std.specs.List.{flat_map};
 ghost use Rattle.gql_scope.specs.StaticRefusals.{refusal_of_first};
 ghost use Rattle.gql_scope.specs.UnsetParameters.{unset, parameters_of, parameters_if, parameters_of_condition, parameters_of_node, parameters_of_pattern, parameters_of_keys, parameters_of_order, parameters_of_count, parameters_of_count_if, parameters_of_page, parameters_of_items, parameters_of_return, parameters_of_clause};
-ghost use Rattle.gql_scope.specs.Answers.{Answers};
+ghost use Rattle.gql_scope.specs.Gives.{Gives};
 
-use crate::behind::node_of;
 use crate::change_parameters::check_change;
 use crate::fault::ScopeFault;
 use crate::parameters::{if_unset, unset_parameter};
 use gql_ast::{
     Clause, Condition, Expr, Filler, GraphPattern, LetItem, MapItem, Page, Refusal, Return,
-    ReturnItem, ReturnItems, RowCount, SortItem, SortItems,
+    ReturnItem, ReturnItems, RowCount, SortItem, SortItems, node_of_pattern,
 };
 use gql_values3::{Params, Text};
 use std::alloc::Global;
 
-/// Refuses a parameter that was found.
+/// Fails a parameter that was found.
 fn refuse(alloc: Global, found: Option<&Text>) -> Result<(), ScopeFault>
-    ensures { Answers result (option_map (λ p. Refusal.Parameter p) (option_copied found.entry)) }
+    ensures { Gives result (option_map (λ p. Refusal.Parameter p) (option_copied found.entry)) }
 {
     match found {
         None => Ok(()),
@@ -31,14 +30,14 @@ fn refuse(alloc: Global, found: Option<&Text>) -> Result<(), ScopeFault>
 /// Checks the parameters of an expression.
 #[tactic(auto, using(crate::proofs::RefusalLemmas::first_of_first))]
 pub fn check_expr(alloc: Global, params: &Params, expr: &Expr) -> Result<(), ScopeFault>
-    ensures { Answers result (refusal_of_first Refusal.Parameter (unset params.now (parameters_of expr.now))) }
+    ensures { Gives result (refusal_of_first Refusal.Parameter (unset params.now (parameters_of expr.now))) }
 {
     refuse(alloc, unset_parameter(params, expr))
 }
 
 /// Checks the parameters of an expression that may be there.
 fn check_if(alloc: Global, params: &Params, expr: &Option<Expr>) -> Result<(), ScopeFault>
-    ensures { Answers result (refusal_of_first Refusal.Parameter (unset params.now (parameters_if expr.now))) }
+    ensures { Gives result (refusal_of_first Refusal.Parameter (unset params.now (parameters_if expr.now))) }
 {
     match expr {
         None => Ok(()),
@@ -48,7 +47,7 @@ fn check_if(alloc: Global, params: &Params, expr: &Option<Expr>) -> Result<(), S
 
 /// Checks the parameters of a map's values.
 pub fn check_map(alloc: Global, params: &Params, items: &[MapItem]) -> Result<(), ScopeFault>
-    ensures { Answers result (refusal_of_first Refusal.Parameter (unset params.now (flat_map (λ i. parameters_of i.value) items.now))) }
+    ensures { Gives result (refusal_of_first Refusal.Parameter (unset params.now (flat_map (λ i. parameters_of i.value) items.now))) }
 {
     for item in items {
         check_expr(alloc, params, &item.value)?;
@@ -62,7 +61,7 @@ fn check_condition(
     params: &Params,
     condition: &Option<Condition>,
 ) -> Result<(), ScopeFault>
-    ensures { Answers result (refusal_of_first Refusal.Parameter (unset params.now (parameters_of_condition condition.now))) }
+    ensures { Gives result (refusal_of_first Refusal.Parameter (unset params.now (parameters_of_condition condition.now))) }
 {
     match condition {
         None => Ok(()),
@@ -72,7 +71,7 @@ fn check_condition(
 }
 
 fn check_node(alloc: Global, params: &Params, node: Option<&Filler>) -> Result<(), ScopeFault>
-    ensures { Answers result (refusal_of_first Refusal.Parameter (unset params.now (parameters_of_node (option_copied node.entry)))) }
+    ensures { Gives result (refusal_of_first Refusal.Parameter (unset params.now (parameters_of_node (option_copied node.entry)))) }
 {
     match node {
         None => Ok(()),
@@ -83,15 +82,15 @@ fn check_node(alloc: Global, params: &Params, node: Option<&Filler>) -> Result<(
 /// Checks the parameters of a pattern.
 #[tactic(auto, using(crate::proofs::RefusalLemmas::unset_of_two))]
 fn check_pattern(alloc: Global, params: &Params, pattern: &GraphPattern) -> Result<(), ScopeFault>
-    ensures { Answers result (refusal_of_first Refusal.Parameter (unset params.now (parameters_of_pattern pattern.now))) }
+    ensures { Gives result (refusal_of_first Refusal.Parameter (unset params.now (parameters_of_pattern pattern.now))) }
 {
-    check_node(alloc, params, node_of(pattern))?;
+    check_node(alloc, params, node_of_pattern(pattern))?;
     check_if(alloc, params, &pattern.condition)
 }
 
 /// Checks the parameters of LET.
 fn check_let(alloc: Global, params: &Params, items: &[LetItem]) -> Result<(), ScopeFault>
-    ensures { Answers result (refusal_of_first Refusal.Parameter (unset params.now (flat_map (λ i. parameters_of i.value) items.now))) }
+    ensures { Gives result (refusal_of_first Refusal.Parameter (unset params.now (flat_map (λ i. parameters_of i.value) items.now))) }
 {
     for item in items {
         check_expr(alloc, params, &item.value)?;
@@ -101,7 +100,7 @@ fn check_let(alloc: Global, params: &Params, items: &[LetItem]) -> Result<(), Sc
 
 /// Checks the parameters of sort keys.
 fn check_keys(alloc: Global, params: &Params, keys: &[SortItem]) -> Result<(), ScopeFault>
-    ensures { Answers result (refusal_of_first Refusal.Parameter (unset params.now (parameters_of_keys keys.now))) }
+    ensures { Gives result (refusal_of_first Refusal.Parameter (unset params.now (parameters_of_keys keys.now))) }
 {
     for item in keys {
         check_expr(alloc, params, &item.key)?;
@@ -110,7 +109,7 @@ fn check_keys(alloc: Global, params: &Params, keys: &[SortItem]) -> Result<(), S
 }
 
 fn check_order(alloc: Global, params: &Params, order: &Option<SortItems>) -> Result<(), ScopeFault>
-    ensures { Answers result (refusal_of_first Refusal.Parameter (unset params.now (parameters_of_order order.now))) }
+    ensures { Gives result (refusal_of_first Refusal.Parameter (unset params.now (parameters_of_order order.now))) }
 {
     match order {
         None => Ok(()),
@@ -121,7 +120,7 @@ fn check_order(alloc: Global, params: &Params, order: &Option<SortItems>) -> Res
 /// Checks the parameter of a number of rows.
 #[tactic(auto, using(crate::proofs::RefusalLemmas::first_of_first))]
 fn check_count(alloc: Global, params: &Params, count: &RowCount) -> Result<(), ScopeFault>
-    ensures { Answers result (refusal_of_first Refusal.Parameter (unset params.now (parameters_of_count count.now))) }
+    ensures { Gives result (refusal_of_first Refusal.Parameter (unset params.now (parameters_of_count count.now))) }
 {
     match count {
         RowCount::Number(_) => Ok(()),
@@ -134,7 +133,7 @@ fn check_count_if(
     params: &Params,
     count: &Option<RowCount>,
 ) -> Result<(), ScopeFault>
-    ensures { Answers result (refusal_of_first Refusal.Parameter (unset params.now (parameters_of_count_if count.now))) }
+    ensures { Gives result (refusal_of_first Refusal.Parameter (unset params.now (parameters_of_count_if count.now))) }
 {
     match count {
         None => Ok(()),
@@ -151,7 +150,7 @@ fn check_ordered(
     skip: &Option<RowCount>,
     limit: &Option<RowCount>,
 ) -> Result<(), ScopeFault>
-    ensures { Answers result (refusal_of_first Refusal.Parameter (unset params.now (parameters_of_keys keys.now ++ parameters_of_count_if skip.now ++ parameters_of_count_if limit.now))) }
+    ensures { Gives result (refusal_of_first Refusal.Parameter (unset params.now (parameters_of_keys keys.now ++ parameters_of_count_if skip.now ++ parameters_of_count_if limit.now))) }
 {
     check_keys(alloc, params, keys)?;
     check_count_if(alloc, params, skip)?;
@@ -166,7 +165,7 @@ fn check_skip(
     skip: &RowCount,
     limit: &Option<RowCount>,
 ) -> Result<(), ScopeFault>
-    ensures { Answers result (refusal_of_first Refusal.Parameter (unset params.now (parameters_of_count skip.now ++ parameters_of_count_if limit.now))) }
+    ensures { Gives result (refusal_of_first Refusal.Parameter (unset params.now (parameters_of_count skip.now ++ parameters_of_count_if limit.now))) }
 {
     check_count(alloc, params, skip)?;
     check_count_if(alloc, params, limit)
@@ -174,7 +173,7 @@ fn check_skip(
 
 /// Checks the parameters of a page clause.
 fn check_page(alloc: Global, params: &Params, page: &Page) -> Result<(), ScopeFault>
-    ensures { Answers result (refusal_of_first Refusal.Parameter (unset params.now (parameters_of_page page.now))) }
+    ensures { Gives result (refusal_of_first Refusal.Parameter (unset params.now (parameters_of_page page.now))) }
 {
     match page {
         Page::Order(keys, skip, limit) => {
@@ -187,7 +186,7 @@ fn check_page(alloc: Global, params: &Params, page: &Page) -> Result<(), ScopeFa
 
 /// Checks the parameters of RETURN's items.
 fn check_listed(alloc: Global, params: &Params, items: &[ReturnItem]) -> Result<(), ScopeFault>
-    ensures { Answers result (refusal_of_first Refusal.Parameter (unset params.now (flat_map (λ i. parameters_of i.value) items.now))) }
+    ensures { Gives result (refusal_of_first Refusal.Parameter (unset params.now (flat_map (λ i. parameters_of i.value) items.now))) }
 {
     for item in items {
         check_expr(alloc, params, &item.value)?;
@@ -196,7 +195,7 @@ fn check_listed(alloc: Global, params: &Params, items: &[ReturnItem]) -> Result<
 }
 
 fn check_items(alloc: Global, params: &Params, items: &ReturnItems) -> Result<(), ScopeFault>
-    ensures { Answers result (refusal_of_first Refusal.Parameter (unset params.now (parameters_of_items items.now))) }
+    ensures { Gives result (refusal_of_first Refusal.Parameter (unset params.now (parameters_of_items items.now))) }
 {
     match items {
         ReturnItems::All => Ok(()),
@@ -207,7 +206,7 @@ fn check_items(alloc: Global, params: &Params, items: &ReturnItems) -> Result<()
 /// Checks the parameters of RETURN.
 #[tactic(auto, using(crate::proofs::RefusalLemmas::unset_of_two))]
 fn check_return(alloc: Global, params: &Params, clause: &Return) -> Result<(), ScopeFault>
-    ensures { Answers result (refusal_of_first Refusal.Parameter (unset params.now (parameters_of_return clause.now))) }
+    ensures { Gives result (refusal_of_first Refusal.Parameter (unset params.now (parameters_of_return clause.now))) }
 {
     check_items(alloc, params, &clause.items)?;
     check_order(alloc, params, &clause.order)?;
@@ -217,7 +216,7 @@ fn check_return(alloc: Global, params: &Params, clause: &Return) -> Result<(), S
 
 /// Checks the parameters of a clause.
 fn check_clause(alloc: Global, params: &Params, clause: &Clause) -> Result<(), ScopeFault>
-    ensures { Answers result (refusal_of_first Refusal.Parameter (unset params.now (parameters_of_clause clause.now))) }
+    ensures { Gives result (refusal_of_first Refusal.Parameter (unset params.now (parameters_of_clause clause.now))) }
 {
     match clause {
         Clause::Match(m) => check_pattern(alloc, params, &m.pattern),
@@ -236,7 +235,7 @@ pub fn unset_parameters(
     params: &Params,
     clauses: &[Clause],
 ) -> Result<(), ScopeFault>
-    ensures { Answers result (refusal_of_first Refusal.Parameter (unset params.now (flat_map parameters_of_clause clauses.now))) }
+    ensures { Gives result (refusal_of_first Refusal.Parameter (unset params.now (flat_map parameters_of_clause clauses.now))) }
 {
     for clause in clauses {
         check_clause(alloc, params, clause)?;

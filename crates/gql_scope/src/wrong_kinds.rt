@@ -5,13 +5,13 @@ ghost use Rattle.std.specs.Option.{option_copied};
 ghost use Rattle.gql_ast.specs.Projections.{columns_behind};
 ghost use Rattle.gql_scope.specs.StaticRefusals.{refusal_of_first};
 ghost use Rattle.gql_scope.specs.WrongKinds.{holds_nodes, wrong_variable, wrong_in_node, wrong_in_clause, wrong_in_clauses};
-ghost use Rattle.gql_scope.specs.Answers.{Answers};
+ghost use Rattle.gql_scope.specs.Gives.{Gives};
 
-use crate::behind::{node_of, step};
+use crate::behind::step;
 use crate::change_kinds::check_change;
-use crate::columns::Scope;
+use crate::columns::KnownColumns;
 use crate::fault::ScopeFault;
-use gql_ast::{Clause, Filler, Refusal};
+use gql_ast::{Clause, Filler, Refusal, node_of_pattern};
 use gql_values3::{ColumnKind, Text};
 use std::alloc::Global;
 
@@ -23,8 +23,12 @@ fn holds_nodes(kind: ColumnKind) -> bool
 }
 
 /// Checks the variable of a node.
-fn check_variable(alloc: Global, scope: &Scope, variable: &Option<Text>) -> Result<(), ScopeFault>
-    ensures { Answers result (refusal_of_first Refusal.Kind (wrong_variable scope.now variable.now)) }
+fn check_variable(
+    alloc: Global,
+    scope: &KnownColumns,
+    variable: &Option<Text>,
+) -> Result<(), ScopeFault>
+    ensures { Gives result (refusal_of_first Refusal.Kind (wrong_variable scope.now variable.now)) }
 {
     match variable {
         Some(name) if scope.contains(name) && !holds_nodes(scope.kind(name)) => {
@@ -35,8 +39,8 @@ fn check_variable(alloc: Global, scope: &Scope, variable: &Option<Text>) -> Resu
 }
 
 /// Checks the variable of a pattern's node.
-fn check_node(alloc: Global, scope: &Scope, node: Option<&Filler>) -> Result<(), ScopeFault>
-    ensures { Answers result (refusal_of_first Refusal.Kind (wrong_in_node scope.now (option_copied node.entry))) }
+fn check_node(alloc: Global, scope: &KnownColumns, node: Option<&Filler>) -> Result<(), ScopeFault>
+    ensures { Gives result (refusal_of_first Refusal.Kind (wrong_in_node scope.now (option_copied node.entry))) }
 {
     match node {
         None => Ok(()),
@@ -45,19 +49,19 @@ fn check_node(alloc: Global, scope: &Scope, node: Option<&Filler>) -> Result<(),
 }
 
 /// Checks a clause.
-fn check_clause(alloc: Global, scope: &Scope, clause: &Clause) -> Result<(), ScopeFault>
-    ensures { Answers result (refusal_of_first Refusal.Kind (wrong_in_clause scope.now clause.now)) }
+fn check_clause(alloc: Global, scope: &KnownColumns, clause: &Clause) -> Result<(), ScopeFault>
+    ensures { Gives result (refusal_of_first Refusal.Kind (wrong_in_clause scope.now clause.now)) }
 {
     match clause {
-        Clause::Match(m) => check_node(alloc, scope, node_of(&m.pattern)),
+        Clause::Match(m) => check_node(alloc, scope, node_of_pattern(&m.pattern)),
         Clause::Change(change) => check_change(alloc, scope, change),
         _ => Ok(()),
     }
 }
 
 /// Checks a clause, and changes the columns to those behind it.
-fn pass_clause(alloc: Global, scope: &mut Scope, clause: &Clause) -> Result<(), ScopeFault>
-    ensures kinds { Answers result (refusal_of_first Refusal.Kind (wrong_in_clause scope.old clause.now)) }
+fn pass_clause(alloc: Global, scope: &mut KnownColumns, clause: &Clause) -> Result<(), ScopeFault>
+    ensures kinds { Gives result (refusal_of_first Refusal.Kind (wrong_in_clause scope.old clause.now)) }
     ensures columns { OnOk result (scope.new ≡ columns_behind scope.old clause.now) }
 {
     check_clause(alloc, scope, clause)?;
@@ -68,9 +72,9 @@ fn pass_clause(alloc: Global, scope: &mut Scope, clause: &Clause) -> Result<(), 
 /// Checks a query's clauses.
 #[tactic(auto, using(crate::proofs::RefusalLemmas::first_of_in_two))]
 pub fn wrong_kinds(alloc: Global, clauses: &[Clause]) -> Result<(), ScopeFault>
-    ensures { Answers result (refusal_of_first Refusal.Kind (wrong_in_clauses [] clauses.now)) }
+    ensures { Gives result (refusal_of_first Refusal.Kind (wrong_in_clauses [] clauses.now)) }
 {
-    let mut scope = Scope::new(alloc);
+    let mut scope = KnownColumns::new(alloc);
     for clause in clauses {
         pass_clause(alloc, &mut scope, clause)?;
     }

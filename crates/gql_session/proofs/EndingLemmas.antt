@@ -1,22 +1,21 @@
 -- How a run ends, from how the run of its text did.
-use Rattle.std.proofs.Common.{◌≡◌, ◌⊎◌, ℕ, ◌≤◌, Bool, true, false, List, length, Option, Some, Result, Ok, Err, refl, sym, ◌∙◌, subst, inl, inr, IsTrue, arith}
+use Rattle.std.proofs.Common.{◌≡◌, ◌⊎◌, ℕ, ◌≤◌, ◌<◌, Bool, true, false, List, length, Option, Some, None, Result, Ok, Err, refl, sym, ap, ◌∙◌, subst, inl, inr, IsTrue, arith}
 use Rattle.gql_ports.specs.declared.stored.Record.{Record}
 use Rattle.gql_graph.specs.Catalog.{CatalogData}
 use Rattle.gql_rowcode.specs.StandFor.{StandFor}
 use Rattle.gql_ast.specs.declared.refusal.Outcome.{Outcome}
 use Rattle.gql_session.specs.SessionState.{SessionState, starting}
-use Rattle.gql_session.specs.SessionRun.{RunsSession, begun, one_more}
+use Rattle.gql_session.specs.SessionRun.{RunsSession, no_pieces, one_more}
 use Rattle.gql_session.proofs.KeptLemmas.{step_kept}
-use Rattle.gql_session.specs.Endings.{TextEnding, status_of}
-use Rattle.gql_session.specs.RunEnds.{Told, most_bytes, LoadedEndsAs, EndsAs, is_complete}
+use Rattle.gql_session.specs.RunEnds.{SourceTells, most_bytes, EndsAs, is_before_reading, is_before_writing, is_complete}
 use Rattle.gql_session.specs.Words.{session_of}
 use Rattle.gql_ports.specs.Told.{Content}
-use Rattle.gql_ports.specs.Held.{Holding}
 use Rattle.gql_session.specs.declared.run_pieces.RunFault.{RunFault}
 use Rattle.gql_session.specs.declared.run_pieces.RunFault.TheVariants as fault
 use Rattle.gql_session.specs.declared.status.Status.{Status}
 use Rattle.gql_session.specs.declared.status.Status.TheVariants as status
 use Rattle.gql_session.specs.declared.load.LoadFault.TheVariants as load
+use Rattle.gql_session.specs.Machinery.TextEndings.{TextEnding, status_of, LoadedEndsAs}
 
 -- the text was read and run
 pub loaded_ends : (start : SessionState) (text before : List ℕ) (ran : Result Bool RunFault) (after : Option (List ℕ)) → length text ≤ most_bytes
@@ -28,7 +27,7 @@ loaded_ends start text before (Err fault.OutOfMemory) after h e = inr (h, e)
 
 -- no piece changes the catalog that is kept
 kept_stays : {start end : SessionState} {pieces : List (List ℕ)} {outcomes : List Outcome} → RunsSession start pieces outcomes end → end.kept ≡ start.kept
-kept_stays begun = refl
+kept_stays no_pieces = refl
 kept_stays (one_more {middle = s} {after = t} {piece = p} {made = made} runs step) = step_kept s t p made step ∙ kept_stays runs
 
 -- so the records stand for the one that is kept at the end
@@ -54,24 +53,39 @@ pub same_index : (j i : ℕ) → (load.BadRecord j ≡ load.BadRecord i) ⊎ IsT
 same_index j i (inl p) = cc
 same_index j i (inr p) = cc
 
--- how the words, as told, name the source's text
-abbrev pub content_of : {words : List (List ℕ)} {source : Option Content} {sink : Option (List ℕ)} {keeper : Option Holding} {text before : List ℕ} {records : List Record}
-    → Told words source sink keeper text before records → Content
+-- the source's text, as it is told
+abbrev pub content_of : {words : List (List ℕ)} {source : Option Content} {text : List ℕ} → SourceTells words source text → Content
 content_of {text = text} t = record { name = t.name; ready = t.ready; left = text }
 
-pub named : {words : List (List ℕ)} {source : Option Content} {sink : Option (List ℕ)} {keeper : Option Holding} {text before : List ℕ} {records : List Record}
-    (t : Told words source sink keeper text before records) (name : List ℕ) → session_of words ≡ Some name → t.name ≡ name
+pub named : {words : List (List ℕ)} {source : Option Content} {text : List ℕ} (t : SourceTells words source text) (name : List ℕ) → session_of words ≡ Some name → t.name ≡ name
 named t name p = let e = t.command in cc
 
+-- words are a command or none
+pub not_both : {command : Option (List ℕ)} {name : List ℕ} → command ≡ Some name → command ≡ None → ⊥
+not_both p q = cc
+
+-- a run of a text doesn't end before it writes, nor at a text that is too long
+pub is_past_reading : (r : Result Bool RunFault) → is_before_writing (status_of r) ≡ false
+is_past_reading (Ok false) = refl
+is_past_reading (Ok true) = refl
+is_past_reading (Err fault.Sink) = refl
+is_past_reading (Err fault.OutOfMemory) = refl
+
+pub not_too_long : (s : Status) → is_before_writing s ≡ false → ¬ (s ≡ status.TooLong)
+not_too_long s h p = let q = ap is_before_writing p in cc
+
+pub not_bad_store : (s : Status) (i : ℕ) → is_before_reading s ≡ false → ¬ (s ≡ status.BadStore i)
+not_bad_store s i h p = let q = ap is_before_reading p in cc
+
 -- where nothing fails, the text is within its limit and no record is at fault
-pub completed : (records : List Record) (text before : List ℕ) (s : Status) (after : Option (List ℕ)) (A B C : Type 0) → EndsAs records text before s after → length text ≤ most_bytes
+pub completed : (text : List ℕ) (s : Status) (A B C : Type 0) → length text ≤ most_bytes → ¬ (s ≡ status.Usage) → (s ≡ status.TooLong → most_bytes < length text)
     → ((i : ℕ) → ¬ (s ≡ status.BadStore i)) → (s ≡ status.SourceFault → A) → (s ≡ status.SinkFault → B) → (s ≡ status.StoreFault → C) → ¬ A → ¬ B → ¬ C → is_complete s ≡ true
-completed records text before status.Answered after A B C e h bad a b c na nb nc = refl
-completed records text before status.Refused after A B C e h bad a b c na nb nc = refl
-completed records text before status.Usage after A B C e h bad a b c na nb nc = absurd e
-completed records text before status.SourceFault after A B C e h bad a b c na nb nc = absurd (na (a refl))
-completed records text before status.SinkFault after A B C e h bad a b c na nb nc = absurd (nb (b refl))
-completed records text before status.StoreFault after A B C e h bad a b c na nb nc = absurd (nc (c refl))
-completed records text before status.NoMemory after A B C e h bad a b c na nb nc = refl
-completed records text before status.TooLong after A B C e h bad a b c na nb nc = let over = e.0 in absurd (omega arith)
-completed records text before (status.BadStore i) after A B C e h bad a b c na nb nc = absurd (bad i refl)
+completed text status.Answered A B C h usage long bad a b c na nb nc = refl
+completed text status.Refused A B C h usage long bad a b c na nb nc = refl
+completed text status.Usage A B C h usage long bad a b c na nb nc = absurd (usage refl)
+completed text status.SourceFault A B C h usage long bad a b c na nb nc = absurd (na (a refl))
+completed text status.SinkFault A B C h usage long bad a b c na nb nc = absurd (nb (b refl))
+completed text status.StoreFault A B C h usage long bad a b c na nb nc = absurd (nc (c refl))
+completed text status.NoMemory A B C h usage long bad a b c na nb nc = refl
+completed text status.TooLong A B C h usage long bad a b c na nb nc = let over = long refl in absurd (omega arith)
+completed text (status.BadStore i) A B C h usage long bad a b c na nb nc = absurd (bad i refl)

@@ -16,7 +16,7 @@ use Rattle.gql_ast.specs.declared.clause.Query.{Query}
 use Rattle.gql_linear.specs.QueryRun.{Working, changes_data, query_run}
 use Rattle.gql_session.specs.Reading.{Reading, blank, bad, deep, unread, read}
 use Rattle.gql_session.specs.SessionState.{SessionState, with_graph}
-use Rattle.gql_session.specs.StatementRun.{query_after, value_end, acting_graph, session_end, acted, first_refusal, ended}
+use Rattle.gql_session.specs.StatementRun.{query_after, value_end, statement_graph, session_end, execution_end, first_refusal, refused_or_executed}
 use Rattle.gql_session.specs.SessionRun.{Step, state_behind}
 
 put_kept : (s : SessionState) (g : PropertyGraph) (changes : Bool) → (if changes then with_graph s g else s).kept ≡ s.kept
@@ -32,27 +32,27 @@ value_kept s p (Ok d) = refl
 value_kept s p (Err f) = refl
 
 session_kept : (s : SessionState) (t : SessionStatement) → (session_end s t).after.kept ≡ s.kept
-session_kept s (session.SetValue p e) = value_kept s p (value_of (acting_graph s) s.parameters [] (tree_of e))
+session_kept s (session.SetValue p e) = value_kept s p (value_of (statement_graph s) s.parameters [] (tree_of e))
 session_kept s session.Reset = refl
 session_kept s session.Close = refl
 session_kept s (session.SetGraph x) = refl
 
-acted_kept : (s : SessionState) (t : Statement) → (acted s t).after.kept ≡ s.kept
-acted_kept s (statement.Query q) = query_kept s q (query_run (acting_graph s) s.parameters q)
-acted_kept s (statement.Session t) = session_kept s t
-acted_kept s (statement.Transaction t) = refl
-acted_kept s (statement.Catalog c) = refl
+execution_kept : (s : SessionState) (t : Statement) → (execution_end s t).after.kept ≡ s.kept
+execution_kept s (statement.Query q) = query_kept s q (query_run (statement_graph s) s.parameters q)
+execution_kept s (statement.Session t) = session_kept s t
+execution_kept s (statement.Transaction t) = refl
+execution_kept s (statement.Catalog c) = refl
 
-ended_kept : (s : SessionState) (t : Statement) (r : Option Refusal) → (ended s t r).after.kept ≡ s.kept
-ended_kept s t (Some r) = refl
-ended_kept s t None = acted_kept s t
+refused_or_executed_kept : (s : SessionState) (t : Statement) (r : Option Refusal) → (refused_or_executed s t r).after.kept ≡ s.kept
+refused_or_executed_kept s t (Some r) = refl
+refused_or_executed_kept s t None = execution_kept s t
 
 behind_kept : (s : SessionState) (r : Reading) → (state_behind s r).kept ≡ s.kept
 behind_kept s blank = refl
 behind_kept s bad = refl
 behind_kept s deep = refl
 behind_kept s unread = refl
-behind_kept s (read t) = ended_kept s t (first_refusal s t)
+behind_kept s (read t) = refused_or_executed_kept s t (first_refusal s t)
 
 pub step_kept : (s t : SessionState) (piece : List ℕ) (made : List Outcome) → Step s piece made t → t.kept ≡ s.kept
 step_kept s t piece made step = ap (λ (x : SessionState). x.kept) step.state ∙ behind_kept s step.reading

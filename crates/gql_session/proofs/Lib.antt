@@ -7,3 +7,4 @@ pub mod KeptLemmas
 pub mod ParameterLemmas
 pub mod StepLemmas
 pub mod EndingLemmas
+pub mod OneRunLemmas

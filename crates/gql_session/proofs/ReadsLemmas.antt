@@ -18,7 +18,7 @@ use Rattle.gql_ast.specs.declared.statement.Statement.TheVariants as statement
 use Rattle.gql_exprs.specs.Depth.{too_deep}
 use Rattle.gql_statements.specs.ChangeGrammar.{Detaches, IsChange}
 use Rattle.gql_statements.specs.StatementGrammar.{Derives}
-use Rattle.gql_statements.specs.Parts.{Passes}
+use Rattle.gql_parts.specs.Parts.{Passes}
 use Rattle.gql_statements.specs.ClauseGrammar.{IsClause, IsLast}
 use Rattle.gql_statements.specs.PageGrammar.{IsPage}
 use Rattle.gql_statements.specs.QueryGrammar.{AreClauses}

@@ -11,10 +11,11 @@ use Rattle.gql_ports.specs.Told.{MatchTold, Appends, AppendsPrefix}
 use Rattle.gql_session.specs.Pieces.{session_pieces}
 use Rattle.gql_session.specs.Outcomes.{outcome_texts, is_refusal}
 use Rattle.gql_session.specs.SessionState.{SessionState}
-use Rattle.gql_session.specs.SessionRun.{Step, RunsSession, begun, one_more}
-use Rattle.gql_session.specs.Endings.{RanWhole, RanFirst, RanPiece, FailedPiece, PieceFault, TextFault, TextEnding}
+use Rattle.gql_session.specs.SessionRun.{Step, RunsSession, no_pieces, one_more}
+use Rattle.gql_session.specs.Endings.{RanWhole, RanFirst}
 use Rattle.gql_session.specs.declared.run_pieces.RunFault.{RunFault}
 use Rattle.gql_session.specs.declared.run_pieces.RunFault.TheVariants as fault
+use Rattle.gql_session.specs.Machinery.TextEndings.{RanPiece, FailedPiece, PieceFault, TextFault, TextEnding}
 
 -- so many pieces were run
 pub record Ran (start : SessionState) (text before : List ℕ) (count : ℕ) (any_refused : Bool) (end : SessionState) (after : Option (List ℕ)) : Type 0 where
@@ -24,7 +25,7 @@ pub record Ran (start : SessionState) (text before : List ℕ) (count : ℕ) (an
   pub refused : list_any is_refusal outcomes ≡ any_refused
 
 pub ran_none : (start : SessionState) (text before : List ℕ) (after : Option (List ℕ)) → after ≡ Some before → Ran start text before 0 false start after
-ran_none start text before after p = record { outcomes = []; runs = begun; written = p ∙ ap Some (sym (append-nil before)); refused = refl }
+ran_none start text before after p = record { outcomes = []; runs = no_pieces; written = p ∙ ap Some (sym (append-nil before)); refused = refl }
 
 -- One piece
 
@@ -144,7 +145,7 @@ ran_closed start text before i r end after h ran = record {
 }
 
 ran_nothing : (start : SessionState) (text before : List ℕ) (after : Option (List ℕ)) → after ≡ Some before → RanFirst start text before after
-ran_nothing start text before after p = record { count = 0; outcomes = []; end = start; runs = begun; written = p ∙ ap Some (sym (append-nil before)) }
+ran_nothing start text before after p = record { count = 0; outcomes = []; end = start; runs = no_pieces; written = p ∙ ap Some (sym (append-nil before)) }
 
 -- the run of a piece ended early, and so that of the text
 pub text_fault : (start : SessionState) (text before : List ℕ) (i : ℕ) (p : Piece) (r : Bool) (middle : SessionState) (written after : Option (List ℕ)) (e : RunFault)

@@ -1,4 +1,4 @@
--- What the top call promises: what it is told as it begins, and what stands at each ending.
+-- What the top call promises: what its ports tell as it begins, and the table of its endings.
 use Rattle.std.specs.Prelude.{◌≡◌, ℕ, ◌≤◌, ◌<◌, ◌⊎◌, Bool, true, false, List, length, Option, Some, None}
 use Rattle.gql_ports.specs.Told.{Content}
 use Rattle.gql_ports.specs.Held.{Holding}
@@ -7,20 +7,27 @@ use Rattle.gql_graph.specs.Catalog.{CatalogData}
 use Rattle.gql_rowcode.specs.StandFor.{StandFor}
 use Rattle.gql_rowcode.specs.FirstBad.{FirstBad}
 use Rattle.gql_session.specs.Words.{session_of}
-use Rattle.gql_session.specs.SessionState.{SessionState, starting}
+use Rattle.gql_session.specs.SessionState.{starting}
 use Rattle.gql_session.specs.Endings.{RanWhole, RanFirst, RanAndFailed}
 use Rattle.gql_session.specs.declared.status.Status.{Status}
 use Rattle.gql_session.specs.declared.status.Status.TheVariants as status
 
--- The words are a command, and the ports tell what they hold: the source bears the session's name and holds the text,
--- before is what the sink holds, and the keeper has no name and holds the records.
-pub record Told (words : List (List ℕ)) (source : Option Content) (sink : Option (List ℕ)) (keeper : Option Holding) (text before : List ℕ) (records : List Record) : Type 0 where
+-- The words are a command, and the source tells that it bears the session's name and holds the text.
+pub record SourceTells (words : List (List ℕ)) (source : Option Content) (text : List ℕ) : Type 0 where
   pub name : List ℕ
   pub ready : Bool
   pub command : session_of words ≡ Some name
   pub source_is : source ≡ Some (record { name = name; ready = ready; left = text })
+
+-- the keeper tells that it has no name and holds the records
+abbrev pub KeeperTells : Option Holding → List Record → Type 0
+KeeperTells keeper records = keeper ≡ Some (record { name = None; records = records })
+
+-- All ports tell what they hold; before is what the sink holds.
+pub record PortsTell (words : List (List ℕ)) (source : Option Content) (sink : Option (List ℕ)) (keeper : Option Holding) (text before : List ℕ) (records : List Record) : Type 0 where
+  pub text_is : SourceTells words source text
   pub sink_is : sink ≡ Some before
-  pub keeper_is : keeper ≡ Some (record { name = None; records = records })
+  pub records_are : KeeperTells keeper records
 
 -- the most bytes that a session's text may have
 abbrev pub most_bytes : ℕ
@@ -50,18 +57,6 @@ pub record PartRun (records : List Record) (text before : List ℕ) (after : Opt
   pub within : length text ≤ most_bytes
   pub ran : RanFirst (starting catalog) text before after
   pub kept : StandFor records ran.end.kept
-
--- What stands at each ending, once a catalog is loaded. Others don't come then.
-abbrev pub LoadedEndsAs : SessionState → List ℕ → List ℕ → Status → Option (List ℕ) → Type 0
-LoadedEndsAs start text before status.Answered after = (length text ≤ most_bytes) × RanWhole start text before false after
-LoadedEndsAs start text before status.Refused after = (length text ≤ most_bytes) × RanWhole start text before true after
-LoadedEndsAs start text before status.Usage after = ⊥
-LoadedEndsAs start text before status.SourceFault after = after ≡ Some before
-LoadedEndsAs start text before status.SinkFault after = (length text ≤ most_bytes) × RanAndFailed start text before after
-LoadedEndsAs start text before status.StoreFault after = ⊥
-LoadedEndsAs start text before status.NoMemory after = (after ≡ Some before) ⊎ ((length text ≤ most_bytes) × RanFirst start text before after)
-LoadedEndsAs start text before status.TooLong after = (most_bytes < length text) × (after ≡ Some before)
-LoadedEndsAs start text before (status.BadStore i) after = ⊥
 
 -- What stands at each ending. Usage doesn't come where the words are a command.
 abbrev pub EndsAs : List Record → List ℕ → List ℕ → Status → Option (List ℕ) → Type 0
@@ -100,3 +95,12 @@ is_before_reading status.Usage = true
 is_before_reading status.StoreFault = true
 is_before_reading (status.BadStore i) = true
 is_before_reading _ = false
+
+-- nothing was written
+abbrev pub is_before_writing : Status → Bool
+is_before_writing status.Usage = true
+is_before_writing status.SourceFault = true
+is_before_writing status.StoreFault = true
+is_before_writing status.TooLong = true
+is_before_writing (status.BadStore i) = true
+is_before_writing _ = false

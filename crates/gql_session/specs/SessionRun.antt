@@ -31,6 +31,6 @@ pub record Step (before : SessionState) (piece : List ℕ) (made : List Outcome)
 -- From the start these pieces give these outcomes and lead to that state: a run over some pieces and one more is a
 -- run over those, and then one step from where it ended.
 pub data RunsSession (start : SessionState) : List (List ℕ) → List Outcome → SessionState → Type 0 where
-  begun : RunsSession start [] [] start
+  no_pieces : RunsSession start [] [] start
   one_more : {pieces : List (List ℕ)} {outcomes : List Outcome} {middle after : SessionState} {piece : List ℕ} {made : List Outcome}
       → RunsSession start pieces outcomes middle → Step middle piece made after → RunsSession start (pieces ++ piece ∷ []) (outcomes ++ made) after

@@ -55,29 +55,29 @@ abbrev pub value_end : SessionState → List ℕ → Result Datum DataFault → 
 value_end before p (Ok d) = done_with (with_parameters before (set_parameter before.parameters p d))
 value_end before p (Err f) = refused_with before (refusal.Fault f)
 
--- the graph that a statement acts on
-abbrev pub acting_graph : SessionState → PropertyGraph
-acting_graph before = graph_or_empty (current_graph before)
+-- the graph over which statements are evaluated
+abbrev pub statement_graph : SessionState → PropertyGraph
+statement_graph before = graph_or_empty (current_graph before)
 
 abbrev pub query_end : SessionState → Query → StatementEnd
 query_end before q = record {
-  outcome = query_outcome q (query_run (acting_graph before) before.parameters q);
-  after = query_after q before (query_run (acting_graph before) before.parameters q);
+  outcome = query_outcome q (query_run (statement_graph before) before.parameters q);
+  after = query_after q before (query_run (statement_graph before) before.parameters q);
 }
 
 -- SESSION RESET forgets all parameters, SESSION CLOSE ends the session; SESSION SET GRAPH is no statement yet
 abbrev pub session_end : SessionState → SessionStatement → StatementEnd
-session_end before (session.SetValue p e) = value_end before p (value_of (acting_graph before) before.parameters [] (tree_of e))
+session_end before (session.SetValue p e) = value_end before p (value_of (statement_graph before) before.parameters [] (tree_of e))
 session_end before session.Reset = done_with (with_parameters before [])
 session_end before session.Close = done_with (closed before)
 session_end before (session.SetGraph x) = refused_with before refusal.Syntax
 
--- the statement acts; those about transactions and catalogs are no statements yet
-abbrev pub acted : SessionState → Statement → StatementEnd
-acted before (statement.Query q) = query_end before q
-acted before (statement.Session s) = session_end before s
-acted before (statement.Transaction t) = refused_with before refusal.Syntax
-acted before (statement.Catalog c) = refused_with before refusal.Syntax
+-- the statement is executed; those about transactions and catalogs are no statements yet
+abbrev pub execution_end : SessionState → Statement → StatementEnd
+execution_end before (statement.Query q) = query_end before q
+execution_end before (statement.Session s) = session_end before s
+execution_end before (statement.Transaction t) = refused_with before refusal.Syntax
+execution_end before (statement.Catalog c) = refused_with before refusal.Syntax
 
 -- E06: the current graph isn't there
 abbrev pub missing_graph : Option PropertyGraph → Option Refusal
@@ -95,10 +95,10 @@ first_refusal before s =
     option_or (option_map refusal.Number (wide_number s))
     (option_or (graph_refusal before s) (static_refusal before.parameters s))
 
-abbrev pub ended : SessionState → Statement → Option Refusal → StatementEnd
-ended before s (Some r) = refused_with before r
-ended before s None = acted before s
+abbrev pub refused_or_executed : SessionState → Statement → Option Refusal → StatementEnd
+refused_or_executed before s (Some r) = refused_with before r
+refused_or_executed before s None = execution_end before s
 
 -- the statement, run
 abbrev pub statement_run : SessionState → Statement → StatementEnd
-statement_run before s = ended before s (first_refusal before s)
+statement_run before s = refused_or_executed before s (first_refusal before s)

@@ -2,7 +2,7 @@
 ghost use Rattle.std.specs.Prelude.{◌≡◌, ◌<◌, ◌^◌, false, length, option_to_list, IfOk, OnOk};
 ghost use Rattle.gql_graph.specs.Catalog.{CatalogData};
 ghost use Rattle.gql_session.specs.SessionRun.{outcomes_of, state_behind, Step};
-ghost use Rattle.gql_session.specs.Meaning.{state_of, reading_of};
+ghost use Rattle.gql_session.specs.Machinery.Meaning.{session_state, reading_of};
 
 use crate::reading::{Read, read_piece};
 use crate::state::Session;
@@ -19,7 +19,7 @@ pub fn answer_piece(
 ) -> Result<Option<Outcome>, OutOfMemory>
     requires short { length piece.now < 2 ^ 32 }
     requires goes_on { session.old.is_closed ≡ false }
-    ensures { (kept : CatalogData) → IfOk result (λ made. Step (state_of kept session.old) piece.now (option_to_list made) (state_of kept session.new)) }
+    ensures { (kept : CatalogData) → IfOk result (λ made. Step (session_state kept session.old) piece.now (option_to_list made) (session_state kept session.new)) }
 {
     let read = read_piece(alloc, piece)?;
     answer_read(alloc, session, &read)
@@ -31,8 +31,8 @@ fn answer_read(
     session: &mut Session,
     read: &Read,
 ) -> Result<Option<Outcome>, OutOfMemory>
-    ensures outcomes { (kept : CatalogData) → IfOk result (λ made. option_to_list made ≡ outcomes_of (state_of kept session.old) (reading_of read.now)) }
-    ensures state { (kept : CatalogData) → OnOk result (state_of kept session.new ≡ state_behind (state_of kept session.old) (reading_of read.now)) }
+    ensures outcomes { (kept : CatalogData) → IfOk result (λ made. option_to_list made ≡ outcomes_of (session_state kept session.old) (reading_of read.now)) }
+    ensures state { (kept : CatalogData) → OnOk result (session_state kept session.new ≡ state_behind (session_state kept session.old) (reading_of read.now)) }
 {
     match read {
         Read::Blank => Ok(None),

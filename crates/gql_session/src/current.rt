@@ -1,4 +1,4 @@
-//! The graph that statements act on: `home`, until other graphs come.
+//! The graph over which statements are evaluated: `home`, until other graphs come.
 ghost use Rattle.std.specs.Prelude.{◌≡◌, option_map, IfOk, codes};
 ghost use Rattle.std.specs.Option.{option_copied};
 ghost use Rattle.gql_graph.specs.Catalog.{graph_of, empty_graph};
@@ -16,7 +16,7 @@ pub fn current_graph(catalog: &Catalog) -> Option<&Graph>
 }
 
 /// The current graph, or where it isn't there the empty one that is passed.
-pub fn acting_graph<'a>(catalog: &'a Catalog, empty: &'a Graph) -> &'a Graph
+pub fn statement_graph<'a>(catalog: &'a Catalog, empty: &'a Graph) -> &'a Graph
     requires { empty.now.graph ≡ empty_graph }
     ensures { result.now.graph ≡ graph_or_empty (graph_of catalog.now (codes "home")) }
 {
@@ -27,7 +27,7 @@ pub fn acting_graph<'a>(catalog: &'a Catalog, empty: &'a Graph) -> &'a Graph
 }
 
 /// A copy of the current graph, or where it isn't there an empty one.
-pub fn acting_copy(alloc: Global, catalog: &Catalog) -> Result<Graph, OutOfMemory>
+pub fn copy_statement_graph(alloc: Global, catalog: &Catalog) -> Result<Graph, OutOfMemory>
     ensures { IfOk result (λ copy. copy.graph ≡ graph_or_empty (graph_of catalog.now (codes "home"))) }
 {
     match current_graph(catalog) {

@@ -1,11 +1,13 @@
-ghost use Rattle.std.specs.Prelude.{◌≡◌, ◌≢◌, ◌≤◌, ◌++◌, [], ◌∷◌, ℕ, List, Some, None, IfOk, IfErr, OnOk, MatchResult, ◌⊎◌, IsTrue};
+//! The catalog for which the kept records stand.
+ghost use Rattle.std.specs.Prelude.{◌≡◌, ◌≢◌, ◌≤◌, ◌++◌, [], ◌∷◌, ℕ, List, Some, IfOk, IfErr, OnOk, MatchResult, ◌⊎◌, IsTrue};
 ghost use Rattle.gql_ports.specs.Causes.{Rose};
 ghost use Rattle.gql_ports.specs.Held.{Holding};
 ghost use Rattle.gql_ports.specs.declared.stored.Record.{Record as Stored};
 ghost use Rattle.gql_graph.specs.Catalog.{CatalogData};
 ghost use Rattle.gql_rowcode.specs.StandFor.{StandFor};
 ghost use Rattle.gql_rowcode.specs.FirstBad.{FirstBad};
-ghost use Rattle.gql_session.specs.Loading.{LoadCause, is_lack};
+ghost use Rattle.gql_session.specs.RunEnds.{KeeperTells};
+ghost use Rattle.gql_session.specs.Machinery.Loading.{LoadCause, is_lack};
 
 use gql_graph::Catalog;
 use gql_ports::{KeepFault, Keeper, Record};
@@ -23,7 +25,7 @@ pub enum LoadFault {
 }
 
 impl From<KeepFault> for LoadFault {
-    ghost use Rattle.gql_session.specs.Loading.{keep_fault_gives};
+    ghost use Rattle.gql_session.specs.Machinery.Loading.{keep_fault_gives};
 
     ghost from_gives = { keep_fault_gives };
 
@@ -37,10 +39,10 @@ impl From<KeepFault> for LoadFault {
 
 /// Opens the store without a name, fetches all its records, and reads them as a catalog.
 pub fn load<K: Keeper>(alloc: Global, keeper: &mut K) -> Result<Catalog, LoadFault>
-    ensures found { (records : List Stored) → K.held keeper.old ≡ Some (record { name = None; records = records }) → MatchResult result (λ c. StandFor records c) (LoadCause records) }
-    ensures at_fault { (records : List Stored) (i : ℕ) → K.held keeper.old ≡ Some (record { name = None; records = records }) → FirstBad records i → MatchResult result (λ _. ⊥) (λ e. (e ≡ LoadFault.BadRecord i) ⊎ IsTrue (is_lack e)) }
-    ensures complete { (records : List Stored) (c : CatalogData) → K.held keeper.old ≡ Some (record { name = None; records = records }) → StandFor records c → MatchResult result (λ d. d ≡ c) (λ e. IsTrue (is_lack e)) }
-    ensures kept { (records : List Stored) → K.held keeper.old ≡ Some (record { name = None; records = records }) → K.held keeper.new ≡ K.held keeper.old }
+    ensures found { (records : List Stored) → KeeperTells (K.held keeper.old) records → MatchResult result (λ c. StandFor records c) (LoadCause records) }
+    ensures at_fault { (records : List Stored) (i : ℕ) → KeeperTells (K.held keeper.old) records → FirstBad records i → MatchResult result (λ _. ⊥) (λ e. (e ≡ LoadFault.BadRecord i) ⊎ IsTrue (is_lack e)) }
+    ensures complete { (records : List Stored) (c : CatalogData) → KeeperTells (K.held keeper.old) records → StandFor records c → MatchResult result (λ d. d ≡ c) (λ e. IsTrue (is_lack e)) }
+    ensures kept { (records : List Stored) → KeeperTells (K.held keeper.old) records → K.held keeper.new ≡ K.held keeper.old }
     ensures later { K.faults keeper.old ≤ K.faults keeper.new }
     ensures failed { result ≡ Err LoadFault.Failed → Rose (K.faults keeper.old) (K.faults keeper.new) }
 {

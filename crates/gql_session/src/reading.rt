@@ -1,7 +1,7 @@
 ghost use Rattle.std.specs.Prelude.{◌≡◌, ℕ, ◌<◌, ◌^◌, List, length, IfOk, Some};
 ghost use Rattle.gql_lexer.specs.Lexemes.{lexemes_of};
 ghost use Rattle.gql_session.specs.Reading.{ReadsAs};
-ghost use Rattle.gql_session.specs.Meaning.{reading_of};
+ghost use Rattle.gql_session.specs.Machinery.Meaning.{reading_of};
 
 use gql_ast::{ParseFault, Statement};
 use gql_lexer::{LexFault, Lexeme, lexemes};

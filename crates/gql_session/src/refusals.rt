@@ -2,7 +2,7 @@
 ghost use Rattle.std.specs.Prelude.{◌≡◌, IfOk, codes};
 ghost use Rattle.gql_graph.specs.Catalog.{CatalogData, graph_of};
 ghost use Rattle.gql_scope.specs.StaticRefusals.{static_refusal};
-ghost use Rattle.gql_session.specs.Meaning.{state_of};
+ghost use Rattle.gql_session.specs.Machinery.Meaning.{session_state};
 ghost use Rattle.gql_session.specs.StatementRun.{missing_graph, graph_refusal, first_refusal};
 
 use crate::current::current_graph;
@@ -21,7 +21,7 @@ pub fn first_refusal(
     session: &Session,
     statement: &Statement,
 ) -> Result<Option<Refusal>, OutOfMemory>
-    ensures { (kept : CatalogData) → IfOk result (λ found. found ≡ first_refusal (state_of kept session.now) statement.now) }
+    ensures { (kept : CatalogData) → IfOk result (λ found. found ≡ first_refusal (session_state kept session.now) statement.now) }
 {
     if let Some(digits) = wide_number(statement) {
         return Ok(Some(Refusal::Number(digits.try_copy(alloc)?)));
@@ -38,7 +38,7 @@ fn graph_refusal(
     session: &Session,
     statement: &Statement,
 ) -> Result<Option<Refusal>, OutOfMemory>
-    ensures { (kept : CatalogData) → IfOk result (λ found. found ≡ graph_refusal (state_of kept session.now) statement.now) }
+    ensures { (kept : CatalogData) → IfOk result (λ found. found ≡ graph_refusal (session_state kept session.now) statement.now) }
 {
     match statement {
         Statement::Query(_) => missing_graph(alloc, &session.catalog),

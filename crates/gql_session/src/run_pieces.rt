@@ -5,9 +5,9 @@ ghost use Rattle.gql_graph.specs.Catalog.{CatalogData};
 ghost use Rattle.gql_session.specs.Outcomes.{is_refusal};
 ghost use Rattle.gql_session.specs.SessionState.{SessionState, starting};
 ghost use Rattle.gql_session.specs.SessionRun.{Step};
-ghost use Rattle.gql_session.specs.Meaning.{state_of};
-ghost use Rattle.gql_session.specs.Endings.{PieceEnding, TextEnding};
+ghost use Rattle.gql_session.specs.Machinery.Meaning.{session_state};
 ghost use Rattle.gql_session.specs.RunEnds.{most_bytes};
+ghost use Rattle.gql_session.specs.Machinery.TextEndings.{PieceEnding, TextEnding};
 
 use crate::answer::answer_piece;
 use crate::state::Session;
@@ -79,7 +79,7 @@ fn run_piece<W: Sink>(
 ) -> Result<bool, RunFault>
     requires short { length piece.now < 2 ^ 32 }
     requires goes_on { session.old.is_closed ≡ false }
-    ensures told { (kept : CatalogData) (before : List ℕ) → W.written sink.old ≡ Some before → PieceEnding (state_of kept session.old) piece.now before result (state_of kept session.new) (W.written sink.new) }
+    ensures told { (kept : CatalogData) (before : List ℕ) → W.written sink.old ≡ Some before → PieceEnding (session_state kept session.old) piece.now before result (session_state kept session.new) (W.written sink.new) }
     ensures later { W.faults sink.old ≤ W.faults sink.new }
     ensures failed { result ≡ Err RunFault.Sink → Rose (W.faults sink.old) (W.faults sink.new) }
 {

@@ -1,4 +1,5 @@
-ghost use Rattle.std.specs.Prelude.{◌≡◌, ◌≤◌, ℕ, List, Some, None, IsTrue, false};
+//! The run of a session of that name: its catalog is loaded, its text is read, and its pieces are run.
+ghost use Rattle.std.specs.Prelude.{◌≡◌, ◌≤◌, ◌<◌, ℕ, List, Some, None, true, false, length};
 ghost use Rattle.gql_ports.specs.Causes.{Rose};
 ghost use Rattle.gql_ports.specs.Told.{Content};
 ghost use Rattle.gql_ports.specs.declared.stored.Record.{Record as Stored};
@@ -6,8 +7,8 @@ ghost use Rattle.gql_graph.specs.Catalog.{CatalogData};
 ghost use Rattle.gql_rowcode.specs.StandFor.{StandFor};
 ghost use Rattle.gql_rowcode.specs.FirstBad.{FirstBad};
 ghost use Rattle.gql_session.specs.SessionState.{starting};
-ghost use Rattle.gql_session.specs.Endings.{status_of};
-ghost use Rattle.gql_session.specs.RunEnds.{LoadedEndsAs, EndsAs, EndsAtFault, is_before_reading};
+ghost use Rattle.gql_session.specs.RunEnds.{KeeperTells, EndsAs, EndsAtFault, most_bytes, is_before_reading, is_before_writing};
+ghost use Rattle.gql_session.specs.Machinery.TextEndings.{status_of, LoadedEndsAs};
 
 use crate::load::{LoadFault, load};
 use crate::read_text::{TextFault, read_named};
@@ -26,11 +27,14 @@ pub fn run_session<S: Source, W: Sink, K: Keeper>(
     keeper: &mut K,
 ) -> Status
     ensures ends { (content : Content) (before : List ℕ) (records : List Stored) → S.told source.old ≡ Some content → content.name ≡ name.now → W.written sink.old ≡ Some before
-        → K.held keeper.old ≡ Some (record { name = None; records = records }) → EndsAs records content.left before result (W.written sink.new) }
-    ensures at_fault { (records : List Stored) (i : ℕ) → K.held keeper.old ≡ Some (record { name = None; records = records }) → FirstBad records i → EndsAtFault i result }
-    ensures kept { (records : List Stored) → K.held keeper.old ≡ Some (record { name = None; records = records }) → K.held keeper.new ≡ K.held keeper.old }
-    ensures stands { (records : List Stored) (c : CatalogData) (i : ℕ) → K.held keeper.old ≡ Some (record { name = None; records = records }) → StandFor records c → ¬ (result ≡ Status.BadStore i) }
-    ensures untaken { IsTrue (is_before_reading result) → S.told source.new ≡ S.told source.old }
+        → KeeperTells (K.held keeper.old) records → EndsAs records content.left before result (W.written sink.new) }
+    ensures at_fault { (records : List Stored) (i : ℕ) → KeeperTells (K.held keeper.old) records → FirstBad records i → EndsAtFault i result }
+    ensures kept { (records : List Stored) → KeeperTells (K.held keeper.old) records → K.held keeper.new ≡ K.held keeper.old }
+    ensures stands { (records : List Stored) (c : CatalogData) (i : ℕ) → KeeperTells (K.held keeper.old) records → StandFor records c → ¬ (result ≡ Status.BadStore i) }
+    ensures too_long { (content : Content) → S.told source.old ≡ Some content → content.name ≡ name.now → result ≡ Status.TooLong → most_bytes < length content.left }
+    ensures bad_store { (records : List Stored) (i : ℕ) → KeeperTells (K.held keeper.old) records → result ≡ Status.BadStore i → FirstBad records i }
+    ensures untaken { is_before_reading result ≡ true → S.told source.new ≡ S.told source.old }
+    ensures unwritten { is_before_writing result ≡ true → W.written sink.new ≡ W.written sink.old }
     ensures command { ¬ (result ≡ Status.Usage) }
     ensures source_fault { result ≡ Status.SourceFault → Rose (S.faults source.old) (S.faults source.new) }
     ensures sink_fault { result ≡ Status.SinkFault → Rose (W.faults sink.old) (W.faults sink.new) }
@@ -55,6 +59,8 @@ fn run_loaded<S: Source, W: Sink>(
     ensures ends { (content : Content) (before : List ℕ) → S.told source.old ≡ Some content → content.name ≡ name.now → W.written sink.old ≡ Some before
         → LoadedEndsAs (starting catalog) content.left before result (W.written sink.new) }
     ensures loaded { is_before_reading result ≡ false }
+    ensures too_long { (content : Content) → S.told source.old ≡ Some content → content.name ≡ name.now → result ≡ Status.TooLong → most_bytes < length content.left }
+    ensures unwritten { is_before_writing result ≡ true → W.written sink.new ≡ W.written sink.old }
     ensures source_fault { result ≡ Status.SourceFault → Rose (S.faults source.old) (S.faults source.new) }
     ensures sink_fault { result ≡ Status.SinkFault → Rose (W.faults sink.old) (W.faults sink.new) }
 {

@@ -6,10 +6,10 @@ ghost use Rattle.gql_ast.specs.Meaning.{tree_of};
 ghost use Rattle.gql_ast.specs.Evaluation.{value_of};
 ghost use Rattle.gql_eval.specs.Gives.{Gives};
 ghost use Rattle.gql_session.specs.SessionState.{set_parameter, graph_or_empty};
-ghost use Rattle.gql_session.specs.Meaning.{state_of};
+ghost use Rattle.gql_session.specs.Machinery.Meaning.{session_state};
 ghost use Rattle.gql_session.specs.StatementRun.{session_end};
 
-use crate::current::acting_graph;
+use crate::current::statement_graph;
 use crate::parameters::with_parameter;
 use crate::state::Session;
 use gql_ast::{Expr, Outcome, Refusal, SessionStatement};
@@ -20,13 +20,13 @@ use std::alloc::Global;
 use std::mem;
 
 /// What a statement about the session does. SESSION SET GRAPH comes at a later stage.
-pub fn act_on_session(
+pub fn run_session_statement(
     alloc: Global,
     session: &mut Session,
     statement: &SessionStatement,
 ) -> Result<Outcome, OutOfMemory>
-    ensures outcome { (kept : CatalogData) → IfOk result (λ made. made ≡ (session_end (state_of kept session.old) statement.now).outcome) }
-    ensures after { (kept : CatalogData) → OnOk result (state_of kept session.new ≡ (session_end (state_of kept session.old) statement.now).after) }
+    ensures outcome { (kept : CatalogData) → IfOk result (λ made. made ≡ (session_end (session_state kept session.old) statement.now).outcome) }
+    ensures after { (kept : CatalogData) → OnOk result (session_state kept session.new ≡ (session_end (session_state kept session.old) statement.now).after) }
 {
     match statement {
         SessionStatement::SetValue(name, expr) => set_value(alloc, session, name, expr),
@@ -49,8 +49,8 @@ fn set_value(
     name: &Text,
     expr: &Expr,
 ) -> Result<Outcome, OutOfMemory>
-    ensures outcome { (kept : CatalogData) → IfOk result (λ made. made ≡ (session_end (state_of kept session.old) (SessionStatement.SetValue name.now expr.now)).outcome) }
-    ensures after { (kept : CatalogData) → OnOk result (state_of kept session.new ≡ (session_end (state_of kept session.old) (SessionStatement.SetValue name.now expr.now)).after) }
+    ensures outcome { (kept : CatalogData) → IfOk result (λ made. made ≡ (session_end (session_state kept session.old) (SessionStatement.SetValue name.now expr.now)).outcome) }
+    ensures after { (kept : CatalogData) → OnOk result (session_state kept session.new ≡ (session_end (session_state kept session.old) (SessionStatement.SetValue name.now expr.now)).after) }
 {
     match value_without_columns(alloc, &session.catalog, &session.parameters, expr) {
         Ok(found) => {
@@ -62,7 +62,7 @@ fn set_value(
     }
 }
 
-/// The value of an expression over no columns on the graph that statements act on.
+/// The value of an expression over no columns on the graph over which statements are evaluated.
 fn value_without_columns(
     alloc: Global,
     catalog: &Catalog,
@@ -72,7 +72,7 @@ fn value_without_columns(
     ensures { Gives datum_of result (value_of (graph_or_empty (graph_of catalog.now (codes "home"))) parameters.now [] (tree_of expr.now)) }
 {
     let empty = Graph::new(alloc);
-    let graph = acting_graph(catalog, &empty);
+    let graph = statement_graph(catalog, &empty);
     let columns = Columns::new(alloc);
     let row = Row::new(alloc);
     value(alloc, graph, &columns, &row, parameters, expr)

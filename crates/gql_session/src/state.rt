@@ -1,3 +1,4 @@
+//! What a session keeps between its statements.
 use gql_graph::Catalog;
 use gql_values3::Params;
 

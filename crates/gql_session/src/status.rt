@@ -1,3 +1,4 @@
+//! How a run ends, and the number of each ending.
 ghost use Rattle.std.specs.Prelude.{◌≡◌};
 ghost use Rattle.gql_session.specs.Status.{number_of};
 

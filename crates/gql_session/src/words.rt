@@ -1,3 +1,4 @@
+//! Which words are a command, and of which session.
 ghost use Rattle.std.specs.Prelude.{◌≡◌, map, string_bytes, Some, None, IfSome, IfNone};
 ghost use Rattle.gql_session.specs.Words.{session_of};
 

@@ -9,8 +9,8 @@ use Rattle.gql_ast.specs.declared.change.RemoveItem.{RemoveItem}
 use Rattle.gql_ast.specs.declared.change.RemoveItem.TheVariants as remove_item
 use Rattle.gql_ast.specs.declared.change.SetItem.{SetItem}
 use Rattle.gql_ast.specs.declared.change.SetItem.TheVariants as set_item
-use Rattle.gql_front.specs.SymbolPlaces.{comma, dot, equal}
-use Rattle.gql_front.specs.WordPlaces as word
+use Rattle.gql_lexer.specs.SymbolPlaces.{comma, dot, equal}
+use Rattle.gql_lexer.specs.WordPlaces as word
 use Rattle.gql_front.specs.Tables.{Begins}
 use Rattle.gql_front.specs.Reading.{is_sign, is_word, name_in, any_name_in, after, op_at}
 use Rattle.gql_front.proofs.Found.{Sound}
@@ -18,16 +18,16 @@ use Rattle.gql_front.proofs.TableLemmas.{begins_read, read_begins, begins_shorte
 use Rattle.gql_exprs.proofs.ExprLists.{goes_or}
 use Rattle.gql_statements.specs.declared.change_word.ChangeWord.{ChangeWord}
 use Rattle.gql_statements.specs.declared.change_word.ChangeWord.TheVariants as changes
-use Rattle.gql_statements.specs.Parts.{Passes, MayPass, IsListOf}
-use Rattle.gql_statements.specs.PartWords.{is_colon}
+use Rattle.gql_parts.specs.Parts.{Passes, MayPass, IsListOf}
+use Rattle.gql_parts.specs.PartWords.{is_colon}
 use Rattle.gql_statements.specs.ChangeGrammar.{IsInsertPath, IsSetItem, IsRemoveItem, IsChange}
-use Rattle.gql_statements.specs.PartReaders.{read_value}
-use Rattle.gql_statements.specs.ReturnReaders.{names_of}
-use Rattle.gql_statements.specs.ChangeReaders.{insert_paths_of, property_or_label, remove_item_of, remove_items_of, set_to, set_item_of, set_items_of, delete_of, changed}
-use Rattle.gql_statements.proofs.PartLaws.{Stops, left_stops, right_stops, nothing, nothing_stops, bind_then, finish, passes_after, after_passes, passes_shorter, stops_after, passes_stops}
-use Rattle.gql_statements.proofs.ListLaws.{listed_sound, listed_exact, list_shorter}
-use Rattle.gql_statements.proofs.ValueLaws.{value_sound, value_exact, value_shorter}
-use Rattle.gql_statements.proofs.MatchLaws.{colon_apart}
+use Rattle.gql_parts.specs.Machinery.PartReaders.{read_value}
+use Rattle.gql_statements.specs.Machinery.ReturnReaders.{names_of}
+use Rattle.gql_statements.specs.Machinery.ChangeReaders.{insert_paths_of, property_or_label, remove_item_of, remove_items_of, set_to, set_item_of, set_items_of, delete_of, change_behind}
+use Rattle.gql_parts.proofs.PartLaws.{Stops, left_stops, right_stops, nothing, nothing_stops, bind_then, finish, passes_after, after_passes, passes_shorter, stops_after, passes_stops}
+use Rattle.gql_parts.proofs.ListLaws.{listed_sound, listed_exact, list_shorter}
+use Rattle.gql_parts.proofs.ValueLaws.{value_sound, value_exact, value_shorter}
+use Rattle.gql_parts.proofs.FillerLaws.{colon_apart}
 use Rattle.gql_statements.proofs.ReturnLaws.{names_sound, names_exact}
 use Rattle.gql_statements.proofs.InsertLaws.{goes_path, insert_sound, insert_exact, insert_shorter}
 
@@ -124,7 +124,7 @@ Changes changes.Delete c ts r = Deletes detachment.NoDetach c ts r
 Changes (changes.Detaching d) c ts r = (a : List Lexeme) × Passes (is_word word.DELETE) ts a × Deletes d c a r
 Changes _ _ ts r = ⊥
 
-pub changed_sound : (w : ChangeWord) → Sound (Changes w) (changed w)
+pub changed_sound : (w : ChangeWord) → Sound (Changes w) (change_behind w)
 unfolding set_items_of remove_items_of
 changed_sound changes.Insert ts c r e =
     bind_then (insert_paths_of ts) _ (c, r) e (λ x p e. finish (λ c r. Changes changes.Insert c ts r) (change.Insert x.0) x.1 c r e (insert_sound ts x.0 x.1 p))
@@ -148,7 +148,7 @@ change_value s stop = left_stops goes_or (is_sign comma) s (left_stops (λ t. go
 pub change_comma : (s : List Lexeme) → Stops goes_change s → Stops (is_sign comma) s
 change_comma s stop = right_stops goes_or (is_sign comma) s (left_stops (λ t. goes_or t || is_sign comma t) goes_path s stop)
 
-pub changed_exact : (w : ChangeWord) (c : ChangeClause) (ts s : List Lexeme) → Changes w c ts s → Stops goes_change s → changed w ts ≡ Some (c, s)
+pub changed_exact : (w : ChangeWord) (c : ChangeClause) (ts s : List Lexeme) → Changes w c ts s → Stops goes_change s → change_behind w ts ≡ Some (c, s)
 unfolding set_items_of remove_items_of
 changed_exact changes.Insert (change.Insert ps) ts s h stop =
     rw (insert_exact ps ts s h (right_stops (λ t. goes_or t || is_sign comma t) goes_path s stop) (change_comma s stop)) refl

@@ -5,23 +5,23 @@ use Rattle.gql_ast.specs.declared.clause.LetItem.{LetItem}
 use Rattle.gql_ast.specs.declared.clause.Counting.{Counting}
 use Rattle.gql_ast.specs.declared.clause.For.{For}
 use Rattle.gql_ast.specs.declared.expr.Expr.{Expr}
-use Rattle.gql_front.specs.SymbolPlaces.{comma, equal}
-use Rattle.gql_front.specs.WordPlaces.{IN, WHERE, WITH}
+use Rattle.gql_lexer.specs.SymbolPlaces.{comma, equal}
+use Rattle.gql_lexer.specs.WordPlaces.{IN, WHERE, WITH}
 use Rattle.gql_front.specs.Tables.{Begins}
 use Rattle.gql_front.specs.Reading.{is_sign, is_word, name_in, after, op_at}
 use Rattle.gql_front.proofs.Found.{Sound}
 use Rattle.gql_front.proofs.TableLemmas.{begins_read, read_begins, begins_shorter}
 use Rattle.gql_exprs.proofs.ExprLists.{goes_or}
-use Rattle.gql_statements.specs.Parts.{Passes, MayPass, IsOptional, IsListOf}
-use Rattle.gql_statements.specs.Values.{IsValue}
+use Rattle.gql_parts.specs.Parts.{Passes, MayPass, IsOptional, IsListOf}
+use Rattle.gql_parts.specs.Values.{IsValue}
 use Rattle.gql_statements.specs.PartWords.{counting_word}
 use Rattle.gql_statements.specs.LetGrammar.{IsLetItem}
 use Rattle.gql_statements.specs.ForGrammar.{IsCounter}
-use Rattle.gql_statements.specs.PartReaders.{read_value, past}
-use Rattle.gql_statements.specs.ClauseReaders.{let_item_of, let_of, filter_of, counted_of, counter_of, for_of}
-use Rattle.gql_statements.proofs.PartLaws.{Stops, Led, bind_then, finish, passes_after, after_passes, passes_shorter, may_pass_shorter, word_apart, optional_shorter, led_sound, led_exact, led_stops, past_sound, past_exact}
-use Rattle.gql_statements.proofs.ListLaws.{listed_sound, listed_exact, list_shorter}
-use Rattle.gql_statements.proofs.ValueLaws.{value_sound, value_exact, value_shorter, value_begins}
+use Rattle.gql_parts.specs.Machinery.PartReaders.{read_value, past}
+use Rattle.gql_statements.specs.Machinery.ClauseReaders.{let_item_of, let_of, filter_of, counted_of, counter_of, for_of}
+use Rattle.gql_parts.proofs.PartLaws.{Stops, Led, bind_then, finish, passes_after, after_passes, passes_shorter, may_pass_shorter, word_apart, optional_shorter, led_sound, led_exact, led_stops, past_sound, past_exact}
+use Rattle.gql_parts.proofs.ListLaws.{listed_sound, listed_exact, list_shorter}
+use Rattle.gql_parts.proofs.ValueLaws.{value_sound, value_exact, value_shorter, value_begins}
 
 -- LET
 

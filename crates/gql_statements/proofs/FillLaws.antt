@@ -4,21 +4,21 @@ use Rattle.gql_lexer.specs.declared.lexeme.Lexeme.{Lexeme}
 use Rattle.gql_lexer.specs.declared.lexeme.Lexeme.TheVariants as lex
 use Rattle.gql_ast.specs.declared.change.Fill.{Fill}
 use Rattle.gql_ast.specs.declared.filler.MapItem.{MapItem}
-use Rattle.gql_front.specs.SymbolPlaces.{ampersand, opening_brace}
+use Rattle.gql_lexer.specs.SymbolPlaces.{ampersand, opening_brace}
 use Rattle.gql_front.specs.Tables.{Begins}
 use Rattle.gql_front.specs.Reading.{is_sign, name_in, any_name_in, after, op_at, many}
 use Rattle.gql_front.proofs.Found.{Sound}
 use Rattle.gql_front.proofs.Chains.{Many}
 use Rattle.gql_front.proofs.TableLemmas.{begins_read, read_begins, begins_shorter}
-use Rattle.gql_statements.specs.Parts.{Passes, IsOptional}
-use Rattle.gql_statements.specs.PartWords.{is_colon}
-use Rattle.gql_statements.specs.MatchGrammar.{IsMap}
+use Rattle.gql_parts.specs.Parts.{Passes, IsOptional}
+use Rattle.gql_parts.specs.PartWords.{is_colon}
+use Rattle.gql_parts.specs.FillerGrammar.{IsMap}
 use Rattle.gql_statements.specs.ChangeGrammar.{AreMoreLabels, AreLabels, BearsLabels, IsFill}
-use Rattle.gql_statements.specs.MatchReaders.{map_of, variable_of}
-use Rattle.gql_statements.specs.ChangeReaders.{other_label_of, other_labels_of, label_names_of, fill_labels_of, fill_map_of, fill_of, between_of}
-use Rattle.gql_statements.proofs.PartLaws.{Stops, left_stops, right_stops, Led, bind_then, finish, passes_after, after_passes, passes_shorter, stops_after, sign_apart, passes_stops, optional_stops, optional_shorter, led_sound, led_exact}
-use Rattle.gql_statements.proofs.ManyLaws.{many_sound, many_exact, many_shorter}
-use Rattle.gql_statements.proofs.MatchLaws.{MapRest, map_sound, map_exact, map_shorter, is_name, variable_sound, variable_exact, colon_apart}
+use Rattle.gql_parts.specs.Machinery.FillerReaders.{map_of, variable_of}
+use Rattle.gql_statements.specs.Machinery.ChangeReaders.{other_label_of, other_labels_of, label_names_of, fill_labels_of, fill_map_of, fill_of, between_of}
+use Rattle.gql_parts.proofs.PartLaws.{Stops, left_stops, right_stops, Led, bind_then, finish, passes_after, after_passes, passes_shorter, stops_after, sign_apart, passes_stops, optional_stops, optional_shorter, led_sound, led_exact}
+use Rattle.gql_parts.proofs.ManyLaws.{many_sound, many_exact, many_shorter}
+use Rattle.gql_parts.proofs.FillerLaws.{MapRest, map_sound, map_exact, map_shorter, is_name, variable_sound, variable_exact, colon_apart}
 
 -- {"&" Any}*
 

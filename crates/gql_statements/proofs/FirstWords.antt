@@ -7,8 +7,8 @@ use Rattle.gql_ast.specs.declared.clause.Clause.{Clause}
 use Rattle.gql_ast.specs.declared.clause.Clause.TheVariants as clause
 use Rattle.gql_ast.specs.declared.page.Page.{Page}
 use Rattle.gql_ast.specs.declared.page.Page.TheVariants as page
-use Rattle.gql_front.specs.SymbolPlaces.{comma}
-use Rattle.gql_front.specs.WordPlaces.{DELETE, DETACH, FILTER, FOR, INSERT, LET, LIMIT, MATCH, NODETACH, OFFSET, ORDER, REMOVE, SET, SKIP, WHERE, WITH}
+use Rattle.gql_lexer.specs.SymbolPlaces.{comma}
+use Rattle.gql_lexer.specs.WordPlaces.{DELETE, DETACH, FILTER, FOR, INSERT, LET, LIMIT, MATCH, NODETACH, OFFSET, ORDER, REMOVE, SET, SKIP, WHERE, WITH}
 use Rattle.gql_front.specs.Tables.{Begins}
 use Rattle.gql_front.specs.Reading.{is_sign, is_word, op_at}
 use Rattle.gql_front.proofs.Found.{Sound}
@@ -19,15 +19,15 @@ use Rattle.gql_statements.specs.declared.change_word.ChangeWord.{ChangeWord}
 use Rattle.gql_statements.specs.declared.change_word.ChangeWord.TheVariants as changes
 use Rattle.gql_statements.specs.declared.clause_word.ClauseWord.{ClauseWord}
 use Rattle.gql_statements.specs.declared.clause_word.ClauseWord.TheVariants as begins
-use Rattle.gql_statements.specs.Parts.{Passes}
+use Rattle.gql_parts.specs.Parts.{Passes}
 use Rattle.gql_statements.specs.PartWords.{is_skip, count_in}
 use Rattle.gql_statements.specs.ClauseWords.{clause_words, clause_word}
 use Rattle.gql_statements.specs.ClauseGrammar.{IsClause}
-use Rattle.gql_statements.specs.ClauseReaders.{let_of, filter_of, for_of, begun, clause_of}
-use Rattle.gql_statements.specs.PageReaders.{order_page_of, skip_page_of, limit_page_of}
-use Rattle.gql_statements.specs.MatchReaders.{match_of}
-use Rattle.gql_statements.specs.ChangeReaders.{changed}
-use Rattle.gql_statements.proofs.PartLaws.{Stops, left_stops, right_stops, bind_then, finish}
+use Rattle.gql_statements.specs.Machinery.ClauseReaders.{let_of, filter_of, for_of, clause_behind, clause_of}
+use Rattle.gql_statements.specs.Machinery.PageReaders.{order_page_of, skip_page_of, limit_page_of}
+use Rattle.gql_statements.specs.Machinery.MatchReaders.{match_of}
+use Rattle.gql_statements.specs.Machinery.ChangeReaders.{change_behind}
+use Rattle.gql_parts.proofs.PartLaws.{Stops, left_stops, right_stops, bind_then, finish}
 use Rattle.gql_statements.proofs.ClauseLaws.{LetList, let_sound, let_exact, let_shorter, Filtered, filter_sound, filter_exact, filter_shorter, Fors, for_sound, for_exact, for_shorter}
 use Rattle.gql_statements.proofs.PageLaws.{goes_page, OrderPage, SkipPage, LimitPage, order_page_sound, order_page_exact, order_shorter, skip_page_sound, skip_page_exact, skip_shorter, limit_page_sound, limit_page_exact, limit_shorter}
 use Rattle.gql_statements.proofs.MatchLaws.{Matched, match_sound, match_exact, match_shorter}
@@ -115,7 +115,7 @@ clause_from begins.Limit (clause.Page (page.Limit c)) ts a r p h = (a, p, h)
 clause_from (begins.Change w) (clause.Change c) ts a r p h = change_from w c ts a r p h
 clause_from _ _ ts a r p h = absurd h
 
-begun_sound : (w : ClauseWord) (ts : List Lexeme) (c : Clause) (r : List Lexeme) → begun w ts ≡ Some (c, r) → Behind w c ts r
+begun_sound : (w : ClauseWord) (ts : List Lexeme) (c : Clause) (r : List Lexeme) → clause_behind w ts ≡ Some (c, r) → Behind w c ts r
 begun_sound begins.Match ts c r e =
     bind_then (match_of ts) _ (c, r) e (λ x p e. finish (λ c r. Behind begins.Match c ts r) (clause.Match x.0) x.1 c r e (match_sound ts x.0 x.1 p))
 begun_sound begins.Let ts c r e =
@@ -131,7 +131,7 @@ begun_sound begins.Skip ts c r e =
 begun_sound begins.Limit ts c r e =
     bind_then (limit_page_of ts) _ (c, r) e (λ x p e. finish (λ c r. Behind begins.Limit c ts r) (clause.Page x.0) x.1 c r e (limit_page_sound ts x.0 x.1 p))
 begun_sound (begins.Change w) ts c r e =
-    bind_then (changed w ts) _ (c, r) e (λ x p e. finish (λ c r. Behind (begins.Change w) c ts r) (clause.Change x.0) x.1 c r e (changed_sound w ts x.0 x.1 p))
+    bind_then (change_behind w ts) _ (c, r) e (λ x p e. finish (λ c r. Behind (begins.Change w) c ts r) (clause.Change x.0) x.1 c r e (changed_sound w ts x.0 x.1 p))
 
 pub clause_sound : Sound IsClause clause_of
 unfolding clause_of
@@ -160,7 +160,7 @@ other_where s stop = left_stops (is_word WHERE) (is_word WITH) s (right_stops go
 other_with : (s : List Lexeme) → Stops goes_other s → Stops (is_word WITH) s
 other_with s stop = right_stops (is_word WHERE) (is_word WITH) s (right_stops goes_change (λ t. is_word WHERE t || is_word WITH t) s stop)
 
-begun_exact : (w : ClauseWord) (c : Clause) (ts s : List Lexeme) → Behind w c ts s → Stops (goes_of c) s → begun w ts ≡ Some (c, s)
+begun_exact : (w : ClauseWord) (c : Clause) (ts s : List Lexeme) → Behind w c ts s → Stops (goes_of c) s → clause_behind w ts ≡ Some (c, s)
 begun_exact begins.Match (clause.Match m) ts s h stop = rw (match_exact m ts s h (other_where s stop) (other_value s stop)) refl
 begun_exact begins.Let (clause.Let is) ts s h stop = rw (let_exact is ts s h (other_value s stop) (other_comma s stop)) refl
 begun_exact begins.Filter (clause.Filter e) ts s h stop = rw (filter_exact e ts s h (other_value s stop)) refl

@@ -7,20 +7,20 @@ use Rattle.gql_ast.specs.declared.change.Arrow.TheVariants as arrow
 use Rattle.gql_ast.specs.declared.change.Fill.{Fill}
 use Rattle.gql_ast.specs.declared.change.InsertPath.{InsertPath}
 use Rattle.gql_ast.specs.declared.change.InsertStep.{InsertStep}
-use Rattle.gql_front.specs.SymbolPlaces.{opening, closing, opening_bracket, closing_bracket, comma}
+use Rattle.gql_lexer.specs.SymbolPlaces.{opening, closing, opening_bracket, closing_bracket, comma}
 use Rattle.gql_front.specs.Tables.{Begins}
 use Rattle.gql_front.specs.Reading.{is_sign, after, op_at, many}
 use Rattle.gql_front.proofs.Found.{Sound, is_there}
 use Rattle.gql_front.proofs.Chains.{Many}
 use Rattle.gql_front.proofs.LexemeTests.{sign_is}
 use Rattle.gql_front.proofs.TableLemmas.{begins_read, read_begins, sign_row}
-use Rattle.gql_statements.specs.Parts.{Passes, IsListOf}
+use Rattle.gql_parts.specs.Parts.{Passes, IsListOf}
 use Rattle.gql_statements.specs.ChangeGrammar.{opening_of, closing_of, IsInsertStep, AreInsertSteps, IsInsertPath}
 use Rattle.gql_statements.specs.ChangeWords.{arrow_signs, arrow_in}
-use Rattle.gql_statements.specs.ChangeReaders.{insert_node_of, bracketed_of, insert_edge_of, insert_step_of, insert_steps_of, insert_path_of, insert_paths_of}
-use Rattle.gql_statements.proofs.PartLaws.{Stops, bind_then, finish, passes_after, after_passes, passes_shorter, stops_op}
-use Rattle.gql_statements.proofs.ListLaws.{listed_sound, listed_exact, list_shorter}
-use Rattle.gql_statements.proofs.ManyLaws.{many_sound, many_exact, many_shorter}
+use Rattle.gql_statements.specs.Machinery.ChangeReaders.{insert_node_of, bracketed_of, insert_edge_of, insert_step_of, insert_steps_of, insert_path_of, insert_paths_of}
+use Rattle.gql_parts.proofs.PartLaws.{Stops, bind_then, finish, passes_after, after_passes, passes_shorter, stops_op}
+use Rattle.gql_parts.proofs.ListLaws.{listed_sound, listed_exact, list_shorter}
+use Rattle.gql_parts.proofs.ManyLaws.{many_sound, many_exact, many_shorter}
 use Rattle.gql_statements.proofs.FillLaws.{Between, between_sound, between_exact, between_shorter}
 
 -- The symbol before an edge's brackets

@@ -1,7 +1,3 @@
-pub mod PartLaws
-pub mod ManyLaws
-pub mod ListLaws
-pub mod ValueLaws
 pub mod ClauseLaws
 pub mod PageLaws
 pub mod ReturnLaws
@@ -12,6 +8,4 @@ pub mod ChangeLaws
 pub mod FirstWords
 pub mod QueryLaws
 pub mod StatementLaws
-pub mod ListLoops
-pub mod ManyLoops
 pub mod QueryLoops

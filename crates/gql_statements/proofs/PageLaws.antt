@@ -9,21 +9,21 @@ use Rattle.gql_ast.specs.declared.page.SortItem.{SortItem}
 use Rattle.gql_ast.specs.declared.page.RowCount.{RowCount}
 use Rattle.gql_ast.specs.declared.page.Page.{Page}
 use Rattle.gql_ast.specs.declared.page.Page.TheVariants as page
-use Rattle.gql_front.specs.SymbolPlaces.{comma}
-use Rattle.gql_front.specs.WordPlaces.{BY, LIMIT, NULLS, OFFSET, SKIP}
+use Rattle.gql_lexer.specs.SymbolPlaces.{comma}
+use Rattle.gql_lexer.specs.WordPlaces.{BY, LIMIT, NULLS, OFFSET, SKIP}
 use Rattle.gql_front.specs.Tables.{Begins}
-use Rattle.gql_front.specs.Reading.{is_sign, is_word, after, op_at}
+use Rattle.gql_front.specs.Reading.{◌>>=◌, is_sign, is_word, after, op_at}
 use Rattle.gql_front.proofs.Found.{Sound, is_there}
 use Rattle.gql_front.proofs.TableLemmas.{begins_read, read_begins, begins_shorter, word_row}
 use Rattle.gql_exprs.proofs.ExprLists.{goes_or}
-use Rattle.gql_statements.specs.Parts.{Passes, IsOptional, IsListOf}
+use Rattle.gql_parts.specs.Parts.{Passes, IsOptional, IsListOf}
 use Rattle.gql_statements.specs.PartWords.{direction_words, direction_word, null_word, count_in, is_skip}
 use Rattle.gql_statements.specs.PageGrammar.{IsDirection, IsNullOrder, IsSortItem, IsSkip, IsLimit}
-use Rattle.gql_statements.specs.PartReaders.{read_value, led}
-use Rattle.gql_statements.specs.PageReaders.{or_ascending, direction_of, sort_item_of, sort_items_of, order_of, skip_of, limit_of, order_page_of, skip_page_of, limit_page_of}
-use Rattle.gql_statements.proofs.PartLaws.{Stops, left_stops, right_stops, Apart, bind_then, finish, passes_after, after_passes, passes_shorter, word_apart, passes_stops, begins_stops, optional_stops, optional_shorter, led_sound, led_exact}
-use Rattle.gql_statements.proofs.ListLaws.{listed_sound, listed_exact, list_shorter}
-use Rattle.gql_statements.proofs.ValueLaws.{value_sound, value_exact, value_shorter}
+use Rattle.gql_parts.specs.Machinery.PartReaders.{read_value, led}
+use Rattle.gql_statements.specs.Machinery.PageReaders.{or_ascending, direction_of, sort_item_of, sort_items_of, order_of, skip_of, limit_of, order_page_of, skip_page_of, limit_page_of}
+use Rattle.gql_parts.proofs.PartLaws.{Stops, left_stops, right_stops, Apart, bind_then, finish, passes_after, after_passes, passes_shorter, word_apart, passes_stops, begins_stops, optional_stops, optional_shorter, led_sound, led_exact}
+use Rattle.gql_parts.proofs.ListLaws.{listed_sound, listed_exact, list_shorter}
+use Rattle.gql_parts.proofs.ValueLaws.{value_sound, value_exact, value_shorter}
 
 -- Directions
 
@@ -109,7 +109,8 @@ sort_item_exact i ts s h stop =
     let null_stop = right_stops is_direction (is_word NULLS) s rest_stop in
     let b = nulls_stop is_direction (word_apart NULLS is_direction (λ x. refl)) i.nulls h.2 s h.4 direction_stop in
     let c = nulls_stop goes_or (word_apart NULLS goes_or (λ x. refl)) i.nulls h.2 s h.4 expr_stop in
-    rw (value_exact i.key ts h.0 h.1 (direction_stops i.direction h.0 h.2 h.3 c), direction_exact i.direction h.0 h.2 h.3 b, nulls_exact i.nulls h.2 s h.4 null_stop) refl
+    rw (value_exact i.key ts h.0 h.1 (direction_stops i.direction h.0 h.2 h.3 c), direction_exact i.direction h.0 h.2 h.3 b)
+    (ap (λ (o : Option (Option NullOrder × List Lexeme)). o >>= λ n. Some (record { key = i.key; direction = i.direction; nulls = n.0 }, n.1)) (nulls_exact i.nulls h.2 s h.4 null_stop))
 
 pub sort_item_shorter : (i : SortItem) (ts r : List Lexeme) → IsSortItem i ts r → length r < length ts
 sort_item_shorter i ts r h = omega (arith, value_shorter i.key ts h.0 h.1, direction_shorter i.direction h.0 h.2 h.3, nulls_shorter i.nulls h.2 r h.4)

@@ -7,7 +7,7 @@ use Rattle.gql_ast.specs.declared.clause.Clause.{Clause}
 use Rattle.gql_ast.specs.declared.clause.Clause.TheVariants as clause
 use Rattle.gql_ast.specs.declared.clause.Query.{Query}
 use Rattle.gql_ast.specs.declared.projection.Return.{Return}
-use Rattle.gql_front.specs.WordPlaces.{RETURN, SESSION}
+use Rattle.gql_lexer.specs.WordPlaces.{RETURN, SESSION}
 use Rattle.gql_front.specs.Reading.{◌>>=◌, is_word, after, op_at, many}
 use Rattle.gql_front.proofs.Chains.{Many}
 use Rattle.gql_front.proofs.Found.{Sound, some_is}
@@ -15,16 +15,16 @@ use Rattle.gql_front.proofs.LexemeTests.{word_is, cond_some_is}
 use Rattle.gql_front.proofs.TableLemmas.{word_row}
 use Rattle.gql_statements.specs.declared.clause_word.ClauseWord.{ClauseWord}
 use Rattle.gql_statements.specs.declared.clause_word.ClauseWord.TheVariants as begins
-use Rattle.gql_statements.specs.Parts.{Passes}
+use Rattle.gql_parts.specs.Parts.{Passes}
 use Rattle.gql_statements.specs.ClauseWords.{clause_words, clause_word}
 use Rattle.gql_statements.specs.ClauseGrammar.{IsClause, IsLast}
 use Rattle.gql_statements.specs.QueryGrammar.{is_page, no_pages_meet, AreClauses, IsQuery}
-use Rattle.gql_statements.specs.ClauseReaders.{begun, clause_of}
-use Rattle.gql_statements.specs.ReturnReaders.{return_of}
+use Rattle.gql_statements.specs.Machinery.ClauseReaders.{clause_behind, clause_of}
+use Rattle.gql_statements.specs.Machinery.ReturnReaders.{return_of}
 use Rattle.gql_ast.specs.LastClause.{is_change, ends_in_change}
-use Rattle.gql_statements.specs.QueryReaders.{clauses_of, return_or_change, ended_of, query_of}
-use Rattle.gql_statements.proofs.PartLaws.{Stops, bind_then, finish, passes_after, after_passes, word_apart, passes_stops}
-use Rattle.gql_statements.proofs.ManyLaws.{many_none, many_next, many_sound}
+use Rattle.gql_statements.specs.Machinery.QueryReaders.{clauses_of, return_or_change, with_last_clause_of, query_of}
+use Rattle.gql_parts.proofs.PartLaws.{Stops, bind_then, finish, passes_after, after_passes, word_apart, passes_stops}
+use Rattle.gql_parts.proofs.ManyLaws.{many_none, many_next, many_sound}
 use Rattle.gql_statements.proofs.PageLaws.{goes_page}
 use Rattle.gql_statements.proofs.ReturnLaws.{return_sound, return_exact}
 use Rattle.gql_statements.proofs.FirstWords.{Behind, parts_of, goes_other, goes_of, clause_sound, clause_exact, clause_shorter}
@@ -105,24 +105,24 @@ no_clause : (ts a : List Lexeme) → Passes (is_word RETURN) ts a → clause_of 
 unfolding clause_of
 no_clause ts a h =
     let w = word_is RETURN h.0 h.1 in
-    ap (λ z. op_at clause_word z >>= λ w. begun w.0 w.1) (h.2 ∙ ap (λ (t : Lexeme). t ∷ a) w.1)
+    ap (λ z. op_at clause_word z >>= λ w. clause_behind w.0 w.1) (h.2 ∙ ap (λ (t : Lexeme). t ∷ a) w.1)
 
 nothing_left : clause_of [] ≡ None
 unfolding clause_of
 nothing_left = refl
 
-return_ends : (ret : Return) (ts : List Lexeme) → IsLast (clause.Return ret) ts [] → ended_of [] ts ≡ Some (clause.Return ret ∷ [], [])
-unfolding ended_of
+return_ends : (ret : Return) (ts : List Lexeme) → IsLast (clause.Return ret) ts [] → with_last_clause_of [] ts ≡ Some (clause.Return ret ∷ [], [])
+unfolding with_last_clause_of
 return_ends ret ts h =
     rw (passes_after (is_word RETURN) ts h.0 h.1, return_exact ret h.0 (h.2, h.3, h.4, h.5, h.6, h.7, h.8, h.9, h.10, h.11, h.12)) refl
 
-change_ends : (c : ChangeClause) → ended_of (clause.Change c ∷ []) [] ≡ Some (clause.Change c ∷ [], [])
-unfolding ended_of
+change_ends : (c : ChangeClause) → with_last_clause_of (clause.Change c ∷ []) [] ≡ Some (clause.Change c ∷ [], [])
+unfolding with_last_clause_of
 change_ends c = refl
 
 -- a clause more before the others
-ended_cons : (c : Clause) (xs : List Clause) (ts : List Lexeme) (ys : List Clause) (s : List Lexeme) → ended_of xs ts ≡ Some (ys, s) → ended_of (c ∷ xs) ts ≡ Some (c ∷ ys, s)
-unfolding ended_of
+ended_cons : (c : Clause) (xs : List Clause) (ts : List Lexeme) (ys : List Clause) (s : List Lexeme) → with_last_clause_of xs ts ≡ Some (ys, s) → with_last_clause_of (c ∷ xs) ts ≡ Some (c ∷ ys, s)
+unfolding with_last_clause_of
 ended_cons c xs ts ys s e = go (after (is_word RETURN) ts) e
   where
     one : (zs : List Clause) (m : List Lexeme) → ◌≡◌ {A = Option (List Clause × List Lexeme)} (Some (zs, m)) (Some (ys, s)) → ◌≡◌ {A = Option (List Clause × List Lexeme)} (Some (c ∷ zs, m)) (Some (c ∷ ys, s))
@@ -149,7 +149,7 @@ record Split (b : ℕ) (ts : List Lexeme) (cs : List Clause) : Type 0 where
   first : List Clause
   middle : List Lexeme
   are_read : many clause_of b ts ≡ (first, middle)
-  is_ended : ended_of first middle ≡ Some (cs, [])
+  is_ended : with_last_clause_of first middle ≡ Some (cs, [])
 
 last_exact : (l : Clause) (b : ℕ) (ts : List Lexeme) → length ts ≤ b → IsLast l ts [] → Split b ts (l ∷ [])
 last_exact (clause.Return ret) b ts le h =
@@ -211,8 +211,8 @@ with_change [] ts s h e = absurd cc
 with_change (x ∷ []) ts s h e = change_last x ts s (subst (λ z. IsClause x ts z) h.2 h.1) e
 with_change (x ∷ y ∷ xs) ts s h e = (h.0, h.1, with_change (y ∷ xs) h.0 s h.2 e)
 
-ended_sound : (xs : List Clause) (ts m : List Lexeme) (ys : List Clause) (s : List Lexeme) → AreBefore xs ts m → ended_of xs m ≡ Some (ys, s) → AreClauses ys ts s
-unfolding ended_of
+ended_sound : (xs : List Clause) (ts m : List Lexeme) (ys : List Clause) (s : List Lexeme) → AreBefore xs ts m → with_last_clause_of xs m ≡ Some (ys, s) → AreClauses ys ts s
+unfolding with_last_clause_of
 ended_sound xs ts m ys s h e = go (after (is_word RETURN) m) refl e
   where
     go : (o : Option (List Lexeme)) → after (is_word RETURN) m ≡ o → return_or_change xs m o ≡ Some (ys, s) → AreClauses ys ts s
@@ -229,7 +229,7 @@ pub query_sound : Sound IsQuery query_of
 unfolding query_of clauses_of
 query_sound ts q r e =
     let read = many clause_of (length ts) ts in
-    bind_then (ended_of read.0 read.1) _ (q, r) e (λ cs p e.
+    bind_then (with_last_clause_of read.0 read.1) _ (q, r) e (λ cs p e.
     let k = cond_some_is (no_pages_meet cs.0) (record { clauses = cs.0 }, cs.1) (q, r) e in
     subst (λ (z : Query × List Lexeme). IsQuery z.0 ts z.1) k.1
     (k.0, ended_sound read.0 ts read.1 cs.0 cs.1 (many_sound clause_of IsClause AreBefore before_are clause_sound (length ts) ts) p))

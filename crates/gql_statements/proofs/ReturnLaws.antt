@@ -9,26 +9,26 @@ use Rattle.gql_ast.specs.declared.projection.ReturnItems.{ReturnItems}
 use Rattle.gql_ast.specs.declared.projection.ReturnItems.TheVariants as items
 use Rattle.gql_ast.specs.declared.words.SetQuantifier.{SetQuantifier}
 use Rattle.gql_ast.specs.declared.words.SetQuantifier.TheVariants as quantifier
-use Rattle.gql_front.specs.SymbolPlaces.{comma, star}
-use Rattle.gql_front.specs.WordPlaces.{ALL, AS, BY, DISTINCT, GROUP, LIMIT, ORDER}
+use Rattle.gql_lexer.specs.SymbolPlaces.{comma, star}
+use Rattle.gql_lexer.specs.WordPlaces.{ALL, AS, BY, DISTINCT, GROUP, LIMIT, ORDER}
 use Rattle.gql_front.specs.Tables.{Begins}
 use Rattle.gql_front.specs.Reading.{is_sign, is_word, name_in, after, op_at}
 use Rattle.gql_front.proofs.Found.{Sound}
 use Rattle.gql_front.proofs.TableLemmas.{begins_read, read_begins, begins_shorter, word_row}
 use Rattle.gql_exprs.specs.ExprWords.{quantifier_words, quantifier_op}
 use Rattle.gql_exprs.specs.Grammar.{IsQuantifier}
-use Rattle.gql_exprs.specs.Readers.{quantifier_or_all, quantifier_of}
+use Rattle.gql_exprs.specs.Machinery.Readers.{quantifier_or_all, quantifier_of}
 use Rattle.gql_exprs.proofs.ExprLists.{goes_or}
-use Rattle.gql_statements.specs.Parts.{Passes, IsOptional, IsListOf}
+use Rattle.gql_parts.specs.Parts.{Passes, IsOptional, IsListOf}
 use Rattle.gql_statements.specs.PartWords.{is_skip}
 use Rattle.gql_statements.specs.PageGrammar.{IsOrder, IsSkip, IsLimit}
 use Rattle.gql_statements.specs.ReturnGrammar.{IsAlias, IsReturnItem, AreReturnItems, IsGrouping}
-use Rattle.gql_statements.specs.PartReaders.{read_value, listed}
-use Rattle.gql_statements.specs.PageReaders.{order_of, skip_of, limit_of}
-use Rattle.gql_statements.specs.ReturnReaders.{alias_of, return_item_of, return_list_of, all_or_listed, return_items_of, names_of, grouped_of, grouping_of, ordering_of, return_of}
-use Rattle.gql_statements.proofs.PartLaws.{Stops, nothing, nothing_stops, left_stops, right_stops, Apart, Led, bind_then, finish, passes_after, after_passes, passes_shorter, stops_after, word_apart, sign_apart, passes_stops, optional_stops, optional_shorter, led_sound, led_exact, led_stops}
-use Rattle.gql_statements.proofs.ListLaws.{listed_sound, listed_exact}
-use Rattle.gql_statements.proofs.ValueLaws.{value_sound, value_exact, value_shorter, value_begins}
+use Rattle.gql_parts.specs.Machinery.PartReaders.{read_value, listed}
+use Rattle.gql_statements.specs.Machinery.PageReaders.{order_of, skip_of, limit_of}
+use Rattle.gql_statements.specs.Machinery.ReturnReaders.{alias_of, return_item_of, return_list_of, all_or_listed, return_items_of, names_of, grouped_of, grouping_of, ordering_of, return_of}
+use Rattle.gql_parts.proofs.PartLaws.{Stops, nothing, nothing_stops, left_stops, right_stops, Apart, Led, bind_then, finish, passes_after, after_passes, passes_shorter, stops_after, word_apart, sign_apart, passes_stops, optional_stops, optional_shorter, led_sound, led_exact, led_stops}
+use Rattle.gql_parts.proofs.ListLaws.{listed_sound, listed_exact}
+use Rattle.gql_parts.proofs.ValueLaws.{value_sound, value_exact, value_shorter, value_begins}
 use Rattle.gql_statements.proofs.PageLaws.{Ordered, goes_order, order_sound, order_exact, skip_apart, skip_sound, skip_exact, skip_stops, limit_sound, limit_exact, limit_stops}
 
 -- DISTINCT and ALL

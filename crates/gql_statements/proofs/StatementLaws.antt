@@ -6,8 +6,8 @@ use Rattle.gql_ast.specs.declared.statement.SessionStatement.{SessionStatement}
 use Rattle.gql_ast.specs.declared.statement.SessionStatement.TheVariants as session
 use Rattle.gql_ast.specs.declared.statement.Statement.{Statement}
 use Rattle.gql_ast.specs.declared.statement.Statement.TheVariants as statement
-use Rattle.gql_front.specs.SymbolPlaces.{equal}
-use Rattle.gql_front.specs.WordPlaces.{CLOSE, RESET, SESSION, SET, VALUE}
+use Rattle.gql_lexer.specs.SymbolPlaces.{equal}
+use Rattle.gql_lexer.specs.WordPlaces.{CLOSE, RESET, SESSION, SET, VALUE}
 use Rattle.gql_ast.specs.declared.parse_fault.ParseFault.{ParseFault}
 use Rattle.gql_ast.specs.declared.parse_fault.ParseFault.TheVariants as fault
 use Rattle.gql_front.specs.Gives.{Fails, IsSyntax, IsDeep}
@@ -18,17 +18,17 @@ use Rattle.gql_front.proofs.LexemeTests.{word_is}
 use Rattle.gql_front.proofs.TableLemmas.{begins_read, read_begins, word_row}
 use Rattle.gql_statements.specs.declared.session_word.SessionWord.{SessionWord}
 use Rattle.gql_statements.specs.declared.session_word.SessionWord.TheVariants as says
-use Rattle.gql_statements.specs.Parts.{Passes}
-use Rattle.gql_statements.specs.Values.{IsValue}
+use Rattle.gql_parts.specs.Parts.{Passes}
+use Rattle.gql_parts.specs.Values.{IsValue}
 use Rattle.gql_statements.specs.PartWords.{param_in}
 use Rattle.gql_statements.specs.SessionWords.{session_words, session_word}
 use Rattle.gql_statements.specs.SessionGrammar.{IsSession}
 use Rattle.gql_statements.specs.StatementGrammar.{IsStatement, Derives}
-use Rattle.gql_statements.specs.PartReaders.{read_value}
-use Rattle.gql_statements.specs.QueryReaders.{query_of}
-use Rattle.gql_statements.specs.StatementReaders.{set_of, said, session_of, query_or_session, statement_of}
-use Rattle.gql_statements.proofs.PartLaws.{bind_then, finish, passes_after, after_passes, stops_after}
-use Rattle.gql_statements.proofs.ValueLaws.{value_sound, value_exact}
+use Rattle.gql_parts.specs.Machinery.PartReaders.{read_value}
+use Rattle.gql_statements.specs.Machinery.QueryReaders.{query_of}
+use Rattle.gql_statements.specs.Machinery.StatementReaders.{set_of, said, session_of, query_or_session, statement_of}
+use Rattle.gql_parts.proofs.PartLaws.{bind_then, finish, passes_after, after_passes, stops_after}
+use Rattle.gql_parts.proofs.ValueLaws.{value_sound, value_exact}
 use Rattle.gql_statements.proofs.QueryLaws.{query_sound, query_exact, query_begins}
 
 -- SESSION

@@ -22,14 +22,14 @@ use Rattle.gql_ast.specs.declared.change.RemoveItem.{RemoveItem}
 use Rattle.gql_ast.specs.declared.change.RemoveItem.TheVariants as remove_item
 use Rattle.gql_ast.specs.declared.change.SetItem.{SetItem}
 use Rattle.gql_ast.specs.declared.change.SetItem.TheVariants as set_item
-use Rattle.gql_front.specs.SymbolPlaces.{opening, closing, opening_bracket, closing_bracket, minus, tilde, left_arrow, right_arrow, ampersand, dot, equal}
-use Rattle.gql_front.specs.WordPlaces as word
+use Rattle.gql_lexer.specs.SymbolPlaces.{opening, closing, opening_bracket, closing_bracket, minus, tilde, left_arrow, right_arrow, ampersand, dot, equal}
+use Rattle.gql_lexer.specs.WordPlaces as word
 use Rattle.gql_front.specs.Tables.{Begins}
 use Rattle.gql_front.specs.Reading.{is_sign, is_word, name_in, any_name_in}
-use Rattle.gql_statements.specs.Parts.{Passes, MayPass, IsOptional, IsListOf}
-use Rattle.gql_statements.specs.Values.{IsValue}
-use Rattle.gql_statements.specs.PartWords.{is_colon}
-use Rattle.gql_statements.specs.MatchGrammar.{IsMap}
+use Rattle.gql_parts.specs.Parts.{Passes, MayPass, IsOptional, IsListOf}
+use Rattle.gql_parts.specs.Values.{IsValue}
+use Rattle.gql_parts.specs.PartWords.{is_colon}
+use Rattle.gql_parts.specs.FillerGrammar.{IsMap}
 
 -- {"&" Any}*
 abbrev pub AreMoreLabels : List (List ℕ) → List Lexeme → List Lexeme → Type 0

@@ -3,7 +3,7 @@ use Rattle.std.specs.Prelude.{ℕ, List, [], ◌∷◌, Option}
 use Rattle.gql_lexer.specs.declared.lexeme.Lexeme.{Lexeme}
 use Rattle.gql_ast.specs.declared.change.Arrow.{Arrow}
 use Rattle.gql_ast.specs.declared.change.Arrow.TheVariants as arrow
-use Rattle.gql_front.specs.SymbolPlaces.{minus, tilde, left_arrow}
+use Rattle.gql_lexer.specs.SymbolPlaces.{minus, tilde, left_arrow}
 use Rattle.gql_front.specs.Tables.{sign_in}
 
 -- the symbols before an edge's brackets

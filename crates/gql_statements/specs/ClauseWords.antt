@@ -2,7 +2,7 @@
 use Rattle.std.specs.Prelude.{ℕ, List, [], ◌∷◌, Option}
 use Rattle.gql_lexer.specs.declared.lexeme.Lexeme.{Lexeme}
 use Rattle.gql_ast.specs.declared.change.Detachment.TheVariants as detachment
-use Rattle.gql_front.specs.WordPlaces as word
+use Rattle.gql_lexer.specs.WordPlaces as word
 use Rattle.gql_front.specs.Tables.{word_in}
 use Rattle.gql_statements.specs.declared.change_word.ChangeWord.TheVariants as changes
 use Rattle.gql_statements.specs.declared.clause_word.ClauseWord.{ClauseWord}

@@ -5,11 +5,11 @@ use Rattle.std.specs.Prelude.{ℕ, List}
 use Rattle.gql_lexer.specs.declared.lexeme.Lexeme.{Lexeme}
 use Rattle.gql_ast.specs.declared.clause.Counting.{Counting}
 use Rattle.gql_ast.specs.declared.clause.For.{For}
-use Rattle.gql_front.specs.WordPlaces.{FOR, IN, WITH}
+use Rattle.gql_lexer.specs.WordPlaces.{FOR, IN, WITH}
 use Rattle.gql_front.specs.Tables.{Begins}
 use Rattle.gql_front.specs.Reading.{is_word, name_in}
-use Rattle.gql_statements.specs.Parts.{Passes, IsOptional}
-use Rattle.gql_statements.specs.Values.{IsValue}
+use Rattle.gql_parts.specs.Parts.{Passes, IsOptional}
+use Rattle.gql_parts.specs.Values.{IsValue}
 use Rattle.gql_statements.specs.PartWords.{counting_word}
 
 -- WITH (ORDINALITY or OFFSET) Name

@@ -1,5 +1,3 @@
-pub mod Parts
-pub mod Values
 pub mod PartWords
 pub mod LetGrammar
 pub mod FilterGrammar
@@ -15,11 +13,4 @@ pub mod StatementGrammar
 pub mod ChangeWords
 pub mod ClauseWords
 pub mod SessionWords
-pub mod PartReaders
-pub mod PageReaders
-pub mod MatchReaders
-pub mod ReturnReaders
-pub mod ChangeReaders
-pub mod ClauseReaders
-pub mod QueryReaders
-pub mod StatementReaders
+pub mod Machinery

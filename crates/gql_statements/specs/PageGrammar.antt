@@ -13,11 +13,11 @@ use Rattle.gql_ast.specs.declared.page.SortItem.{SortItem}
 use Rattle.gql_ast.specs.declared.page.RowCount.{RowCount}
 use Rattle.gql_ast.specs.declared.page.Page.{Page}
 use Rattle.gql_ast.specs.declared.page.Page.TheVariants as page
-use Rattle.gql_front.specs.WordPlaces.{BY, LIMIT, NULLS, ORDER}
+use Rattle.gql_lexer.specs.WordPlaces.{BY, LIMIT, NULLS, ORDER}
 use Rattle.gql_front.specs.Tables.{Begins}
 use Rattle.gql_front.specs.Reading.{is_word}
-use Rattle.gql_statements.specs.Parts.{Passes, IsOptional, IsListOf}
-use Rattle.gql_statements.specs.Values.{IsValue}
+use Rattle.gql_parts.specs.Parts.{Passes, IsOptional, IsListOf}
+use Rattle.gql_parts.specs.Values.{IsValue}
 use Rattle.gql_statements.specs.PartWords.{direction_word, null_word, count_in, is_skip}
 
 -- no word says the same as ASC

@@ -10,10 +10,9 @@ use Rattle.gql_ast.specs.declared.page.NullOrder.{NullOrder}
 use Rattle.gql_ast.specs.declared.page.NullOrder.TheVariants as nulls
 use Rattle.gql_ast.specs.declared.page.RowCount.{RowCount}
 use Rattle.gql_ast.specs.declared.page.RowCount.TheVariants as count
-use Rattle.gql_front.specs.SymbolPlaces.{colon}
-use Rattle.gql_front.specs.WordPlaces as word
+use Rattle.gql_lexer.specs.WordPlaces as word
 use Rattle.gql_front.specs.Tables.{word_in}
-use Rattle.gql_front.specs.Reading.{is_sign, is_word}
+use Rattle.gql_front.specs.Reading.{is_word}
 
 -- from where FOR counts
 abbrev pub counting_words : List (ℕ × Counting)
@@ -52,7 +51,3 @@ param_in _ = None
 -- OFFSET or SKIP, which say the same
 abbrev pub is_skip : Lexeme → Bool
 is_skip t = is_word word.OFFSET t || is_word word.SKIP t
-
--- ":" or IS before labels, which say the same
-abbrev pub is_colon : Lexeme → Bool
-is_colon t = is_sign colon t || is_word word.IS t

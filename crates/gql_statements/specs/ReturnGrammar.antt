@@ -7,13 +7,13 @@ use Rattle.gql_ast.specs.declared.projection.Return.{Return}
 use Rattle.gql_ast.specs.declared.projection.ReturnItem.{ReturnItem}
 use Rattle.gql_ast.specs.declared.projection.ReturnItems.{ReturnItems}
 use Rattle.gql_ast.specs.declared.projection.ReturnItems.TheVariants as items
-use Rattle.gql_front.specs.SymbolPlaces.{star}
-use Rattle.gql_front.specs.WordPlaces.{AS, BY, GROUP, RETURN}
+use Rattle.gql_lexer.specs.SymbolPlaces.{star}
+use Rattle.gql_lexer.specs.WordPlaces.{AS, BY, GROUP, RETURN}
 use Rattle.gql_front.specs.Tables.{Begins}
 use Rattle.gql_front.specs.Reading.{is_sign, is_word, name_in}
 use Rattle.gql_exprs.specs.Grammar.{IsQuantifier}
-use Rattle.gql_statements.specs.Parts.{Passes, IsOptional, IsListOf}
-use Rattle.gql_statements.specs.Values.{IsValue}
+use Rattle.gql_parts.specs.Parts.{Passes, IsOptional, IsListOf}
+use Rattle.gql_parts.specs.Values.{IsValue}
 use Rattle.gql_statements.specs.PageGrammar.{IsOrder, IsSkip, IsLimit}
 
 -- AS Name

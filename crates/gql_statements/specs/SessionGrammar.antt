@@ -5,12 +5,12 @@ use Rattle.std.specs.Prelude.{List}
 use Rattle.gql_lexer.specs.declared.lexeme.Lexeme.{Lexeme}
 use Rattle.gql_ast.specs.declared.statement.SessionStatement.{SessionStatement}
 use Rattle.gql_ast.specs.declared.statement.SessionStatement.TheVariants as session
-use Rattle.gql_front.specs.SymbolPlaces.{equal}
-use Rattle.gql_front.specs.WordPlaces.{CLOSE, RESET, SESSION, SET, VALUE}
+use Rattle.gql_lexer.specs.SymbolPlaces.{equal}
+use Rattle.gql_lexer.specs.WordPlaces.{CLOSE, RESET, SESSION, SET, VALUE}
 use Rattle.gql_front.specs.Tables.{Begins}
 use Rattle.gql_front.specs.Reading.{is_sign, is_word}
-use Rattle.gql_statements.specs.Parts.{Passes}
-use Rattle.gql_statements.specs.Values.{IsValue}
+use Rattle.gql_parts.specs.Parts.{Passes}
+use Rattle.gql_parts.specs.Values.{IsValue}
 use Rattle.gql_statements.specs.PartWords.{param_in}
 
 -- SESSION SET GRAPH comes at a later stage

@@ -1,7 +1,7 @@
 -- SessionWords: the words behind SESSION.
 use Rattle.std.specs.Prelude.{ℕ, List, [], ◌∷◌, Option}
 use Rattle.gql_lexer.specs.declared.lexeme.Lexeme.{Lexeme}
-use Rattle.gql_front.specs.WordPlaces as word
+use Rattle.gql_lexer.specs.WordPlaces as word
 use Rattle.gql_front.specs.Tables.{word_in}
 use Rattle.gql_statements.specs.declared.session_word.SessionWord.{SessionWord}
 use Rattle.gql_statements.specs.declared.session_word.SessionWord.TheVariants as says

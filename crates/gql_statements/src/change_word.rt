@@ -1,14 +1,15 @@
 //! The words that begin a change, and what stands behind them.
 
 ghost use Rattle.std.specs.Prelude.{◌≡◌, ◌<◌, length, IfOk};
-ghost use Rattle.gql_front.specs.Gives.{Gives};
-ghost use Rattle.gql_statements.specs.ChangeReaders.{changed};
+ghost use Rattle.gql_front.specs.Reads.{Reads};
+ghost use Rattle.gql_statements.specs.Machinery.ChangeReaders.{change_behind};
 
 use crate::delete_clause::{delete, delete_behind};
 use crate::insert_clause::insert_paths;
 use crate::remove_clause::remove_items;
 use crate::set_clause::set_items;
 use gql_ast::{ChangeClause, Detachment, ParseFault};
+use gql_front::ParseResult;
 use gql_lexer::Lexeme;
 use std::alloc::Global;
 
@@ -24,13 +25,12 @@ pub enum ChangeWord {
 }
 
 /// A change behind its first word.
-pub fn changed<'a>(
+pub fn change_behind<'a>(
     alloc: Global,
     word: ChangeWord,
     rest: &'a [Lexeme],
-) -> Result<(ChangeClause, &'a [Lexeme]), ParseFault>
-    ensures given { Gives (λ x. (x.0, x.1.now)) result (changed word rest.now) }
-    ensures shorter { IfOk result (λ x. length x.1.now < length rest.now) }
+) -> ParseResult<'a, ChangeClause>
+    ensures { Reads result rest.now (change_behind word) }
 {
     match word {
         ChangeWord::Insert => {

@@ -1,10 +1,10 @@
 //! A clause of a query.
 
 ghost use Rattle.std.specs.Prelude.{◌≡◌, ◌<◌, length, IfOk};
-ghost use Rattle.gql_front.specs.Gives.{Gives};
-ghost use Rattle.gql_statements.specs.ClauseReaders.{begun, clause_of};
+ghost use Rattle.gql_front.specs.Reads.{Reads};
+ghost use Rattle.gql_statements.specs.Machinery.ClauseReaders.{clause_behind, clause_of};
 
-use crate::change_word::changed;
+use crate::change_word::change_behind;
 use crate::clause_word::{ClauseWord, clause_word_at};
 use crate::filter_clause::filter;
 use crate::for_clause::for_items;
@@ -12,27 +12,26 @@ use crate::let_clause::let_items;
 use crate::match_clause::match_node;
 use crate::page_clause::{limit_page, order_page, skip_page};
 use gql_ast::{Clause, ParseFault};
+use gql_front::ParseResult;
 use gql_lexer::Lexeme;
 use std::alloc::Global;
 
+/// The items of clauses.
+#[derive(Clone, Copy)]
+pub struct Clauses;
+
 /// The clause at the front, other than RETURN. `Syntax` comes exactly where none is.
-#[tactic(auto, unfolding(crate::specs::ClauseReaders::clause_of))]
-pub fn clause<'a>(alloc: Global, rest: &'a [Lexeme]) -> Result<(Clause, &'a [Lexeme]), ParseFault>
-    ensures given { Gives (λ x. (x.0, x.1.now)) result (clause_of rest.now) }
-    ensures shorter { IfOk result (λ x. length x.1.now < length rest.now) }
+#[tactic(auto, unfolding(crate::specs::Machinery::ClauseReaders::clause_of))]
+pub fn clause<'a>(alloc: Global, rest: &'a [Lexeme]) -> ParseResult<'a, Clause>
+    ensures { Reads result rest.now clause_of }
 {
     let (word, rest) = clause_word_at(rest)?;
-    begun(alloc, word, rest)
+    clause_behind(alloc, word, rest)
 }
 
 /// A clause behind its first word.
-fn begun<'a>(
-    alloc: Global,
-    word: ClauseWord,
-    rest: &'a [Lexeme],
-) -> Result<(Clause, &'a [Lexeme]), ParseFault>
-    ensures given { Gives (λ x. (x.0, x.1.now)) result (begun word rest.now) }
-    ensures shorter { IfOk result (λ x. length x.1.now < length rest.now) }
+fn clause_behind<'a>(alloc: Global, word: ClauseWord, rest: &'a [Lexeme]) -> ParseResult<'a, Clause>
+    ensures { Reads result rest.now (clause_behind word) }
 {
     match word {
         ClauseWord::Match => {
@@ -64,7 +63,7 @@ fn begun<'a>(
             Ok((Clause::Page(page), rest))
         }
         ClauseWord::Change(word) => {
-            let (change, rest) = changed(alloc, word, rest)?;
+            let (change, rest) = change_behind(alloc, word, rest)?;
             Ok((Clause::Change(change), rest))
         }
     }

@@ -3,17 +3,17 @@
 ghost use Rattle.std.specs.Prelude.{◌≡◌, ◌<◌, length, IfOk};
 ghost use Rattle.gql_front.specs.Tables.{entry};
 ghost use Rattle.gql_front.specs.Reading.{op_at};
-ghost use Rattle.gql_front.specs.Gives.{Takes};
+ghost use Rattle.gql_front.specs.Reads.{Takes};
 ghost use Rattle.gql_statements.specs.ClauseWords.{clause_words, clause_word};
 
 use crate::change_word::ChangeWord;
 use gql_ast::Detachment;
 use gql_front::NoFront;
-use gql_front::words::{
+use gql_lexer::Lexeme;
+use gql_lexer::words::{
     DELETE, DETACH, FILTER, FOR, INSERT, LET, LIMIT, MATCH, NODETACH, OFFSET, ORDER, REMOVE, SET,
     SKIP,
 };
-use gql_lexer::Lexeme;
 
 /// What a reserved word at the front begins a clause of.
 #[derive(Clone, Copy, Debug, PartialEq, Eq)]
@@ -54,8 +54,7 @@ fn clause_word(place: u32) -> Option<ClauseWord>
 
 /// What the word at the front begins.
 pub fn clause_word_at(rest: &[Lexeme]) -> Result<(ClauseWord, &[Lexeme]), NoFront>
-    ensures given { Takes (λ x. (x.0, x.1.now)) result (op_at clause_word rest.now) }
-    ensures shorter { IfOk result (λ x. length x.1.now < length rest.now) }
+    ensures { Takes result rest.now (op_at clause_word) }
 {
     if let [Lexeme::Word { place, .. }, after @ ..] = rest {
         if let Some(word) = clause_word(*place) {

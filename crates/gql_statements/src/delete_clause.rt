@@ -1,27 +1,28 @@
 //! DELETE.
 
 ghost use Rattle.std.specs.Prelude.{◌≡◌, ◌<◌, length, IfOk};
-ghost use Rattle.gql_front.specs.Gives.{Gives};
-ghost use Rattle.gql_statements.specs.ChangeReaders.{delete_of, delete_behind_of};
+ghost use Rattle.gql_front.specs.Reads.{Reads};
+ghost use Rattle.gql_statements.specs.Machinery.ChangeReaders.{delete_of, delete_behind_of};
 
-use crate::item::list;
+use crate::clause::Clauses;
 use gql_ast::{ChangeClause, Detachment, ParseFault};
-use gql_front::after_word;
-use gql_front::words::DELETE;
+use gql_front::{ParseResult, after_word};
 use gql_lexer::Lexeme;
+use gql_lexer::words::DELETE;
+use gql_parts::list;
+use gql_values3::Text;
 use std::alloc::Global;
 
 /// The variables of a DELETE, behind that word.
-#[tactic(auto, unfolding(crate::specs::ChangeReaders::delete_of, crate::specs::ReturnReaders::names_of))]
+#[tactic(auto, unfolding(crate::specs::Machinery::ChangeReaders::delete_of, crate::specs::Machinery::ReturnReaders::names_of))]
 pub fn delete<'a>(
     alloc: Global,
     detachment: Detachment,
     rest: &'a [Lexeme],
-) -> Result<(ChangeClause, &'a [Lexeme]), ParseFault>
-    ensures given { Gives (λ x. (x.0, x.1.now)) result (delete_of detachment rest.now) }
-    ensures shorter { IfOk result (λ x. length x.1.now < length rest.now) }
+) -> ParseResult<'a, ChangeClause>
+    ensures { Reads result rest.now (delete_of detachment) }
 {
-    let (names, rest) = list(alloc, rest)?;
+    let (names, rest) = list::<Clauses, Text>(alloc, rest)?;
     Ok((ChangeClause::Delete(detachment, names), rest))
 }
 
@@ -30,9 +31,8 @@ pub fn delete_behind<'a>(
     alloc: Global,
     detachment: Detachment,
     rest: &'a [Lexeme],
-) -> Result<(ChangeClause, &'a [Lexeme]), ParseFault>
-    ensures given { Gives (λ x. (x.0, x.1.now)) result (delete_behind_of detachment rest.now) }
-    ensures shorter { IfOk result (λ x. length x.1.now < length rest.now) }
+) -> ParseResult<'a, ChangeClause>
+    ensures { Reads result rest.now (delete_behind_of detachment) }
 {
     let rest = after_word(DELETE, rest)?;
     delete(alloc, detachment, rest)

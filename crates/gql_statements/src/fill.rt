@@ -1,22 +1,21 @@
 //! What stands between the brackets of an element to be inserted.
 
 ghost use Rattle.std.specs.Prelude.{◌≡◌, ◌<◌, ◌≤◌, length, IfOk};
-ghost use Rattle.gql_front.specs.Gives.{Gives, Takes};
-ghost use Rattle.gql_statements.specs.ChangeReaders.{other_label_of, labels_from, label_names_of, fill_labels_of, fill_map_of, fill_of};
+ghost use Rattle.gql_front.specs.Reads.{Reads, MayRead, TakesAs};
+ghost use Rattle.gql_statements.specs.Machinery.ChangeReaders.{other_label_of, labels_from, label_names_of, fill_labels_of, fill_map_of, fill_of};
 
-use crate::filler::{after_colon, map, variable};
 use gql_ast::{Fill, Map, ParseFault};
-use gql_front::symbols::{AMPERSAND, OPENING_BRACE};
-use gql_front::{NoFront, after_sign, any_name};
+use gql_front::{NoFront, ParseResult, after_sign, any_name};
 use gql_lexer::Lexeme;
+use gql_lexer::symbols::{AMPERSAND, OPENING_BRACE};
+use gql_parts::{after_colon, map, variable};
 use gql_values3::{Names, OutOfMemory, Sequence, Text};
 use std::alloc::Global;
 
 /// The variable, the labels and the map, each if it is there.
-#[tactic(auto, unfolding(crate::specs::ChangeReaders::fill_of))]
-pub fn fill<'a>(alloc: Global, rest: &'a [Lexeme]) -> Result<(Fill, &'a [Lexeme]), ParseFault>
-    ensures given { Gives (λ x. (x.0, x.1.now)) result (fill_of rest.now) }
-    ensures shorter { IfOk result (λ x. length x.1.now ≤ length rest.now) }
+#[tactic(auto, unfolding(crate::specs::Machinery::ChangeReaders::fill_of))]
+pub fn fill<'a>(alloc: Global, rest: &'a [Lexeme]) -> ParseResult<'a, Fill>
+    ensures { MayRead result rest.now fill_of }
 {
     let (variable, rest) = variable(alloc, rest)?;
     let (labels, rest) = fill_labels(alloc, rest)?;
@@ -32,46 +31,41 @@ pub fn fill<'a>(alloc: Global, rest: &'a [Lexeme]) -> Result<(Fill, &'a [Lexeme]
 }
 
 /// A map, or nothing.
-#[tactic(auto, unfolding(crate::specs::ChangeReaders::fill_map_of))]
-fn fill_map<'a>(
-    alloc: Global,
-    rest: &'a [Lexeme],
-) -> Result<(Option<Map>, &'a [Lexeme]), ParseFault>
-    ensures given { Gives (λ x. (x.0, x.1.now)) result (fill_map_of rest.now) }
-    ensures shorter { IfOk result (λ x. length x.1.now ≤ length rest.now) }
+#[tactic(auto, unfolding(crate::specs::Machinery::ChangeReaders::fill_map_of))]
+fn fill_map<'a>(alloc: Global, rest: &'a [Lexeme]) -> ParseResult<'a, Option<Map>>
+    ensures { MayRead result rest.now fill_map_of }
 {
     match after_sign(OPENING_BRACE, rest) {
-        Ok(behind) => {
-            let (items, behind) = map(alloc, behind)?;
-            Ok((Some(items), behind))
-        }
+        Ok(behind) => match map(alloc, behind) {
+            Ok((items, behind)) => Ok((Some(items), behind)),
+            Err(ParseFault::Syntax) => Ok((None, rest)),
+            Err(ParseFault::Deep) => unreachable!(),
+            Err(ParseFault::OutOfMemory) => Err(ParseFault::OutOfMemory),
+        },
         Err(NoFront) => Ok((None, rest)),
     }
 }
 
 /// A colon or IS and labels, or nothing.
-#[tactic(auto, unfolding(crate::specs::ChangeReaders::fill_labels_of))]
-fn fill_labels<'a>(
-    alloc: Global,
-    rest: &'a [Lexeme],
-) -> Result<(Option<Names>, &'a [Lexeme]), ParseFault>
-    ensures given { Gives (λ x. (x.0, x.1.now)) result (fill_labels_of rest.now) }
-    ensures shorter { IfOk result (λ x. length x.1.now ≤ length rest.now) }
+#[tactic(auto, unfolding(crate::specs::Machinery::ChangeReaders::fill_labels_of))]
+fn fill_labels<'a>(alloc: Global, rest: &'a [Lexeme]) -> ParseResult<'a, Option<Names>>
+    ensures { MayRead result rest.now fill_labels_of }
 {
     match after_colon(rest) {
-        Ok(behind) => {
-            let (labels, behind) = label_names(alloc, behind)?;
-            Ok((Some(labels), behind))
-        }
+        Ok(behind) => match label_names(alloc, behind) {
+            Ok((labels, behind)) => Ok((Some(labels), behind)),
+            Err(ParseFault::Syntax) => Ok((None, rest)),
+            Err(ParseFault::Deep) => unreachable!(),
+            Err(ParseFault::OutOfMemory) => Err(ParseFault::OutOfMemory),
+        },
         Err(NoFront) => Ok((None, rest)),
     }
 }
 
 /// Labels between `&`.
-#[tactic(auto, unfolding(crate::specs::ChangeReaders::label_names_of))]
-fn label_names<'a>(alloc: Global, rest: &'a [Lexeme]) -> Result<(Names, &'a [Lexeme]), ParseFault>
-    ensures given { Gives (λ x. (x.0, x.1.now)) result (label_names_of rest.now) }
-    ensures shorter { IfOk result (λ x. length x.1.now < length rest.now) }
+#[tactic(auto, unfolding(crate::specs::Machinery::ChangeReaders::label_names_of))]
+fn label_names<'a>(alloc: Global, rest: &'a [Lexeme]) -> ParseResult<'a, Names>
+    ensures { Reads result rest.now label_names_of }
 {
     let (first, rest) = any_name(rest)?;
     let (labels, rest) = labels_from(alloc, first, rest)?;
@@ -100,10 +94,9 @@ fn labels_from<'a>(
 }
 
 /// `&` and a label.
-#[tactic(auto, unfolding(crate::specs::ChangeReaders::other_label_of))]
+#[tactic(auto, unfolding(crate::specs::Machinery::ChangeReaders::other_label_of))]
 fn other_label(rest: &[Lexeme]) -> Result<(&Text, &[Lexeme]), NoFront>
-    ensures given { Takes (λ x. (x.0.now, x.1.now)) result (other_label_of rest.now) }
-    ensures shorter { IfOk result (λ x. length x.1.now < length rest.now) }
+    ensures { TakesAs (λ x. x.now) result rest.now other_label_of }
 {
     let rest = after_sign(AMPERSAND, rest)?;
     any_name(rest)

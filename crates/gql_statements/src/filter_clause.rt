@@ -1,24 +1,23 @@
 //! FILTER.
 
 ghost use Rattle.std.specs.Prelude.{◌≡◌, ◌<◌, ◌≤◌, length, IfOk};
-ghost use Rattle.gql_front.specs.Gives.{Gives};
+ghost use Rattle.gql_front.specs.Reads.{Reads};
 ghost use Rattle.gql_front.specs.Reading.{is_word};
-ghost use Rattle.gql_front.specs.WordPlaces.{WHERE as where_word};
-ghost use Rattle.gql_statements.specs.PartReaders.{past};
-ghost use Rattle.gql_statements.specs.ClauseReaders.{filter_of};
+ghost use Rattle.gql_lexer.specs.WordPlaces.{WHERE as where_word};
+ghost use Rattle.gql_parts.specs.Machinery.PartReaders.{past};
+ghost use Rattle.gql_statements.specs.Machinery.ClauseReaders.{filter_of};
 
-use crate::value::value;
 use gql_ast::{Expr, ParseFault};
-use gql_front::words::WHERE;
-use gql_front::{NoFront, after_word};
+use gql_front::{NoFront, ParseResult, after_word};
 use gql_lexer::Lexeme;
+use gql_lexer::words::WHERE;
+use gql_parts::value;
 use std::alloc::Global;
 
 /// The condition of a FILTER, behind that word.
-#[tactic(auto, unfolding(crate::specs::ClauseReaders::filter_of))]
-pub fn filter<'a>(alloc: Global, rest: &'a [Lexeme]) -> Result<(Expr, &'a [Lexeme]), ParseFault>
-    ensures given { Gives (λ x. (x.0, x.1.now)) result (filter_of rest.now) }
-    ensures shorter { IfOk result (λ x. length x.1.now < length rest.now) }
+#[tactic(auto, unfolding(crate::specs::Machinery::ClauseReaders::filter_of))]
+pub fn filter<'a>(alloc: Global, rest: &'a [Lexeme]) -> ParseResult<'a, Expr>
+    ensures { Reads result rest.now filter_of }
 {
     value(alloc, past_where(rest))
 }

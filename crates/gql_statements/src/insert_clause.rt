@@ -1,34 +1,32 @@
 //! INSERT.
 
 ghost use Rattle.std.specs.Prelude.{◌≡◌, ◌<◌, ◌≤◌, length, IfOk};
-ghost use Rattle.gql_front.specs.Gives.{Gives, Takes};
+ghost use Rattle.gql_front.specs.Reads.{Reads, Takes};
 ghost use Rattle.gql_front.specs.Reading.{op_at};
 ghost use Rattle.gql_statements.specs.ChangeGrammar.{closing_of};
 ghost use Rattle.gql_statements.specs.ChangeWords.{arrow_in};
-ghost use Rattle.gql_statements.specs.ChangeReaders.{between_of, insert_edge_of, insert_step_of, insert_steps_of, insert_paths_of};
+ghost use Rattle.gql_statements.specs.Machinery.ChangeReaders.{between_of, insert_edge_of, insert_step_of, insert_steps_of, insert_paths_of};
 
+use crate::clause::Clauses;
 use crate::fill::fill;
-use crate::item::{Item, list};
 use gql_ast::{Arrow, Fill, InsertPath, InsertStep, ParseFault};
-use gql_front::symbols::{
+use gql_front::{NoFront, ParseResult, after_sign};
+use gql_lexer::Lexeme;
+use gql_lexer::symbols::{
     CLOSING, CLOSING_BRACKET, LEFT_ARROW, MINUS, OPENING, OPENING_BRACKET, RIGHT_ARROW, TILDE,
 };
-use gql_front::{NoFront, after_sign};
-use gql_lexer::Lexeme;
+use gql_parts::{Item, list};
 use gql_values3::{OutOfMemory, Sequence};
 use std::alloc::Global;
 
 /// A node, and as many steps as there are.
-impl Item for InsertPath {
-    ghost use Rattle.gql_statements.specs.ChangeReaders.{insert_path_of};
+impl Item<Clauses> for InsertPath {
+    ghost use Rattle.gql_statements.specs.Machinery.ChangeReaders.{insert_path_of};
 
     ghost reader = { insert_path_of };
 
-    #[tactic(auto, unfolding(crate::specs::ChangeReaders::insert_path_of))]
-    fn read<'a>(
-        alloc: Global,
-        rest: &'a [Lexeme],
-    ) -> Result<(InsertPath, &'a [Lexeme]), ParseFault> {
+    #[tactic(auto, unfolding(crate::specs::Machinery::ChangeReaders::insert_path_of))]
+    fn read<'a>(alloc: Global, rest: &'a [Lexeme]) -> ParseResult<'a, InsertPath> {
         let (start, rest) = between(alloc, OPENING, CLOSING, rest)?;
         let (steps, rest) = insert_steps(alloc, rest)?;
         Ok((InsertPath { start, steps }, rest))
@@ -36,15 +34,11 @@ impl Item for InsertPath {
 }
 
 /// The paths of an INSERT, behind that word.
-#[tactic(auto, unfolding(crate::specs::ChangeReaders::insert_paths_of))]
-pub fn insert_paths<'a>(
-    alloc: Global,
-    rest: &'a [Lexeme],
-) -> Result<(Sequence<InsertPath>, &'a [Lexeme]), ParseFault>
-    ensures given { Gives (λ x. (x.0, x.1.now)) result (insert_paths_of rest.now) }
-    ensures shorter { IfOk result (λ x. length x.1.now < length rest.now) }
+#[tactic(auto, unfolding(crate::specs::Machinery::ChangeReaders::insert_paths_of))]
+pub fn insert_paths<'a>(alloc: Global, rest: &'a [Lexeme]) -> ParseResult<'a, Sequence<InsertPath>>
+    ensures { Reads result rest.now insert_paths_of }
 {
-    list(alloc, rest)
+    list::<Clauses, InsertPath>(alloc, rest)
 }
 
 /// As many steps as there are.
@@ -71,13 +65,9 @@ fn insert_steps<'a>(
 }
 
 /// An edge, and the node to which it leads.
-#[tactic(auto, unfolding(crate::specs::ChangeReaders::insert_step_of))]
-fn insert_step<'a>(
-    alloc: Global,
-    rest: &'a [Lexeme],
-) -> Result<(InsertStep, &'a [Lexeme]), ParseFault>
-    ensures given { Gives (λ x. (x.0, x.1.now)) result (insert_step_of rest.now) }
-    ensures shorter { IfOk result (λ x. length x.1.now < length rest.now) }
+#[tactic(auto, unfolding(crate::specs::Machinery::ChangeReaders::insert_step_of))]
+fn insert_step<'a>(alloc: Global, rest: &'a [Lexeme]) -> ParseResult<'a, InsertStep>
+    ensures { Reads result rest.now insert_step_of }
 {
     let ((arrow, edge), rest) = insert_edge(alloc, rest)?;
     let (node, rest) = between(alloc, OPENING, CLOSING, rest)?;
@@ -85,13 +75,9 @@ fn insert_step<'a>(
 }
 
 /// An edge in its symbols.
-#[tactic(auto, unfolding(crate::specs::ChangeReaders::insert_edge_of))]
-fn insert_edge<'a>(
-    alloc: Global,
-    rest: &'a [Lexeme],
-) -> Result<((Arrow, Fill), &'a [Lexeme]), ParseFault>
-    ensures given { Gives (λ x. (x.0, x.1.now)) result (insert_edge_of rest.now) }
-    ensures shorter { IfOk result (λ x. length x.1.now < length rest.now) }
+#[tactic(auto, unfolding(crate::specs::Machinery::ChangeReaders::insert_edge_of))]
+fn insert_edge<'a>(alloc: Global, rest: &'a [Lexeme]) -> ParseResult<'a, (Arrow, Fill)>
+    ensures { Reads result rest.now insert_edge_of }
 {
     let (arrow, rest) = arrow_at(rest)?;
     let (edge, rest) = between(alloc, OPENING_BRACKET, CLOSING_BRACKET, rest)?;
@@ -101,8 +87,7 @@ fn insert_edge<'a>(
 
 /// The direction, by the symbol before the brackets.
 fn arrow_at(rest: &[Lexeme]) -> Result<(Arrow, &[Lexeme]), NoFront>
-    ensures given { Takes (λ x. (x.0, x.1.now)) result (op_at arrow_in rest.now) }
-    ensures shorter { IfOk result (λ x. length x.1.now < length rest.now) }
+    ensures { Takes result rest.now (op_at arrow_in) }
 {
     match rest {
         [Lexeme::Sign(MINUS), rest @ ..] => Ok((Arrow::Right, rest)),
@@ -124,15 +109,9 @@ fn closing_of(arrow: Arrow) -> u32
 }
 
 /// What stands between two symbols.
-#[tactic(auto, unfolding(crate::specs::ChangeReaders::between_of))]
-fn between<'a>(
-    alloc: Global,
-    first: u32,
-    last: u32,
-    rest: &'a [Lexeme],
-) -> Result<(Fill, &'a [Lexeme]), ParseFault>
-    ensures given { Gives (λ x. (x.0, x.1.now)) result (between_of first last rest.now) }
-    ensures shorter { IfOk result (λ x. length x.1.now < length rest.now) }
+#[tactic(auto, unfolding(crate::specs::Machinery::ChangeReaders::between_of))]
+fn between<'a>(alloc: Global, first: u32, last: u32, rest: &'a [Lexeme]) -> ParseResult<'a, Fill>
+    ensures { Reads result rest.now (between_of first last) }
 {
     let rest = after_sign(first, rest)?;
     let (element, rest) = fill(alloc, rest)?;

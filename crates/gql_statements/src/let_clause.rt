@@ -1,24 +1,24 @@
 //! LET.
 
 ghost use Rattle.std.specs.Prelude.{◌≡◌, ◌<◌, length, IfOk};
-ghost use Rattle.gql_front.specs.Gives.{Gives};
-ghost use Rattle.gql_statements.specs.ClauseReaders.{let_of};
+ghost use Rattle.gql_front.specs.Reads.{Reads};
+ghost use Rattle.gql_statements.specs.Machinery.ClauseReaders.{let_of};
 
-use crate::item::{Item, list};
-use crate::value::value;
+use crate::clause::Clauses;
 use gql_ast::{LetItem, LetItems, ParseFault};
-use gql_front::symbols::EQUAL;
-use gql_front::{after_sign, plain_name};
+use gql_front::{ParseResult, after_sign, plain_name};
 use gql_lexer::Lexeme;
+use gql_lexer::symbols::EQUAL;
+use gql_parts::{Item, list, value};
 use std::alloc::Global;
 
-impl Item for LetItem {
-    ghost use Rattle.gql_statements.specs.ClauseReaders.{let_item_of};
+impl Item<Clauses> for LetItem {
+    ghost use Rattle.gql_statements.specs.Machinery.ClauseReaders.{let_item_of};
 
     ghost reader = { let_item_of };
 
-    #[tactic(auto, unfolding(crate::specs::ClauseReaders::let_item_of))]
-    fn read<'a>(alloc: Global, rest: &'a [Lexeme]) -> Result<(LetItem, &'a [Lexeme]), ParseFault> {
+    #[tactic(auto, unfolding(crate::specs::Machinery::ClauseReaders::let_item_of))]
+    fn read<'a>(alloc: Global, rest: &'a [Lexeme]) -> ParseResult<'a, LetItem> {
         let (name, rest) = plain_name(rest)?;
         let rest = after_sign(EQUAL, rest)?;
         let name = name.try_copy(alloc)?;
@@ -28,13 +28,9 @@ impl Item for LetItem {
 }
 
 /// The names of a LET and their expressions, behind that word.
-#[tactic(auto, unfolding(crate::specs::ClauseReaders::let_of))]
-pub fn let_items<'a>(
-    alloc: Global,
-    rest: &'a [Lexeme],
-) -> Result<(LetItems, &'a [Lexeme]), ParseFault>
-    ensures given { Gives (λ x. (x.0, x.1.now)) result (let_of rest.now) }
-    ensures shorter { IfOk result (λ x. length x.1.now < length rest.now) }
+#[tactic(auto, unfolding(crate::specs::Machinery::ClauseReaders::let_of))]
+pub fn let_items<'a>(alloc: Global, rest: &'a [Lexeme]) -> ParseResult<'a, LetItems>
+    ensures { Reads result rest.now let_of }
 {
-    list(alloc, rest)
+    list::<Clauses, LetItem>(alloc, rest)
 }

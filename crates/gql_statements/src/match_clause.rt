@@ -1,36 +1,31 @@
 //! MATCH of one node.
 
 ghost use Rattle.std.specs.Prelude.{◌≡◌, ◌<◌, ◌≤◌, length, IfOk};
-ghost use Rattle.gql_front.specs.Gives.{Gives};
-ghost use Rattle.gql_statements.specs.MatchReaders.{node_of, match_of, alone};
+ghost use Rattle.gql_front.specs.Reads.{Reads};
+ghost use Rattle.gql_statements.specs.Machinery.MatchReaders.{node_of, match_of, match_of_one_node};
 
-use crate::filler::{filler, where_value};
 use gql_ast::{Expr, Filler, GraphPattern, Match, ParseFault, PathExpr, PathPattern};
-use gql_front::after_sign;
-use gql_front::symbols::{CLOSING, OPENING};
+use gql_front::{ParseResult, after_sign};
 use gql_lexer::Lexeme;
+use gql_lexer::symbols::{CLOSING, OPENING};
+use gql_parts::{filler, where_value};
 use gql_values3::{OutOfMemory, Sequence};
 use std::alloc::Global;
 
 /// The pattern of a MATCH and what must hold, behind that word.
-#[tactic(auto, unfolding(crate::specs::MatchReaders::match_of))]
-pub fn match_node<'a>(
-    alloc: Global,
-    rest: &'a [Lexeme],
-) -> Result<(Match, &'a [Lexeme]), ParseFault>
-    ensures given { Gives (λ x. (x.0, x.1.now)) result (match_of rest.now) }
-    ensures shorter { IfOk result (λ x. length x.1.now < length rest.now) }
+#[tactic(auto, unfolding(crate::specs::Machinery::MatchReaders::match_of))]
+pub fn match_node<'a>(alloc: Global, rest: &'a [Lexeme]) -> ParseResult<'a, Match>
+    ensures { Reads result rest.now match_of }
 {
     let (filler, rest) = node(alloc, rest)?;
     let (condition, rest) = where_value(alloc, rest)?;
-    Ok((alone(alloc, filler, condition)?, rest))
+    Ok((match_of_one_node(alloc, filler, condition)?, rest))
 }
 
 /// A node in parentheses.
-#[tactic(auto, unfolding(crate::specs::MatchReaders::node_of))]
-fn node<'a>(alloc: Global, rest: &'a [Lexeme]) -> Result<(Filler, &'a [Lexeme]), ParseFault>
-    ensures given { Gives (λ x. (x.0, x.1.now)) result (node_of rest.now) }
-    ensures shorter { IfOk result (λ x. length x.1.now < length rest.now) }
+#[tactic(auto, unfolding(crate::specs::Machinery::MatchReaders::node_of))]
+fn node<'a>(alloc: Global, rest: &'a [Lexeme]) -> ParseResult<'a, Filler>
+    ensures { Reads result rest.now node_of }
 {
     let rest = after_sign(OPENING, rest)?;
     let (filler, rest) = filler(alloc, rest)?;
@@ -39,8 +34,12 @@ fn node<'a>(alloc: Global, rest: &'a [Lexeme]) -> Result<(Filler, &'a [Lexeme]),
 }
 
 /// A node alone as the pattern of a MATCH.
-fn alone(alloc: Global, filler: Filler, condition: Option<Expr>) -> Result<Match, OutOfMemory>
-    ensures { IfOk result (λ m. m ≡ alone filler condition) }
+fn match_of_one_node(
+    alloc: Global,
+    filler: Filler,
+    condition: Option<Expr>,
+) -> Result<Match, OutOfMemory>
+    ensures { IfOk result (λ m. m ≡ match_of_one_node filler condition) }
 {
     let mut paths = Sequence::new(alloc);
     paths.push(PathPattern {

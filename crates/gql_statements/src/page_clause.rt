@@ -1,23 +1,22 @@
 //! OFFSET and LIMIT, and ORDER BY, OFFSET and LIMIT as a clause of their own.
 
 ghost use Rattle.std.specs.Prelude.{◌≡◌, ◌<◌, ◌≤◌, length, IfOk};
-ghost use Rattle.gql_front.specs.Gives.{Gives, Takes};
+ghost use Rattle.gql_front.specs.Reads.{Reads, MayRead, GoesPast};
 ghost use Rattle.gql_front.specs.Reading.{op_at, after};
 ghost use Rattle.gql_statements.specs.PartWords.{count_in, is_skip};
-ghost use Rattle.gql_statements.specs.PageReaders.{skip_of, limit_of, order_page_of, skip_page_of, limit_page_of};
+ghost use Rattle.gql_statements.specs.Machinery.PageReaders.{skip_of, limit_of, order_page_of, skip_page_of, limit_page_of};
 
 use crate::sort::order_by;
 use gql_ast::{Page, ParseFault, RowCount};
-use gql_front::words::{LIMIT, OFFSET, SKIP};
-use gql_front::{NoFront, after_word};
+use gql_front::{NoFront, ParseResult, after_word};
 use gql_lexer::Lexeme;
+use gql_lexer::words::{LIMIT, OFFSET, SKIP};
 use std::alloc::Global;
 
 /// Sort keys, and how many rows to leave out and to keep, behind ORDER.
-#[tactic(auto, unfolding(crate::specs::PageReaders::order_page_of))]
-pub fn order_page<'a>(alloc: Global, rest: &'a [Lexeme]) -> Result<(Page, &'a [Lexeme]), ParseFault>
-    ensures given { Gives (λ x. (x.0, x.1.now)) result (order_page_of rest.now) }
-    ensures shorter { IfOk result (λ x. length x.1.now < length rest.now) }
+#[tactic(auto, unfolding(crate::specs::Machinery::PageReaders::order_page_of))]
+pub fn order_page<'a>(alloc: Global, rest: &'a [Lexeme]) -> ParseResult<'a, Page>
+    ensures { Reads result rest.now order_page_of }
 {
     let (order, rest) = order_by(alloc, rest)?;
     let (skip, rest) = skip(alloc, rest)?;
@@ -26,10 +25,9 @@ pub fn order_page<'a>(alloc: Global, rest: &'a [Lexeme]) -> Result<(Page, &'a [L
 }
 
 /// How many rows to leave out and to keep, behind OFFSET or SKIP.
-#[tactic(auto, unfolding(crate::specs::PageReaders::skip_page_of))]
-pub fn skip_page<'a>(alloc: Global, rest: &'a [Lexeme]) -> Result<(Page, &'a [Lexeme]), ParseFault>
-    ensures given { Gives (λ x. (x.0, x.1.now)) result (skip_page_of rest.now) }
-    ensures shorter { IfOk result (λ x. length x.1.now < length rest.now) }
+#[tactic(auto, unfolding(crate::specs::Machinery::PageReaders::skip_page_of))]
+pub fn skip_page<'a>(alloc: Global, rest: &'a [Lexeme]) -> ParseResult<'a, Page>
+    ensures { Reads result rest.now skip_page_of }
 {
     let (skip, rest) = row_count(alloc, rest)?;
     let (limit, rest) = limit(alloc, rest)?;
@@ -37,55 +35,49 @@ pub fn skip_page<'a>(alloc: Global, rest: &'a [Lexeme]) -> Result<(Page, &'a [Le
 }
 
 /// How many rows to keep, behind LIMIT.
-#[tactic(auto, unfolding(crate::specs::PageReaders::limit_page_of))]
-pub fn limit_page<'a>(alloc: Global, rest: &'a [Lexeme]) -> Result<(Page, &'a [Lexeme]), ParseFault>
-    ensures given { Gives (λ x. (x.0, x.1.now)) result (limit_page_of rest.now) }
-    ensures shorter { IfOk result (λ x. length x.1.now < length rest.now) }
+#[tactic(auto, unfolding(crate::specs::Machinery::PageReaders::limit_page_of))]
+pub fn limit_page<'a>(alloc: Global, rest: &'a [Lexeme]) -> ParseResult<'a, Page>
+    ensures { Reads result rest.now limit_page_of }
 {
     let (limit, rest) = row_count(alloc, rest)?;
     Ok((Page::Limit(limit), rest))
 }
 
 /// OFFSET or SKIP and a count, or nothing.
-#[tactic(auto, unfolding(crate::specs::PageReaders::skip_of))]
-pub fn skip<'a>(
-    alloc: Global,
-    rest: &'a [Lexeme],
-) -> Result<(Option<RowCount>, &'a [Lexeme]), ParseFault>
-    ensures given { Gives (λ x. (x.0, x.1.now)) result (skip_of rest.now) }
-    ensures shorter { IfOk result (λ x. length x.1.now ≤ length rest.now) }
+#[tactic(auto, unfolding(crate::specs::Machinery::PageReaders::skip_of))]
+pub fn skip<'a>(alloc: Global, rest: &'a [Lexeme]) -> ParseResult<'a, Option<RowCount>>
+    ensures { MayRead result rest.now skip_of }
 {
     match after_skip(rest) {
-        Ok(behind) => {
-            let (count, behind) = row_count(alloc, behind)?;
-            Ok((Some(count), behind))
-        }
+        Ok(behind) => match row_count(alloc, behind) {
+            Ok((count, behind)) => Ok((Some(count), behind)),
+            Err(ParseFault::Syntax) => Ok((None, rest)),
+            Err(ParseFault::Deep) => unreachable!(),
+            Err(ParseFault::OutOfMemory) => Err(ParseFault::OutOfMemory),
+        },
         Err(NoFront) => Ok((None, rest)),
     }
 }
 
 /// LIMIT and a count, or nothing.
-#[tactic(auto, unfolding(crate::specs::PageReaders::limit_of))]
-pub fn limit<'a>(
-    alloc: Global,
-    rest: &'a [Lexeme],
-) -> Result<(Option<RowCount>, &'a [Lexeme]), ParseFault>
-    ensures given { Gives (λ x. (x.0, x.1.now)) result (limit_of rest.now) }
-    ensures shorter { IfOk result (λ x. length x.1.now ≤ length rest.now) }
+#[tactic(auto, unfolding(crate::specs::Machinery::PageReaders::limit_of))]
+pub fn limit<'a>(alloc: Global, rest: &'a [Lexeme]) -> ParseResult<'a, Option<RowCount>>
+    ensures { MayRead result rest.now limit_of }
 {
     match after_word(LIMIT, rest) {
-        Ok(behind) => {
-            let (count, behind) = row_count(alloc, behind)?;
-            Ok((Some(count), behind))
-        }
+        Ok(behind) => match row_count(alloc, behind) {
+            Ok((count, behind)) => Ok((Some(count), behind)),
+            Err(ParseFault::Syntax) => Ok((None, rest)),
+            Err(ParseFault::Deep) => unreachable!(),
+            Err(ParseFault::OutOfMemory) => Err(ParseFault::OutOfMemory),
+        },
         Err(NoFront) => Ok((None, rest)),
     }
 }
 
 /// What is behind OFFSET or SKIP.
 fn after_skip(rest: &[Lexeme]) -> Result<&[Lexeme], NoFront>
-    ensures given { Takes (λ x. x.now) result (after is_skip rest.now) }
-    ensures shorter { IfOk result (λ x. length x.now < length rest.now) }
+    ensures { GoesPast result rest.now is_skip }
 {
     match rest {
         [Lexeme::Word { place: OFFSET, .. }, rest @ ..] => Ok(rest),
@@ -95,9 +87,8 @@ fn after_skip(rest: &[Lexeme]) -> Result<&[Lexeme], NoFront>
 }
 
 /// A number or a parameter.
-fn row_count<'a>(alloc: Global, rest: &'a [Lexeme]) -> Result<(RowCount, &'a [Lexeme]), ParseFault>
-    ensures given { Gives (λ x. (x.0, x.1.now)) result (op_at count_in rest.now) }
-    ensures shorter { IfOk result (λ x. length x.1.now < length rest.now) }
+fn row_count<'a>(alloc: Global, rest: &'a [Lexeme]) -> ParseResult<'a, RowCount>
+    ensures { Reads result rest.now (op_at count_in) }
 {
     match rest {
         [Lexeme::Number(digits), rest @ ..] => {

@@ -2,26 +2,26 @@
 
 ghost use Rattle.std.specs.Prelude.{◌≡◌, ◌<◌, ◌≤◌, ◌+◌, length, IfOk};
 ghost use Rattle.gql_front.specs.Gives.{Gives};
+ghost use Rattle.gql_front.specs.Reads.{Reads};
 ghost use Rattle.gql_statements.specs.QueryGrammar.{is_page, no_pages_meet};
-ghost use Rattle.gql_statements.specs.QueryReaders.{clauses_of, ended_of, query_of};
+ghost use Rattle.gql_statements.specs.Machinery.QueryReaders.{clauses_of, with_last_clause_of, query_of};
 
 use crate::clause::clause;
-use crate::return_clause::returned;
+use crate::return_clause::return_behind;
 use gql_ast::{Clause, ParseFault, Query, ends_in_change};
-use gql_front::words::RETURN;
-use gql_front::{NoFront, after_word};
+use gql_front::{NoFront, ParseResult, after_word};
 use gql_lexer::Lexeme;
+use gql_lexer::words::RETURN;
 use gql_values3::{OutOfMemory, Sequence};
 use std::alloc::Global;
 
 /// The query at the front. `Syntax` comes where there is none, or where two Page clauses stand side by side.
-#[tactic(auto, unfolding(crate::specs::QueryReaders::query_of))]
-pub fn query<'a>(alloc: Global, rest: &'a [Lexeme]) -> Result<(Query, &'a [Lexeme]), ParseFault>
-    ensures given { Gives (λ x. (x.0, x.1.now)) result (query_of rest.now) }
-    ensures shorter { IfOk result (λ x. length x.1.now < length rest.now) }
+#[tactic(auto, unfolding(crate::specs::Machinery::QueryReaders::query_of))]
+pub fn query<'a>(alloc: Global, rest: &'a [Lexeme]) -> ParseResult<'a, Query>
+    ensures { Reads result rest.now query_of }
 {
     let (clauses, rest) = clauses(alloc, rest)?;
-    let (clauses, rest) = ended(alloc, clauses, rest)?;
+    let (clauses, rest) = with_last_clause(alloc, clauses, rest)?;
     if no_pages_meet(clauses.as_slice()) {
         Ok((Query { clauses }, rest))
     } else {
@@ -53,18 +53,18 @@ fn clauses<'a>(
 }
 
 /// The clauses with RETURN as the last one; without it, the last one is a change.
-#[tactic(auto, unfolding(crate::specs::QueryReaders::ended_of))]
-fn ended<'a>(
+#[tactic(auto, unfolding(crate::specs::Machinery::QueryReaders::with_last_clause_of))]
+fn with_last_clause<'a>(
     alloc: Global,
     mut clauses: Sequence<Clause>,
     rest: &'a [Lexeme],
-) -> Result<(Sequence<Clause>, &'a [Lexeme]), ParseFault>
-    ensures given { Gives (λ x. (x.0, x.1.now)) result (ended_of clauses rest.now) }
+) -> ParseResult<'a, Sequence<Clause>>
+    ensures given { Gives (λ x. (x.0, x.1.now)) result (with_last_clause_of clauses rest.now) }
     ensures shorter { IfOk result (λ x. length x.1.now < length clauses + length rest.now) }
 {
     match after_word(RETURN, rest) {
         Ok(behind) => {
-            let (found, behind) = returned(alloc, behind)?;
+            let (found, behind) = return_behind(alloc, behind)?;
             clauses.push(Clause::Return(found))?;
             Ok((clauses, behind))
         }

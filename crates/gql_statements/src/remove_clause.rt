@@ -1,29 +1,26 @@
 //! REMOVE.
 
 ghost use Rattle.std.specs.Prelude.{◌≡◌, ◌<◌, length, IfOk};
-ghost use Rattle.gql_front.specs.Gives.{Gives};
-ghost use Rattle.gql_statements.specs.ChangeReaders.{remove_items_of};
+ghost use Rattle.gql_front.specs.Reads.{Reads};
+ghost use Rattle.gql_statements.specs.Machinery.ChangeReaders.{remove_items_of};
 
-use crate::filler::after_colon;
-use crate::item::{Item, list};
+use crate::clause::Clauses;
 use gql_ast::{ParseFault, RemoveItem};
-use gql_front::symbols::DOT;
-use gql_front::{NoFront, after_sign, any_name, plain_name};
+use gql_front::{NoFront, ParseResult, after_sign, any_name, plain_name};
 use gql_lexer::Lexeme;
+use gql_lexer::symbols::DOT;
+use gql_parts::{Item, after_colon, list};
 use gql_values3::Sequence;
 use std::alloc::Global;
 
 /// A property or a label of a variable.
-impl Item for RemoveItem {
-    ghost use Rattle.gql_statements.specs.ChangeReaders.{remove_item_of};
+impl Item<Clauses> for RemoveItem {
+    ghost use Rattle.gql_statements.specs.Machinery.ChangeReaders.{remove_item_of};
 
     ghost reader = { remove_item_of };
 
-    #[tactic(auto, unfolding(crate::specs::ChangeReaders::remove_item_of))]
-    fn read<'a>(
-        alloc: Global,
-        rest: &'a [Lexeme],
-    ) -> Result<(RemoveItem, &'a [Lexeme]), ParseFault> {
+    #[tactic(auto, unfolding(crate::specs::Machinery::ChangeReaders::remove_item_of))]
+    fn read<'a>(alloc: Global, rest: &'a [Lexeme]) -> ParseResult<'a, RemoveItem> {
         let (name, rest) = plain_name(rest)?;
         match after_sign(DOT, rest) {
             Ok(behind) => {
@@ -45,13 +42,9 @@ impl Item for RemoveItem {
 }
 
 /// The items of a REMOVE, behind that word.
-#[tactic(auto, unfolding(crate::specs::ChangeReaders::remove_items_of))]
-pub fn remove_items<'a>(
-    alloc: Global,
-    rest: &'a [Lexeme],
-) -> Result<(Sequence<RemoveItem>, &'a [Lexeme]), ParseFault>
-    ensures given { Gives (λ x. (x.0, x.1.now)) result (remove_items_of rest.now) }
-    ensures shorter { IfOk result (λ x. length x.1.now < length rest.now) }
+#[tactic(auto, unfolding(crate::specs::Machinery::ChangeReaders::remove_items_of))]
+pub fn remove_items<'a>(alloc: Global, rest: &'a [Lexeme]) -> ParseResult<'a, Sequence<RemoveItem>>
+    ensures { Reads result rest.now remove_items_of }
 {
-    list(alloc, rest)
+    list::<Clauses, RemoveItem>(alloc, rest)
 }

@@ -1,31 +1,32 @@
 //! ORDER BY.
 
 ghost use Rattle.std.specs.Prelude.{◌≡◌, ◌<◌, ◌≤◌, length, IfOk};
-ghost use Rattle.gql_front.specs.Gives.{Gives, Takes};
+ghost use Rattle.gql_front.specs.Gives.{Finds};
+ghost use Rattle.gql_front.specs.Reads.{Reads, Takes};
 ghost use Rattle.gql_front.specs.Reading.{op_at, is_word};
-ghost use Rattle.gql_front.specs.WordPlaces.{NULLS as nulls_word};
+ghost use Rattle.gql_lexer.specs.WordPlaces.{NULLS as nulls_word};
 ghost use Rattle.gql_statements.specs.PartWords.{direction_word, null_word};
-ghost use Rattle.gql_statements.specs.PartReaders.{led};
-ghost use Rattle.gql_statements.specs.PageReaders.{direction_of, sort_items_of, order_of};
+ghost use Rattle.gql_parts.specs.Machinery.PartReaders.{led};
+ghost use Rattle.gql_statements.specs.Machinery.PageReaders.{direction_of, sort_items_of, order_of};
 
-use crate::item::{Item, list};
-use crate::value::value;
+use crate::clause::Clauses;
 use gql_ast::{NullOrder, ParseFault, SortDirection, SortItem, SortItems};
-use gql_front::words::{ASC, ASCENDING, BY, DESC, DESCENDING, FIRST, LAST, NULLS};
-use gql_front::{NoFront, after_word};
+use gql_front::{NoFront, ParseResult, after_word};
 use gql_lexer::Lexeme;
+use gql_lexer::words::{ASC, ASCENDING, BY, DESC, DESCENDING, FIRST, LAST, NULLS};
+use gql_parts::{Item, list, value};
 use std::alloc::Global;
 
-impl Item for SortItem {
-    ghost use Rattle.gql_statements.specs.PageReaders.{sort_item_of};
+impl Item<Clauses> for SortItem {
+    ghost use Rattle.gql_statements.specs.Machinery.PageReaders.{sort_item_of};
 
     ghost reader = { sort_item_of };
 
-    #[tactic(auto, unfolding(crate::specs::PageReaders::sort_item_of))]
-    fn read<'a>(alloc: Global, rest: &'a [Lexeme]) -> Result<(SortItem, &'a [Lexeme]), ParseFault> {
+    #[tactic(auto, unfolding(crate::specs::Machinery::PageReaders::sort_item_of))]
+    fn read<'a>(alloc: Global, rest: &'a [Lexeme]) -> ParseResult<'a, SortItem> {
         let (key, rest) = value(alloc, rest)?;
         let (direction, rest) = direction_of(rest);
-        let (nulls, rest) = null_order(rest)?;
+        let (nulls, rest) = null_order(rest);
         Ok((
             SortItem {
                 key,
@@ -38,20 +39,16 @@ impl Item for SortItem {
 }
 
 /// The sort keys, behind ORDER.
-#[tactic(auto, unfolding(crate::specs::PageReaders::order_of, crate::specs::PageReaders::sort_items_of))]
-pub fn order_by<'a>(
-    alloc: Global,
-    rest: &'a [Lexeme],
-) -> Result<(SortItems, &'a [Lexeme]), ParseFault>
-    ensures given { Gives (λ x. (x.0, x.1.now)) result (order_of rest.now) }
-    ensures shorter { IfOk result (λ x. length x.1.now < length rest.now) }
+#[tactic(auto, unfolding(crate::specs::Machinery::PageReaders::order_of, crate::specs::Machinery::PageReaders::sort_items_of))]
+pub fn order_by<'a>(alloc: Global, rest: &'a [Lexeme]) -> ParseResult<'a, SortItems>
+    ensures { Reads result rest.now order_of }
 {
     let rest = after_word(BY, rest)?;
-    list(alloc, rest)
+    list::<Clauses, SortItem>(alloc, rest)
 }
 
 /// The direction at the front; no word means ascending.
-#[tactic(auto, unfolding(crate::specs::PageReaders::direction_of))]
+#[tactic(auto, unfolding(crate::specs::Machinery::PageReaders::direction_of))]
 fn direction_of(rest: &[Lexeme]) -> (SortDirection, &[Lexeme])
     ensures given { (result.0, result.1.now) ≡ direction_of rest.now }
     ensures shorter { length result.1.now ≤ length rest.now }
@@ -64,8 +61,7 @@ fn direction_of(rest: &[Lexeme]) -> (SortDirection, &[Lexeme])
 
 /// The word of a direction.
 fn direction_at(rest: &[Lexeme]) -> Result<(SortDirection, &[Lexeme]), NoFront>
-    ensures given { Takes (λ x. (x.0, x.1.now)) result (op_at direction_word rest.now) }
-    ensures shorter { IfOk result (λ x. length x.1.now < length rest.now) }
+    ensures { Takes result rest.now (op_at direction_word) }
 {
     match rest {
         [Lexeme::Word { place: ASC, .. }, rest @ ..] => Ok((SortDirection::Ascending, rest)),
@@ -88,24 +84,23 @@ fn direction_at(rest: &[Lexeme]) -> Result<(SortDirection, &[Lexeme]), NoFront>
     }
 }
 
-/// NULLS FIRST or NULLS LAST, or nothing.
-fn null_order(rest: &[Lexeme]) -> Result<(Option<NullOrder>, &[Lexeme]), NoFront>
-    ensures given { Takes (λ x. (x.0, x.1.now)) result (led (is_word nulls_word) (op_at null_word) rest.now) }
-    ensures shorter { IfOk result (λ x. length x.1.now ≤ length rest.now) }
+/// NULLS FIRST or NULLS LAST, or nothing. A NULLS that neither word follows is left.
+fn null_order(rest: &[Lexeme]) -> (Option<NullOrder>, &[Lexeme])
+    ensures given { led (is_word nulls_word) (op_at null_word) rest.now ≡ Some (result.0, result.1.now) }
+    ensures shorter { length result.1.now ≤ length rest.now }
 {
     match after_word(NULLS, rest) {
-        Ok(behind) => {
-            let (order, behind) = null_word_at(behind)?;
-            Ok((Some(order), behind))
-        }
-        Err(NoFront) => Ok((None, rest)),
+        Ok(behind) => match null_word_at(behind) {
+            Ok((order, behind)) => (Some(order), behind),
+            Err(NoFront) => (None, rest),
+        },
+        Err(NoFront) => (None, rest),
     }
 }
 
 /// The word behind NULLS.
 fn null_word_at(rest: &[Lexeme]) -> Result<(NullOrder, &[Lexeme]), NoFront>
-    ensures given { Takes (λ x. (x.0, x.1.now)) result (op_at null_word rest.now) }
-    ensures shorter { IfOk result (λ x. length x.1.now < length rest.now) }
+    ensures { Takes result rest.now (op_at null_word) }
 {
     match rest {
         [Lexeme::Word { place: FIRST, .. }, rest @ ..] => Ok((NullOrder::First, rest)),

@@ -5,12 +5,12 @@
 //! It stands on `gql_ast`, which has the texts of values, names and expressions.
 #![tactic(auto)]
 
-pub mod outcome;
+mod outcome;
 mod refusal;
 #[cfg(test)]
 mod tests;
-pub mod value;
-pub mod wide;
+mod value;
+mod wide;
 
 pub use outcome::put_outcome;
 pub use value::put_value;

@@ -1,3 +1,5 @@
+//! What is printed for an outcome: a table, a refusal, or `ok`.
+
 ghost use Rattle.std.specs.Prelude.{◌≡◌, [], ◌∷◌, ◌++◌, OnOk, OnErr, map, codes, length};
 ghost use Rattle.std.specs.List.{flat_map};
 ghost use Rattle.std.specs.Fmt.{decimal};
@@ -6,8 +8,7 @@ ghost use Rattle.gql_ast.specs.ValueText.{value_text, header_text};
 ghost use Rattle.gql_text.specs.OutcomeText.{line, behind_tab, cells, row_text, table_text, outcome_text};
 
 use crate::refusal::push_refusal;
-use gql_ast::Outcome;
-use gql_ast::{push_header, push_number, push_value};
+use gql_ast::{Outcome, push_header, push_number, push_value};
 use gql_values3::{Bytes, OutOfMemory, Row, Table, Text, Value};
 use std::alloc::Global;
 

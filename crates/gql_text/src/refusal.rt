@@ -1,10 +1,14 @@
+//! The line of a refusal: its code, its word, and its arguments.
+
 ghost use Rattle.std.specs.Prelude.{◌≡◌, ◌++◌, OnOk, codes};
 ghost use Rattle.gql_values3.specs.Meaning.{datum_of};
 ghost use Rattle.gql_ast.specs.ValueText.{value_text, name_text, any_name_text, node_text, edge_text};
 ghost use Rattle.gql_text.specs.OutcomeText.{elem_text, fault_text, column_text, elem_kind_text, refusal_text};
 
-use gql_ast::{push_any_name, push_digits, push_edge, push_name, push_node, push_value};
-use gql_ast::{ColumnRef, DataFault, ElemKind, Refusal};
+use gql_ast::{
+    ColumnRef, DataFault, ElemKind, Refusal, push_any_name, push_digits, push_edge, push_name,
+    push_node, push_value,
+};
 use gql_values3::{EdgeId, Elem, NodeId, OutOfMemory, Text, Value};
 
 /// Adds the code, the word and the arguments of a refusal.

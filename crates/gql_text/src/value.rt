@@ -1,3 +1,5 @@
+//! The text of a value alone, as a cell of a table has it.
+
 ghost use Rattle.std.specs.Prelude.{◌≡◌, ◌++◌, OnOk, OnErr};
 ghost use Rattle.gql_values3.specs.Meaning.{datum_of};
 ghost use Rattle.gql_ast.specs.ValueText.{value_text};

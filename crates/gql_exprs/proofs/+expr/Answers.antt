@@ -4,7 +4,7 @@ use Rattle.gql_ast.specs.Meaning.{tree_of}
 use Rattle.gql_front.specs.Gives.{Fails}
 use Rattle.gql_front.proofs.Found.{no_operator, no_operand, one_step}
 use Rattle.gql_front.proofs.Loops.{with_front}
-use Rattle.gql_exprs.specs.Readers.{comma_op, operand, operator_in, side_of, steps_of, read_expr}
+use Rattle.gql_exprs.specs.Machinery.Readers.{comma_op, operand, operator_in, side_of, steps_of, read_expr}
 use Rattle.gql_exprs.proofs.ExprLoops.{steps_from, steps_stop, steps_next, list_from, others_from, others_stop, others_next, comma_none, comma_some}
 use Rattle.gql_exprs.proofs.+expr.Goals as goal
 
@@ -20,20 +20,26 @@ brackets::list-more-preserved t c =
       within = omega (arith, c.in-Ok-expression.ensures.shorter, c.in-Ok.ensures.shorter, c.more.invariant.within);
     }
 
-pub brackets::list-returns-in-Err-Syntax-clause-given : goal.brackets::list-returns-in-Err-Syntax-clause-given
-brackets::list-returns-in-Err-Syntax-clause-given t c =
+pub brackets::list-returns-in-Err-Syntax : goal.brackets::list-returns-in-Err-Syntax
+brackets::list-returns-in-Err-Syntax t c =
     let rest = c.more.rest.now in
     let none = subst (λ e. Fails e (read_expr c.in-Ok.behind.now)) c.in-Err-Syntax.field-0-is c.in-Err-Syntax.ensures.given in
-    others_stop c.more.exprs rest (list_from c.args.start.now)
-    (no_operand comma_op read_expr operand rest tt c.in-Ok.behind.now (comma_some rest c.in-Ok.behind.now c.in-Ok.ensures.given) none) c.more.invariant.so_far
+    record {
+      given = others_stop c.more.exprs rest (list_from c.args.start.now)
+          (no_operand comma_op read_expr operand rest tt c.in-Ok.behind.now (comma_some rest c.in-Ok.behind.now c.in-Ok.ensures.given) none) c.more.invariant.so_far;
+      shorter = c.more.invariant.within;
+    }
 
-pub brackets::list-returns-clause-given : goal.brackets::list-returns-clause-given
-brackets::list-returns-clause-given t c =
+pub brackets::list-returns : goal.brackets::list-returns
+brackets::list-returns t c =
     let rest = c.more.rest.now in
-    others_stop c.more.exprs rest (list_from c.args.start.now) (no_operator comma_op read_expr operand rest (comma_none rest c.in_default.ensures.given)) c.more.invariant.so_far
+    record {
+      given = others_stop c.more.exprs rest (list_from c.args.start.now) (no_operator comma_op read_expr operand rest (comma_none rest c.in_default.ensures.given)) c.more.invariant.so_far;
+      shorter = c.more.invariant.within;
+    }
 
-pub expression::steps-more-preserved : goal.expression::steps-more-preserved
-expression::steps-more-preserved t c =
+pub levels::steps-more-preserved : goal.levels::steps-more-preserved
+levels::steps-more-preserved t c =
     let k = c.args.kind in
     let rest = c.more.rest.now in
     let o = c.in-Ok.operator in
@@ -46,18 +52,18 @@ expression::steps-more-preserved t c =
       within = omega (arith, c.in-Ok-side.ensures.shorter, c.in-Ok.ensures.shorter, c.more.invariant.within);
     }
 
-pub expression::steps-returns-in-Err-Syntax-clause-given : goal.expression::steps-returns-in-Err-Syntax-clause-given
+pub levels::steps-returns-in-Err-Syntax-clause-given : goal.levels::steps-returns-in-Err-Syntax-clause-given
 unfolding steps_of
-expression::steps-returns-in-Err-Syntax-clause-given t c =
+levels::steps-returns-in-Err-Syntax-clause-given t c =
     let k = c.args.kind in
     let rest = c.more.rest.now in
     let none = subst (λ e. Fails e (side_of k read_expr c.in-Ok.behind.now)) c.in-Err-Syntax.field-0-is c.in-Err-Syntax.ensures.given in
     steps_stop k c.more.steps rest (steps_from k c.args.start.now)
     (no_operand (operator_in k) (side_of k read_expr) link rest c.in-Ok.operator c.in-Ok.behind.now c.in-Ok.ensures.given none) c.more.invariant.so_far
 
-pub expression::steps-returns-clause-given : goal.expression::steps-returns-clause-given
+pub levels::steps-returns-clause-given : goal.levels::steps-returns-clause-given
 unfolding steps_of
-expression::steps-returns-clause-given t c =
+levels::steps-returns-clause-given t c =
     let k = c.args.kind in
     let rest = c.more.rest.now in
     steps_stop k c.more.steps rest (steps_from k c.args.start.now) (no_operator (operator_in k) (side_of k read_expr) link rest c.in_default.ensures.given) c.more.invariant.so_far

@@ -3,38 +3,38 @@ use Rattle.gql_front.proofs.Loops.{with_front}
 use Rattle.gql_exprs.proofs.ExprLoops.{above, steps_from, others_from, list_from}
 use Rattle.gql_exprs.proofs.+expr.Given as goal
 
-abbrev pub decreases-expression::expression : goal.decreases-expression::expression
-decreases-expression::expression l = 30 * length l.rest.now + 14
+abbrev pub decreases-levels::expression : goal.decreases-levels::expression
+decreases-levels::expression l = 30 * length l.rest.now + 14
 
-abbrev pub decreases-expression::chain : goal.decreases-expression::chain
-decreases-expression::chain l = 30 * length l.rest.now + above l.kind + 1
+abbrev pub decreases-levels::chain : goal.decreases-levels::chain
+decreases-levels::chain l = 30 * length l.rest.now + above l.kind + 1
 
-abbrev pub decreases-expression::side : goal.decreases-expression::side
-decreases-expression::side l = 30 * length l.rest.now + above l.kind
+abbrev pub decreases-levels::side : goal.decreases-levels::side
+decreases-levels::side l = 30 * length l.rest.now + above l.kind
 
-abbrev pub decreases-expression::steps : goal.decreases-expression::steps
-decreases-expression::steps l = 30 * length l.start.now
+abbrev pub decreases-levels::steps : goal.decreases-levels::steps
+decreases-levels::steps l = 30 * length l.start.now
 
-abbrev pub decreases-expression::negation : goal.decreases-expression::negation
-decreases-expression::negation l = 30 * length l.rest.now + 9
+abbrev pub decreases-levels::negation : goal.decreases-levels::negation
+decreases-levels::negation l = 30 * length l.rest.now + 9
 
-abbrev pub decreases-expression::test : goal.decreases-expression::test
-decreases-expression::test l = 30 * length l.rest.now + 8
+abbrev pub decreases-levels::test : goal.decreases-levels::test
+decreases-levels::test l = 30 * length l.rest.now + 8
 
-abbrev pub decreases-expression::comparison : goal.decreases-expression::comparison
-decreases-expression::comparison l = 30 * length l.rest.now + 7
+abbrev pub decreases-levels::comparison : goal.decreases-levels::comparison
+decreases-levels::comparison l = 30 * length l.rest.now + 7
 
-abbrev pub decreases-expression::second_side : goal.decreases-expression::second_side
-decreases-expression::second_side l = 30 * length l.rest.now
+abbrev pub decreases-levels::second_side : goal.decreases-levels::second_side
+decreases-levels::second_side l = 30 * length l.rest.now
 
-abbrev pub decreases-expression::signed : goal.decreases-expression::signed
-decreases-expression::signed l = 30 * length l.rest.now + 2
+abbrev pub decreases-levels::signed : goal.decreases-levels::signed
+decreases-levels::signed l = 30 * length l.rest.now + 2
 
-abbrev pub decreases-expression::atom : goal.decreases-expression::atom
-decreases-expression::atom l = 30 * length l.rest.now + 1
+abbrev pub decreases-levels::atom : goal.decreases-levels::atom
+decreases-levels::atom l = 30 * length l.rest.now + 1
 
-abbrev pub decreases-expression::word_atom : goal.decreases-expression::word_atom
-decreases-expression::word_atom l = 30 * length l.rest.now + 18
+abbrev pub decreases-levels::word_atom : goal.decreases-levels::word_atom
+decreases-levels::word_atom l = 30 * length l.rest.now + 18
 
 abbrev pub decreases-brackets::closed : goal.decreases-brackets::closed
 decreases-brackets::closed l = 30 * length l.rest.now + 15
@@ -57,8 +57,8 @@ decreases-brackets::aggregate l = 30 * length l.rest.now
 abbrev pub decreases-brackets::call : goal.decreases-brackets::call
 decreases-brackets::call l = 30 * length l.rest.now
 
-abbrev pub decreases-brackets::first : goal.decreases-brackets::first
-decreases-brackets::first l = 30 * length l.rest.now
+abbrev pub decreases-brackets::expr_before_comma : goal.decreases-brackets::expr_before_comma
+decreases-brackets::expr_before_comma l = 30 * length l.rest.now
 
 abbrev pub decreases-brackets::modulo : goal.decreases-brackets::modulo
 decreases-brackets::modulo l = 30 * length l.rest.now + 1
@@ -67,14 +67,14 @@ abbrev pub decreases-brackets::coalesce : goal.decreases-brackets::coalesce
 decreases-brackets::coalesce l = 30 * length l.rest.now + 1
 
 -- the sides read so far, and those still to be read, are the sides of the whole
-abbrev pub invariant-expression::steps-more : goal.invariant-expression::steps-more
-invariant-expression::steps-more l = record {
+abbrev pub invariant-levels::steps-more : goal.invariant-levels::steps-more
+invariant-levels::steps-more l = record {
   so_far : with_front l.steps (steps_from l.kind l.rest) ≡ steps_from l.kind l.start;
   within : length l.rest ≤ length l.start;
 }
 
-abbrev pub decreases-expression::steps-more : goal.decreases-expression::steps-more
-decreases-expression::steps-more l = length l.rest
+abbrev pub decreases-levels::steps-more : goal.decreases-levels::steps-more
+decreases-levels::steps-more l = length l.rest
 
 -- the same of the items of a list
 abbrev pub invariant-brackets::list-more : goal.invariant-brackets::list-more

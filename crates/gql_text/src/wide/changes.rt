@@ -1,3 +1,5 @@
+//! The first wide number in a clause that changes data.
+
 ghost use Rattle.std.specs.Prelude.{◌≡◌, find};
 ghost use Rattle.std.specs.List.{flat_map};
 ghost use Rattle.std.specs.Option.{option_copied};

@@ -1,3 +1,5 @@
+//! The first wide number in an expression.
+
 ghost use Rattle.std.specs.Prelude.{◌≡◌, find, map};
 ghost use Rattle.std.specs.Option.{option_copied};
 ghost use Rattle.gql_ast.specs.Tree.{trees_of, links_of};

@@ -1,3 +1,5 @@
+//! Whether digits write a number that is too large for an integer.
+
 ghost use Rattle.std.specs.Prelude.{◌≡◌, [], ◌∷◌, find};
 ghost use Rattle.std.specs.Option.{option_copied};
 ghost use Rattle.gql_ast.specs.NumberLiterals.{is_wide, numeral};

@@ -1,3 +1,5 @@
+//! The first wide number in a pattern.
+
 ghost use Rattle.std.specs.Prelude.{◌≡◌, find, map, Option};
 ghost use Rattle.std.specs.List.{flat_map};
 ghost use Rattle.std.specs.Option.{option_copied, option_map};

@@ -3,7 +3,7 @@ use Rattle.gql_front.specs.Gives.{Fails}
 use Rattle.gql_front.specs.Reading.{is_sign, after}
 use Rattle.gql_front.proofs.Loops.{with_front}
 use Rattle.gql_ast.specs.LabelMeaning.{label_of}
-use Rattle.gql_exprs.specs.LabelReaders.{side_of, sides_of, read_label}
+use Rattle.gql_exprs.specs.Machinery.LabelReaders.{side_of, sides_of, read_label}
 use Rattle.gql_exprs.proofs.LabelChains.{sides_from, no_symbol, no_side, one_side}
 use Rattle.gql_exprs.proofs.labels.+labels.Goals as goal
 

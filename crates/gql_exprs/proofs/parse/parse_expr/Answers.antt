@@ -3,7 +3,7 @@ use Rattle.gql_ast.specs.Meaning.{tree_of}
 use Rattle.gql_ast.specs.declared.expr.Expr.{Expr}
 use Rattle.gql_front.proofs.Places.{parsed_front, parsed_longest, refused, never_deep}
 use Rattle.gql_exprs.specs.Grammar.{Is}
-use Rattle.gql_exprs.specs.Readers.{read_expr}
+use Rattle.gql_exprs.specs.Machinery.Readers.{read_expr}
 use Rattle.gql_exprs.proofs.ExprShorter.{is_shorter}
 use Rattle.gql_exprs.proofs.ExprFronts.{front_of}
 use Rattle.gql_exprs.proofs.ExprRead.{expr_longest}

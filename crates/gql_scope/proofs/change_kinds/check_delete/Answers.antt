@@ -3,7 +3,7 @@ use Rattle.std.specs.List.{flat_map}
 use Rattle.gql_scope.specs.StaticRefusals.{refusal_of_first}
 use Rattle.gql_scope.specs.WrongKinds.{wrong_target}
 use Rattle.gql_ast.specs.declared.refusal.Refusal.TheVariants as refusal
-use Rattle.gql_scope.proofs.RefusalLemmas.{answers_fault, drop_step, stops, first_of_in_two}
+use Rattle.gql_scope.proofs.RefusalLemmas.{gives_fault, drop_step, stops, first_of_in_two}
 use Rattle.gql_scope.proofs.change_kinds.check_delete.Goals as goal
 
 pub returns-in_err-check_target : goal.returns-in_err-check_target
@@ -18,5 +18,5 @@ returns-in_err-check_target c =
     let cut = sym c.loop-name.invariant
     ∙ ap (λ ns. refusal_of_first refusal.Kind (flat_map f ns)) (drop_step c.args.names.now c.loop-name.name-index n below c.name-item.is)
     ∙ first_of_in_two refusal.Kind (f n) (flat_map f rest) in
-    answers_fault c.from_residual.result c.in_err-check_target.field-0.0 whole c.from_residual.ensures.0 c.from_residual.ensures.1
+    gives_fault c.from_residual.result c.in_err-check_target.field-0.0 whole c.from_residual.ensures.0 c.from_residual.ensures.1
     (stops c.in_err-check_target.field-0.0 here behind whole c.in_err-check_target.ensures cut)

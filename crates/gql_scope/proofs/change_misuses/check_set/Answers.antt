@@ -2,7 +2,7 @@ use Rattle.std.proofs.Common.{◌<◌, ◌+◌, ◌∙◌, ap, sym, length, drop
 use Rattle.std.specs.List.{list_any}
 use Rattle.gql_scope.specs.Misuses.{misused_set}
 use Rattle.gql_scope.specs.StaticRefusals.{misuse_if}
-use Rattle.gql_scope.proofs.RefusalLemmas.{answers_fault, drop_step, stops, misuse_in_two}
+use Rattle.gql_scope.proofs.RefusalLemmas.{gives_fault, drop_step, stops, misuse_in_two}
 use Rattle.gql_scope.proofs.change_misuses.check_set.Goals as goal
 
 pub returns-in_err-check_set_item : goal.returns-in_err-check_set_item
@@ -14,5 +14,5 @@ returns-in_err-check_set_item c =
     let whole = misuse_if (list_any misused c.args.items.now) in
     let cut = sym c.loop-item.invariant
     ∙ ap (λ is. misuse_if (list_any misused is)) (drop_step c.args.items.now c.loop-item.item-index i below c.item-item.is) ∙ misuse_in_two (misused i) (list_any misused rest) in
-    answers_fault c.from_residual.result c.in_err-check_set_item.field-0.0 whole c.from_residual.ensures.0 c.from_residual.ensures.1
+    gives_fault c.from_residual.result c.in_err-check_set_item.field-0.0 whole c.from_residual.ensures.0 c.from_residual.ensures.1
     (stops c.in_err-check_set_item.field-0.0 (misuse_if (misused i)) (misuse_if (list_any misused rest)) whole c.in_err-check_set_item.ensures cut)

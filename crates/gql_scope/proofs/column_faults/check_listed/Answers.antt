@@ -1,11 +1,10 @@
-use Rattle.std.proofs.Common.{◌<◌, ◌+◌, ◌∷◌, ◌++◌, [], ◌∙◌, ap, sym, length, drop, arith}
-use Rattle.gql_scope.specs.ColumnFaults.{columns_outside, repeated_name, faults_in_list}
-use Rattle.gql_ast.specs.Meaning.{tree_of}
+use Rattle.std.proofs.Common.{◌<◌, ◌+◌, ◌∷◌, [], ◌∙◌, ap, sym, length, drop, arith}
+use Rattle.gql_scope.specs.ColumnFaults.{faults_in_item, faults_in_list}
 use Rattle.gql_ast.specs.Outputs.{item_name}
 use Rattle.gql_scope.specs.StaticRefusals.{refusal_of_first}
 use Rattle.gql_ast.specs.declared.refusal.Refusal.TheVariants as refusal
-use Rattle.gql_scope.specs.Seen.{seen_names}
-use Rattle.gql_scope.proofs.RefusalLemmas.{answers_fault, drop_step, stops, goes_on}
+use Rattle.gql_scope.specs.Machinery.Seen.{seen_names}
+use Rattle.gql_scope.proofs.RefusalLemmas.{gives_fault, drop_step, stops, goes_on}
 use Rattle.gql_scope.proofs.SeenLemmas.{item_step}
 use Rattle.gql_scope.proofs.column_faults.check_listed.Goals as goal
 
@@ -16,12 +15,12 @@ returns-in_err-check_item c =
     let i = c.item-item.result in
     let rest = drop (c.loop-item.item-index + 1) c.args.items.now in
     let below : c.loop-item.item-index < length c.args.items.now = omega arith in
-    let here = refusal_of_first refusal.Column (columns_outside s (tree_of i.value) ++ repeated_name s seen (item_name i)) in
+    let here = refusal_of_first refusal.Column (faults_in_item s seen i) in
     let behind = refusal_of_first refusal.Column (faults_in_list s (item_name i ∷ seen) rest) in
     let whole = refusal_of_first refusal.Column (faults_in_list s [] c.args.items.now) in
     let cut = sym c.loop-item.invariant
     ∙ ap (λ is. refusal_of_first refusal.Column (faults_in_list s seen is)) (drop_step c.args.items.now c.loop-item.item-index i below c.item-item.is) ∙ item_step s seen i rest in
-    answers_fault c.from_residual.result c.in_err-check_item.field-0.0 whole c.from_residual.ensures.0 c.from_residual.ensures.1
+    gives_fault c.from_residual.result c.in_err-check_item.field-0.0 whole c.from_residual.ensures.0 c.from_residual.ensures.1
     (stops c.in_err-check_item.field-0.0 here behind whole c.in_err-check_item.ensures.faults cut)
 
 pub loop-item-preserved : goal.loop-item-preserved
@@ -31,7 +30,7 @@ loop-item-preserved c =
     let i = c.item-item.result in
     let rest = drop (c.loop-item.item-index + 1) c.args.items.now in
     let below : c.loop-item.item-index < length c.args.items.now = omega arith in
-    let here = refusal_of_first refusal.Column (columns_outside s (tree_of i.value) ++ repeated_name s seen (item_name i)) in
+    let here = refusal_of_first refusal.Column (faults_in_item s seen i) in
     let behind = refusal_of_first refusal.Column (faults_in_list s (item_name i ∷ seen) rest) in
     let whole = refusal_of_first refusal.Column (faults_in_list s [] c.args.items.now) in
     let cut = sym c.loop-item.invariant

@@ -4,7 +4,7 @@ use Rattle.gql_scope.specs.StaticRefusals.{refusal_of_first}
 use Rattle.gql_ast.specs.declared.filler.MapItem.{MapItem}
 use Rattle.gql_ast.specs.declared.refusal.ColumnRef.TheVariants as column
 use Rattle.gql_ast.specs.declared.refusal.Refusal.TheVariants as refusal
-use Rattle.gql_scope.specs.Seen.{seen_names}
+use Rattle.gql_scope.specs.Machinery.Seen.{seen_names}
 use Rattle.gql_scope.proofs.column_faults.check_map.Given as goal
 
 abbrev pub invariant-loop-item : goal.invariant-loop-item

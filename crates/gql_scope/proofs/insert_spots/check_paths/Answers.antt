@@ -1,8 +1,8 @@
 use Rattle.std.proofs.Common.{◌<◌, ◌++◌, length, arith}
 use Rattle.std.specs.List.{flat_map}
 use Rattle.gql_ast.specs.InsertColumns.{path_spots}
-use Rattle.gql_scope.specs.Questions.{first_in_spots}
-use Rattle.gql_scope.proofs.RefusalLemmas.{answers_fault}
+use Rattle.gql_scope.specs.Machinery.Questions.{first_in_spots}
+use Rattle.gql_scope.proofs.RefusalLemmas.{gives_fault}
 use Rattle.gql_scope.proofs.SpotLemmas.{spots_stop, spots_go_on}
 use Rattle.gql_scope.proofs.insert_spots.check_paths.Goals as goal
 
@@ -13,7 +13,7 @@ returns-in_err-check_path c =
     let e = c.in_err-check_path.field-0.0 in
     let below : c.loop-path.path-index < length c.args.paths.now = omega arith in
     let whole = first_in_spots q incoming (incoming ++ c.args.fresh.now) (flat_map path_spots c.args.paths.now) in
-    answers_fault c.from_residual.result e whole c.from_residual.ensures.0 c.from_residual.ensures.1
+    gives_fault c.from_residual.result e whole c.from_residual.ensures.0 c.from_residual.ensures.1
     (spots_stop q incoming path_spots c.args.paths.now c.loop-path.path-index c.path-item.result (incoming ++ c.loop-path.fresh) whole e below c.path-item.is
     c.loop-path.invariant c.in_err-check_path.ensures.spots)
 

@@ -1,6 +1,6 @@
 use Rattle.std.proofs.Common.{◌≡◌, map, ◌+◌, ◌*◌}
 use Rattle.gql_scope.specs.Misuses.{misused_any, misused_side}
-use Rattle.gql_scope.specs.Places.{columns_at, place_of}
+use Rattle.gql_scope.specs.Machinery.Places.{columns_at, place_of}
 use Rattle.gql_ast.specs.Meaning.{tree_of, link_of}
 use Rattle.gql_ast.specs.Machinery.Height.{height_of, highest, highest_link}
 use Rattle.gql_scope.proofs.PartLemmas.{parts_from, sides_from}

@@ -3,7 +3,7 @@ use Rattle.std.specs.Prelude.{find}
 use Rattle.gql_ast.specs.Meaning.{tree_of, link_of}
 use Rattle.gql_ast.specs.Machinery.Height.{height_of, highest, highest_link}
 use Rattle.gql_ast.specs.Scope.{names_in_trees, names_in_links}
-use Rattle.gql_scope.specs.Sought.{is_sought}
+use Rattle.gql_scope.specs.Machinery.Sought.{is_sought}
 use Rattle.gql_scope.proofs.PartLemmas.{parts_from, sides_from}
 use Rattle.gql_scope.proofs.names.+names.Given as goal
 

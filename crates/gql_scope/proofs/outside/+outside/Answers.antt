@@ -4,7 +4,7 @@ use Rattle.gql_scope.specs.ColumnFaults.{names_outside, names_outside_each, name
 use Rattle.gql_scope.proofs.FirstLemmas.{first_in_two}
 use Rattle.gql_ast.specs.Meaning.{tree_of, link_of}
 use Rattle.gql_ast.proofs.HeightLemmas.{height_of_le-highest, link_height_of_le-highest_link}
-use Rattle.gql_scope.specs.First.{first}
+use Rattle.gql_scope.specs.Machinery.First.{first}
 use Rattle.gql_scope.proofs.PartLemmas.{parts_from, sides_from, parts_step, sides_step}
 use Rattle.gql_scope.proofs.outside.+outside.Goals as goal
 

@@ -1,6 +1,6 @@
 use Rattle.std.proofs.Common.{◌≡◌, map, ◌+◌, ◌*◌}
 use Rattle.gql_scope.specs.ColumnFaults.{names_outside_each, names_outside_sides}
-use Rattle.gql_scope.specs.First.{first}
+use Rattle.gql_scope.specs.Machinery.First.{first}
 use Rattle.gql_ast.specs.Meaning.{tree_of, link_of}
 use Rattle.gql_ast.specs.Machinery.Height.{height_of, highest, highest_link}
 use Rattle.gql_scope.proofs.PartLemmas.{parts_from, sides_from}

@@ -1,6 +1,6 @@
 use Rattle.std.proofs.Common.{◌≡◌, map, ◌+◌, ◌*◌}
 use Rattle.gql_scope.specs.UnsetParameters.{unset, parameters_in_each, parameters_in_sides}
-use Rattle.gql_scope.specs.First.{first}
+use Rattle.gql_scope.specs.Machinery.First.{first}
 use Rattle.gql_ast.specs.Meaning.{tree_of, link_of}
 use Rattle.gql_ast.specs.Machinery.Height.{height_of, highest, highest_link}
 use Rattle.gql_scope.proofs.PartLemmas.{parts_from, sides_from}

@@ -4,7 +4,7 @@ use Rattle.gql_ast.specs.Outputs.{kind_of}
 use Rattle.gql_scope.specs.StaticRefusals.{refusal_of_first}
 use Rattle.gql_scope.specs.UnknownNames.{taken, unknown_in_expr, unknown_in_let}
 use Rattle.gql_ast.specs.declared.refusal.Refusal.TheVariants as refusal
-use Rattle.gql_scope.proofs.RefusalLemmas.{answers_fault, drop_step, stops}
+use Rattle.gql_scope.proofs.RefusalLemmas.{gives_fault, drop_step, stops}
 use Rattle.gql_scope.proofs.LetLemmas.{unknown_in_let-item}
 use Rattle.gql_scope.proofs.unknown_names.check_let.Goals as goal
 
@@ -19,5 +19,5 @@ returns-in_err-check_let_item-clause-names c =
     let whole = refusal_of_first refusal.Variable (unknown_in_let c.args.scope.now c.args.items.now) in
     let cut = sym c.loop-item.invariant.names
     ∙ ap (λ is. refusal_of_first refusal.Variable (unknown_in_let s is)) (drop_step c.args.items.now c.loop-item.item-index i below c.item-item.is) ∙ unknown_in_let-item s i rest in
-    answers_fault c.from_residual.result c.in_err-check_let_item.field-0.0 whole c.from_residual.ensures.0 c.from_residual.ensures.1
+    gives_fault c.from_residual.result c.in_err-check_let_item.field-0.0 whole c.from_residual.ensures.0 c.from_residual.ensures.1
     (stops c.in_err-check_let_item.field-0.0 here behind whole c.in_err-check_let_item.ensures.names cut)

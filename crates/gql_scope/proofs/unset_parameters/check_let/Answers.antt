@@ -4,7 +4,7 @@ use Rattle.gql_scope.specs.StaticRefusals.{refusal_of_first}
 use Rattle.gql_scope.specs.UnsetParameters.{unset, parameters_of}
 use Rattle.gql_ast.specs.declared.clause.LetItem.{LetItem}
 use Rattle.gql_ast.specs.declared.refusal.Refusal.TheVariants as refusal
-use Rattle.gql_scope.proofs.RefusalLemmas.{answers_fault, drop_step, stops, goes_on, unset_of_two}
+use Rattle.gql_scope.proofs.RefusalLemmas.{gives_fault, drop_step, stops, goes_on, unset_of_two}
 use Rattle.gql_scope.proofs.unset_parameters.check_let.Goals as goal
 
 pub returns-in_err-check_expr : goal.returns-in_err-check_expr
@@ -20,7 +20,7 @@ returns-in_err-check_expr c =
     let cut = sym c.loop-item.invariant
     ∙ ap (λ is. refusal_of_first refusal.Parameter (unset params (flat_map f is))) (drop_step c.args.items.now c.loop-item.item-index i below c.item-item.is)
     ∙ unset_of_two params (f i) (flat_map f rest) in
-    answers_fault c.from_residual.result c.in_err-check_expr.field-0.0 whole c.from_residual.ensures.0 c.from_residual.ensures.1
+    gives_fault c.from_residual.result c.in_err-check_expr.field-0.0 whole c.from_residual.ensures.0 c.from_residual.ensures.1
     (stops c.in_err-check_expr.field-0.0 here behind whole c.in_err-check_expr.ensures cut)
 
 pub loop-item-preserved : goal.loop-item-preserved

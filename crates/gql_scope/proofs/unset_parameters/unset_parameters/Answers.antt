@@ -3,7 +3,7 @@ use Rattle.std.specs.List.{flat_map}
 use Rattle.gql_scope.specs.StaticRefusals.{refusal_of_first}
 use Rattle.gql_scope.specs.UnsetParameters.{unset, parameters_of_clause}
 use Rattle.gql_ast.specs.declared.refusal.Refusal.TheVariants as refusal
-use Rattle.gql_scope.proofs.RefusalLemmas.{answers_fault, drop_step, stops, goes_on, unset_of_two}
+use Rattle.gql_scope.proofs.RefusalLemmas.{gives_fault, drop_step, stops, goes_on, unset_of_two}
 use Rattle.gql_scope.proofs.unset_parameters.unset_parameters.Goals as goal
 
 pub returns-in_err-check_clause : goal.returns-in_err-check_clause
@@ -19,7 +19,7 @@ returns-in_err-check_clause c =
     let cut = sym c.loop-clause.invariant
     ∙ ap (λ is. refusal_of_first refusal.Parameter (unset params (flat_map f is))) (drop_step c.args.clauses.now c.loop-clause.clause-index i below c.clause-item.is)
     ∙ unset_of_two params (f i) (flat_map f rest) in
-    answers_fault c.from_residual.result c.in_err-check_clause.field-0.0 whole c.from_residual.ensures.0 c.from_residual.ensures.1
+    gives_fault c.from_residual.result c.in_err-check_clause.field-0.0 whole c.from_residual.ensures.0 c.from_residual.ensures.1
     (stops c.in_err-check_clause.field-0.0 here behind whole c.in_err-check_clause.ensures cut)
 
 pub loop-clause-preserved : goal.loop-clause-preserved

@@ -2,7 +2,7 @@ use Rattle.std.proofs.Common.{◌≡◌, ◌<◌, ◌∙◌, ◌++◌, length, g
 use Rattle.gql_lexer.specs.Pieces.{pieces_of}
 use Rattle.gql_session.specs.Outcomes.{outcome_texts}
 use Rattle.gql_session.specs.SessionState.{starting}
-use Rattle.gql_session.specs.Meaning.{state_of}
+use Rattle.gql_session.specs.Machinery.Meaning.{session_state}
 use Rattle.gql_session.proofs.LengthLemmas.{piece-within}
 use Rattle.gql_session.proofs.RunLemmas.{none_ran, ran_none, ran_more, ran_all, ran_closed, text_fault}
 use Rattle.gql_session.proofs.run_pieces.run_pieces.Goals as goal
@@ -16,7 +16,7 @@ loop-piece-init g c = record { later = omega arith; told = λ before h. rw c.new
 pub returns-then-session-clause-told : goal.returns-then-session-clause-told
 returns-then-session-clause-told g c = λ before h.
     let at = c.loop-piece in
-    ran_closed (starting c.args.catalog) c.args.text.now before at.piece-index at.refused (state_of c.args.catalog at.session) _ c.if-session.true (at.invariant.told before h)
+    ran_closed (starting c.args.catalog) c.args.text.now before at.piece-index at.refused (session_state c.args.catalog at.session) _ c.if-session.true (at.invariant.told before h)
 
 pub run_piece-requires-clause-short : goal.run_piece-requires-clause-short
 run_piece-requires-clause-short g c =
@@ -34,7 +34,7 @@ returns-in-Err-clause-told g c = λ before h.
     let is : c.piece-item.result ≡ get_or (pieces_of c.args.text.now) at.piece-index c.piece-item.result = rw (← items) c.piece-item.is in
     let ran = at.invariant.told before h in
     let failed = rw c.as_slice.ensures at (c.in-Err.ensures.told c.args.catalog (before ++ outcome_texts ran.outcomes) ran.written) in
-    text_fault (starting c.args.catalog) c.args.text.now before at.piece-index c.piece-item.result at.refused (state_of c.args.catalog at.session) _ _ c.in-Err.fault here is ran failed
+    text_fault (starting c.args.catalog) c.args.text.now before at.piece-index c.piece-item.result at.refused (session_state c.args.catalog at.session) _ _ c.in-Err.fault here is ran failed
 
 pub loop-piece-preserved : goal.loop-piece-preserved
 loop-piece-preserved g c = record {
@@ -46,8 +46,8 @@ loop-piece-preserved g c = record {
       let is : c.piece-item.result ≡ get_or (pieces_of c.args.text.now) at.piece-index c.piece-item.result = rw (← items) c.piece-item.is in
       let ran = at.invariant.told before h in
       let step = rw c.as_slice.ensures at (c.in-Ok.ensures.told c.args.catalog (before ++ outcome_texts ran.outcomes) ran.written) in
-      ran_more (starting c.args.catalog) c.args.text.now before at.piece-index c.piece-item.result at.refused c.in-Ok.piece_refused (state_of c.args.catalog at.session)
-      (state_of c.args.catalog c.run_piece.new.session) _ _ here is ran step;
+      ran_more (starting c.args.catalog) c.args.text.now before at.piece-index c.piece-item.result at.refused c.in-Ok.piece_refused (session_state c.args.catalog at.session)
+      (session_state c.args.catalog c.run_piece.new.session) _ _ here is ran step;
 }
 
 pub returns-clause-told : goal.returns-clause-told
@@ -56,4 +56,4 @@ returns-clause-told g c = λ before h.
     let items : c.as_slice-piece-items.result.now ≡ pieces_of c.args.text.now = c.as_slice-piece-items.ensures ∙ c.in_ok-all.ensures in
     let size = ap length items in
     let all : at.piece-index ≡ length (pieces_of c.args.text.now) = omega (arith, size, c.loop-piece-test.false, at.auto.piece-index-end) in
-    ran_all (starting c.args.catalog) c.args.text.now before at.piece-index at.refused (state_of c.args.catalog at.session) _ all (at.invariant.told before h)
+    ran_all (starting c.args.catalog) c.args.text.now before at.piece-index at.refused (session_state c.args.catalog at.session) _ all (at.invariant.told before h)

@@ -1,4 +1,4 @@
-use Rattle.gql_session.proofs.EndingLemmas.{ends_as, same_index}
+use Rattle.gql_session.proofs.EndingLemmas.{ends_as, same_index, not_bad_store}
 use Rattle.gql_session.proofs.session.run_session.Goals as goal
 
 pub returns-in-Ok-clause-ends : goal.returns-in-Ok-clause-ends
@@ -12,3 +12,6 @@ pub returns-in-Err-BadRecord-clause-at_fault : goal.returns-in-Err-BadRecord-cla
 returns-in-Err-BadRecord-clause-at_fault g c = λ records i k bad.
     let told = rw c.in-Err-BadRecord.field-0-is at (c.in-Err-BadRecord.ensures.at_fault records i k bad) in
     rw c.in-Err-BadRecord.field-0-is (same_index c.in-Err-BadRecord.index i told)
+
+pub returns-in-Ok-clause-bad_store : goal.returns-in-Ok-clause-bad_store
+returns-in-Ok-clause-bad_store g c = λ records i k e. absurd (not_bad_store c.run_loaded.result i c.run_loaded.ensures.loaded e)

@@ -1,50 +1,25 @@
-use Rattle.std.proofs.Common.{subst}
-use Rattle.gql_session.specs.RunEnds.{EndsAs}
-use Rattle.gql_session.specs.declared.status.Status.{Status}
-use Rattle.gql_session.proofs.EndingLemmas.{completed}
+use Rattle.gql_session.proofs.EndingLemmas.{content_of, named, not_both, completed}
 use Rattle.gql_session.proofs.top_call.run.Goals as goal
 
-pub returns-clause-answered : goal.returns-clause-answered
-returns-clause-answered g c = λ text before records t e.
-    let P : Status → Type 0 = λ s. EndsAs records text before s (g.W.Sink.written c.run_command.new.sink) in
-    subst P e (c.run_command.ensures.ends text before records t)
+pub returns-in-None-clause-ends : goal.returns-in-None-clause-ends
+returns-in-None-clause-ends g c = λ text before records t. absurd (not_both t.text_is.command c.in-None.ensures.none)
 
-pub returns-clause-refused : goal.returns-clause-refused
-returns-clause-refused g c = λ text before records t e.
-    let P : Status → Type 0 = λ s. EndsAs records text before s (g.W.Sink.written c.run_command.new.sink) in
-    subst P e (c.run_command.ensures.ends text before records t)
+pub returns-in-None-clause-complete : goal.returns-in-None-clause-complete
+returns-in-None-clause-complete g c = λ text records d s k stands within no_source no_sink no_store. absurd (not_both s.command c.in-None.ensures.none)
 
-pub returns-clause-source_fault_leaves : goal.returns-clause-source_fault_leaves
-returns-clause-source_fault_leaves g c = λ text before records t e.
-    let P : Status → Type 0 = λ s. EndsAs records text before s (g.W.Sink.written c.run_command.new.sink) in
-    subst P e (c.run_command.ensures.ends text before records t)
+pub returns-in-Some-clause-ends : goal.returns-in-Some-clause-ends
+returns-in-Some-clause-ends g c = λ text before records t.
+    c.run_session.ensures.ends (content_of t.text_is) before records t.text_is.source_is (named t.text_is c.in-Some.name.now c.in-Some.ensures.some) t.sink_is t.records_are
 
-pub returns-clause-sink_fault_leaves : goal.returns-clause-sink_fault_leaves
-returns-clause-sink_fault_leaves g c = λ text before records t e.
-    let P : Status → Type 0 = λ s. EndsAs records text before s (g.W.Sink.written c.run_command.new.sink) in
-    subst P e (c.run_command.ensures.ends text before records t)
+pub returns-in-Some-clause-too_long : goal.returns-in-Some-clause-too_long
+returns-in-Some-clause-too_long g c = λ text s e.
+    c.run_session.ensures.too_long (content_of s) s.source_is (named s c.in-Some.name.now c.in-Some.ensures.some) e
 
-pub returns-clause-store_fault_leaves : goal.returns-clause-store_fault_leaves
-returns-clause-store_fault_leaves g c = λ text before records t e.
-    let P : Status → Type 0 = λ s. EndsAs records text before s (g.W.Sink.written c.run_command.new.sink) in
-    subst P e (c.run_command.ensures.ends text before records t)
+pub returns-in-Some-clause-at_fault : goal.returns-in-Some-clause-at_fault
+returns-in-Some-clause-at_fault g c = λ name records i command k bad. c.run_session.ensures.at_fault records i k bad
 
-pub returns-clause-no_memory_leaves : goal.returns-clause-no_memory_leaves
-returns-clause-no_memory_leaves g c = λ text before records t e.
-    let P : Status → Type 0 = λ s. EndsAs records text before s (g.W.Sink.written c.run_command.new.sink) in
-    subst P e (c.run_command.ensures.ends text before records t)
-
-pub returns-clause-too_long : goal.returns-clause-too_long
-returns-clause-too_long g c = λ text before records t e.
-    let P : Status → Type 0 = λ s. EndsAs records text before s (g.W.Sink.written c.run_command.new.sink) in
-    subst P e (c.run_command.ensures.ends text before records t)
-
-pub returns-clause-bad_store : goal.returns-clause-bad_store
-returns-clause-bad_store g c = λ text before records i t e.
-    let P : Status → Type 0 = λ s. EndsAs records text before s (g.W.Sink.written c.run_command.new.sink) in
-    subst P e (c.run_command.ensures.ends text before records t)
-
-pub returns-clause-complete : goal.returns-clause-complete
-returns-clause-complete g c = λ text before records d t stands within no_source no_sink no_store.
-    completed records text before c.run_command.result _ _ _ _ (c.run_command.ensures.ends text before records t) within
-    (λ i. c.run_command.ensures.stands text before records d i t stands) c.run_command.ensures.source_fault c.run_command.ensures.sink_fault c.run_command.ensures.store_fault no_source no_sink no_store
+pub returns-in-Some-clause-complete : goal.returns-in-Some-clause-complete
+returns-in-Some-clause-complete g c = λ text records d s k stands within no_source no_sink no_store.
+    completed text c.run_session.result _ _ _ within c.run_session.ensures.command
+    (λ e. c.run_session.ensures.too_long (content_of s) s.source_is (named s c.in-Some.name.now c.in-Some.ensures.some) e)
+    (λ i. c.run_session.ensures.stands records d i k stands) c.run_session.ensures.source_fault c.run_session.ensures.sink_fault c.run_session.ensures.store_fault no_source no_sink no_store

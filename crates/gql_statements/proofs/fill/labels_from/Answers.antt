@@ -1,6 +1,6 @@
 use Rattle.std.proofs.Common.{[], ◌∷◌, ◌++◌, sym, ap, subst, ◌∙◌, arith}
-use Rattle.gql_statements.specs.ChangeReaders.{other_label_of, other_labels_of, labels_from}
-use Rattle.gql_statements.proofs.ManyLoops.{StepsSoFar, steps_begin, steps_go_on, steps_end}
+use Rattle.gql_statements.specs.Machinery.ChangeReaders.{other_label_of, other_labels_of, labels_from}
+use Rattle.gql_parts.proofs.ManyLoops.{StepsSoFar, steps_begin, steps_go_on, steps_end}
 use Rattle.gql_statements.proofs.fill.labels_from.Goals as goal
 
 pub more-init : goal.more-init

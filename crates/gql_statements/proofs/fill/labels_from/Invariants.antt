@@ -1,6 +1,6 @@
 use Rattle.std.proofs.Common.{◌≤◌, length}
-use Rattle.gql_statements.specs.ChangeReaders.{other_label_of, labels_from}
-use Rattle.gql_statements.proofs.ManyLoops.{StepsSoFar}
+use Rattle.gql_statements.specs.Machinery.ChangeReaders.{other_label_of, labels_from}
+use Rattle.gql_parts.proofs.ManyLoops.{StepsSoFar}
 use Rattle.gql_statements.proofs.fill.labels_from.Given as goal
 
 abbrev pub invariant-more : goal.invariant-more

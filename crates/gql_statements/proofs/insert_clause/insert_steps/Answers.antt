@@ -1,7 +1,7 @@
 use Rattle.std.proofs.Common.{[], sym, subst, arith}
 use Rattle.gql_front.specs.Gives.{Fails}
-use Rattle.gql_statements.specs.ChangeReaders.{insert_step_of, insert_steps_of}
-use Rattle.gql_statements.proofs.ManyLoops.{StepsSoFar, steps_begin, steps_go_on, steps_end}
+use Rattle.gql_statements.specs.Machinery.ChangeReaders.{insert_step_of, insert_steps_of}
+use Rattle.gql_parts.proofs.ManyLoops.{StepsSoFar, steps_begin, steps_go_on, steps_end}
 use Rattle.gql_statements.proofs.insert_clause.insert_steps.Goals as goal
 
 pub more-init : goal.more-init

@@ -1,6 +1,6 @@
 use Rattle.std.proofs.Common.{◌≤◌, length}
-use Rattle.gql_statements.specs.ChangeReaders.{insert_step_of, insert_steps_of}
-use Rattle.gql_statements.proofs.ManyLoops.{StepsSoFar}
+use Rattle.gql_statements.specs.Machinery.ChangeReaders.{insert_step_of, insert_steps_of}
+use Rattle.gql_parts.proofs.ManyLoops.{StepsSoFar}
 use Rattle.gql_statements.proofs.insert_clause.insert_steps.Given as goal
 
 abbrev pub invariant-more : goal.invariant-more

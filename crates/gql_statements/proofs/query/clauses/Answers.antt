@@ -1,8 +1,8 @@
 use Rattle.std.proofs.Common.{[], ◌∷◌, length, length-append, sym, ap, subst, arith}
 use Rattle.gql_front.specs.Gives.{Fails}
-use Rattle.gql_statements.specs.ClauseReaders.{clause_of}
-use Rattle.gql_statements.specs.QueryReaders.{clauses_of}
-use Rattle.gql_statements.proofs.ManyLoops.{StepsSoFar, steps_begin, steps_go_on, steps_end}
+use Rattle.gql_statements.specs.Machinery.ClauseReaders.{clause_of}
+use Rattle.gql_statements.specs.Machinery.QueryReaders.{clauses_of}
+use Rattle.gql_parts.proofs.ManyLoops.{StepsSoFar, steps_begin, steps_go_on, steps_end}
 use Rattle.gql_statements.proofs.query.clauses.Goals as goal
 
 pub more-init : goal.more-init

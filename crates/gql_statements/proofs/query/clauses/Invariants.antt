@@ -1,7 +1,7 @@
 use Rattle.std.proofs.Common.{◌≤◌, ◌+◌, length}
-use Rattle.gql_statements.specs.ClauseReaders.{clause_of}
-use Rattle.gql_statements.specs.QueryReaders.{clauses_of}
-use Rattle.gql_statements.proofs.ManyLoops.{StepsSoFar}
+use Rattle.gql_statements.specs.Machinery.ClauseReaders.{clause_of}
+use Rattle.gql_statements.specs.Machinery.QueryReaders.{clauses_of}
+use Rattle.gql_parts.proofs.ManyLoops.{StepsSoFar}
 use Rattle.gql_statements.proofs.query.clauses.Given as goal
 
 abbrev pub invariant-more : goal.invariant-more

@@ -1,0 +1,4 @@
+-- What mirrors the code for its proofs: a reader for each production, on lists of lexemes. The promise is the grammar's.
+pub mod LabelReaders
+pub mod Readers
+pub mod EndingMeaning

@@ -1,0 +1,289 @@
+-- Reading expressions: what stands at the front of lexemes, and what is left. f reads one inside brackets.
+use Rattle.std.specs.Prelude.{ℕ, zero, suc, nat_eq, cond, List, [], ◌∷◌, length, Option, Some, None, true, false}
+use Rattle.gql_lexer.specs.declared.lexeme.Lexeme.{Lexeme}
+use Rattle.gql_lexer.specs.declared.lexeme.Lexeme.TheVariants as lex
+use Rattle.gql_values3.specs.Datum.{null, boolean, text}
+use Rattle.gql_values3.specs.declared.comparison.Comparison.{Comparison}
+use Rattle.gql_ast.specs.Tree.{Tree, Link, Links, trees_of, links_of, constant, unknown, number, parameter, name, property, paren, listing, count_all, aggregate, call, modulo, coalesce, signed, product, sum, comparing, test, label_test, end_test, negation, conjunction, disjunction, link}
+use Rattle.gql_ast.specs.declared.words.Aggregate.{Aggregate}
+use Rattle.gql_ast.specs.declared.words.Aggregate.TheVariants as aggregates
+use Rattle.gql_ast.specs.declared.words.EdgeEnd.{EdgeEnd}
+use Rattle.gql_ast.specs.declared.words.Function.{Function}
+use Rattle.gql_ast.specs.declared.words.Operator.{Operator}
+use Rattle.gql_ast.specs.declared.words.Sense.{Sense}
+use Rattle.gql_ast.specs.declared.words.Sense.TheVariants as sense
+use Rattle.gql_ast.specs.declared.words.SetQuantifier.{SetQuantifier}
+use Rattle.gql_ast.specs.declared.words.SetQuantifier.TheVariants as quantifier
+use Rattle.gql_exprs.specs.declared.atom_word.AtomWord.{AtomWord}
+use Rattle.gql_exprs.specs.declared.atom_word.AtomWord.TheVariants as atom
+use Rattle.gql_exprs.specs.declared.test_word.TestWord.{TestWord}
+use Rattle.gql_exprs.specs.declared.test_word.TestWord.TheVariants as asked
+use Rattle.gql_exprs.specs.declared.chain.Chain.{Chain}
+use Rattle.gql_exprs.specs.declared.chain.Chain.TheVariants as level
+use Rattle.gql_lexer.specs.SymbolPlaces.{opening, closing, opening_bracket, closing_bracket, comma, colon, dot, star}
+use Rattle.gql_lexer.specs.WordPlaces.{IS, NOT, OF}
+use Rattle.gql_front.specs.Tables.{entry}
+use Rattle.gql_front.specs.Reading.{◌>>=◌, Reader, is_sign, is_word, name_in, any_name_in, after, op_at, step, many, chain, prefix, ended, suffix}
+use Rattle.gql_exprs.specs.Machinery.LabelReaders.{read_label}
+use Rattle.gql_exprs.specs.ExprWords.{or_op, and_op, sum_op, product_op, sign_op, comparison_op, atom_words, quantifier_op, test_word}
+use Rattle.gql_exprs.specs.Grammar.{Ending, has_quality, has_labels, is_end}
+
+-- operators that say nothing more
+abbrev pub comma_op : Lexeme → Option (Unit {0})
+comma_op t = cond (is_sign comma t) (Some tt) None
+
+abbrev pub not_op : Lexeme → Option (Unit {0})
+not_op t = cond (is_word NOT t) (Some tt) None
+
+-- what operators make of their operands
+abbrev pub operand : Unit {0} → Tree → Tree
+operand o e = e
+
+abbrev pub negated : Unit {0} → Tree → Tree
+negated o e = negation e
+
+abbrev pub compared : Tree → Comparison × Tree → Tree
+compared e side = comparing side.0 e side.1
+
+abbrev pub other_side : Comparison → Tree → Comparison × Tree
+other_side c e = (c, e)
+
+abbrev pub tested : Tree → Ending → Tree
+tested e (has_quality s q) = test e s q
+tested e (has_labels s l) = label_test e s l
+tested e (is_end s end v) = end_test e s end v
+
+abbrev pub items : Tree → List Tree → List Tree
+items e es = e ∷ es
+
+-- a chain of one side is that side
+abbrev pub chain_or_side : (Tree → Links → Tree) → Tree → List Link → Tree
+chain_or_side node e [] = e
+chain_or_side node e (l ∷ ls) = node e (links_of (l ∷ ls))
+
+-- "." Any, behind a name
+unfoldable pub field : Reader (List ℕ)
+field ts = do
+  a ← after (is_sign dot) ts
+  op_at any_name_in a
+
+unfoldable pub named : List ℕ → Reader Tree
+named x ts = Some (ended (λ e p. property x p) (name x) ts (field ts))
+
+-- [DISTINCT or ALL]
+abbrev pub quantifier_or_all : List Lexeme → Option (SetQuantifier × List Lexeme) → SetQuantifier × List Lexeme
+quantifier_or_all ts None = (quantifier.All, ts)
+quantifier_or_all ts (Some x) = x
+
+unfoldable pub quantifier_of : List Lexeme → SetQuantifier × List Lexeme
+quantifier_of ts = quantifier_or_all ts (op_at quantifier_op ts)
+
+-- [NOT], behind IS
+abbrev pub not_or_is : List Lexeme → Option (List Lexeme) → Sense × List Lexeme
+not_or_is ts None = (sense.Is, ts)
+not_or_is ts (Some r) = (sense.IsNot, r)
+
+unfoldable pub sense_of : List Lexeme → Sense × List Lexeme
+sense_of ts = not_or_is ts (after (is_word NOT) ts)
+
+-- behind a colon or LABELED
+unfoldable pub labels_ending : Sense → Reader Ending
+labels_ending s ts = do
+  l ← read_label ts
+  Some (has_labels s l.0, l.1)
+
+-- behind SOURCE or DESTINATION
+unfoldable pub end_ending : Sense → EdgeEnd → Reader Ending
+end_ending s end ts = do
+  a ← after (is_word OF) ts
+  v ← op_at name_in a
+  Some (is_end s end v.0, v.1)
+
+-- behind the word that asks
+abbrev pub asked_ending : Sense → TestWord → Reader Ending
+asked_ending s (asked.Quality q) ts = Some (has_quality s q, ts)
+asked_ending s asked.Labeled ts = labels_ending s ts
+asked_ending s (asked.End end) ts = end_ending s end ts
+
+-- behind IS
+unfoldable pub is_ending : Reader Ending
+is_ending ts = do
+  w ← op_at test_word (sense_of ts).1
+  asked_ending (sense_of ts).0 w.0 w.1
+
+-- behind a comparison
+unfoldable pub ending : Reader Ending
+ending [] = None
+ending (lex.Sign place ∷ ts) = cond (nat_eq place colon) (labels_ending sense.Is ts) None
+ending (lex.Word place written ∷ ts) = cond (nat_eq place IS) (is_ending ts) None
+ending (lex.Name x ∷ ts) = None
+ending (lex.Chars x ∷ ts) = None
+ending (lex.Number x ∷ ts) = None
+ending (lex.Param x ∷ ts) = None
+
+-- the star of COUNT(*)
+abbrev pub star_of : Aggregate → List Lexeme → Option (List Lexeme)
+star_of aggregates.Count ts = after (is_sign star) ts
+star_of _ ts = None
+
+module _ (f : Reader Tree) where
+  -- Expr ")"
+  unfoldable pub closed_of : Reader Tree
+  closed_of ts = do
+    e ← f ts
+    r ← after (is_sign closing) e.1
+    Some (e.0, r)
+
+  -- "(" Expr ")", behind the opening one
+  unfoldable pub paren_of : Reader Tree
+  paren_of ts = do
+    e ← closed_of ts
+    Some (paren e.0, e.1)
+
+  -- Expr {"," Expr}*
+  unfoldable pub list_of : Reader (List Tree)
+  list_of ts = chain comma_op f operand items ts
+
+  -- [list(Expr)] "]", behind the opening one
+  abbrev pub empty_or_items : List Lexeme → Option (List Lexeme) → Option (Tree × List Lexeme)
+  empty_or_items ts (Some r) = Some (listing (trees_of []), r)
+  empty_or_items ts None = do
+    es ← list_of ts
+    r ← after (is_sign closing_bracket) es.1
+    Some (listing (trees_of es.0), r)
+
+  unfoldable pub listing_of : Reader Tree
+  listing_of ts = empty_or_items ts (after (is_sign closing_bracket) ts)
+
+  -- behind LIST
+  unfoldable pub word_listing_of : Reader Tree
+  word_listing_of ts = do
+    a ← after (is_sign opening_bracket) ts
+    listing_of a
+
+  -- behind the opening parenthesis of an aggregate
+  abbrev pub all_or_item : Aggregate → List Lexeme → Option (List Lexeme) → Option (Tree × List Lexeme)
+  all_or_item g ts (Some a) = do
+    r ← after (is_sign closing) a
+    Some (count_all, r)
+  all_or_item g ts None = do
+    e ← closed_of (quantifier_of ts).1
+    Some (aggregate g (quantifier_of ts).0 e.0, e.1)
+
+  -- behind the word of an aggregate
+  unfoldable pub aggregate_of : Aggregate → Reader Tree
+  aggregate_of g ts = do
+    a ← after (is_sign opening) ts
+    all_or_item g a (star_of g a)
+
+  -- behind the word of a function
+  unfoldable pub call_of : Function → Reader Tree
+  call_of c ts = do
+    a ← after (is_sign opening) ts
+    e ← closed_of a
+    Some (call c e.0, e.1)
+
+  -- Expr ",", behind an opening parenthesis
+  unfoldable pub expr_before_comma_of : Reader Tree
+  expr_before_comma_of ts = do
+    a ← after (is_sign opening) ts
+    e ← f a
+    r ← after (is_sign comma) e.1
+    Some (e.0, r)
+
+  -- behind MOD
+  unfoldable pub modulo_of : Reader Tree
+  modulo_of ts = do
+    e ← expr_before_comma_of ts
+    d ← closed_of e.1
+    Some (modulo e.0 d.0, d.1)
+
+  -- behind COALESCE
+  unfoldable pub coalesce_of : Reader Tree
+  coalesce_of ts = do
+    e ← expr_before_comma_of ts
+    es ← list_of e.1
+    r ← after (is_sign closing) es.1
+    Some (coalesce e.0 (trees_of es.0), r)
+
+  -- behind a word that begins an atom
+  abbrev pub word_atom_of : AtomWord → Reader Tree
+  word_atom_of atom.True ts = Some (constant (boolean true), ts)
+  word_atom_of atom.False ts = Some (constant (boolean false), ts)
+  word_atom_of atom.Unknown ts = Some (unknown, ts)
+  word_atom_of atom.Null ts = Some (constant null, ts)
+  word_atom_of atom.List ts = word_listing_of ts
+  word_atom_of (atom.Aggregate g) ts = aggregate_of g ts
+  word_atom_of (atom.Call c) ts = call_of c ts
+  word_atom_of atom.Mod ts = modulo_of ts
+  word_atom_of atom.Coalesce ts = coalesce_of ts
+
+  unfoldable pub atom_of : Reader Tree
+  atom_of [] = None
+  atom_of (lex.Number digits ∷ r) = Some (number digits, r)
+  atom_of (lex.Chars x ∷ r) = Some (constant (text x), r)
+  atom_of (lex.Param x ∷ r) = Some (parameter x, r)
+  atom_of (lex.Name x ∷ r) = named x r
+  atom_of (lex.Sign place ∷ r) = cond (nat_eq place opening) (paren_of r) (cond (nat_eq place opening_bracket) (listing_of r) None)
+  atom_of (lex.Word place written ∷ r) = entry atom_words place >>= λ w. word_atom_of w r
+
+  unfoldable pub signed_of : Reader Tree
+  signed_of = prefix sign_op signed atom_of
+
+  unfoldable pub product_of : Reader Tree
+  product_of = chain product_op signed_of link (chain_or_side product)
+
+  unfoldable pub sum_of : Reader Tree
+  sum_of = chain sum_op product_of link (chain_or_side sum)
+
+  unfoldable pub comparison_of : Reader Tree
+  comparison_of = suffix (step comparison_op sum_of other_side) compared sum_of
+
+  unfoldable pub test_of : Reader Tree
+  test_of = suffix ending tested comparison_of
+
+  unfoldable pub not_of : Reader Tree
+  not_of = prefix not_op negated test_of
+
+  unfoldable pub and_of : Reader Tree
+  and_of = chain and_op not_of link (chain_or_side conjunction)
+
+  unfoldable pub or_of : Reader Tree
+  or_of = chain or_op and_of link (chain_or_side disjunction)
+
+-- as deep as a number says
+unfoldable pub read_to : ℕ → Reader Tree
+read_to zero ts = None
+read_to (suc n) ts = or_of (read_to n) ts
+
+-- an expression: no brackets are nested deeper than there are lexemes
+unfoldable pub read_expr : Reader Tree
+read_expr ts = read_to (suc (length ts)) ts
+
+-- the four chains: their operators, what they make, and the readers of a side, of the further sides and of the whole
+abbrev pub operator_in : Chain → Lexeme → Option Operator
+operator_in level.Or = or_op
+operator_in level.And = and_op
+operator_in level.Sum = sum_op
+operator_in level.Product = product_op
+
+abbrev pub node_of : Chain → Tree → Links → Tree
+node_of level.Or = disjunction
+node_of level.And = conjunction
+node_of level.Sum = sum
+node_of level.Product = product
+
+abbrev pub side_of : Chain → Reader Tree → Reader Tree
+side_of level.Or f = and_of f
+side_of level.And f = not_of f
+side_of level.Sum f = product_of f
+side_of level.Product f = signed_of f
+
+unfoldable pub steps_of : Chain → Reader Tree → List Lexeme → List Link × List Lexeme
+steps_of c f ts = many (step (operator_in c) (side_of c f) link) (length ts) ts
+
+abbrev pub chain_of : Chain → Reader Tree → Reader Tree
+chain_of level.Or f = or_of f
+chain_of level.And f = and_of f
+chain_of level.Sum f = sum_of f
+chain_of level.Product f = product_of f

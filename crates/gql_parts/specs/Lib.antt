@@ -1,0 +1,5 @@
+pub mod Parts
+pub mod Values
+pub mod PartWords
+pub mod FillerGrammar
+pub mod Machinery

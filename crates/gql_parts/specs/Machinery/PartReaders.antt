@@ -1,0 +1,42 @@
+-- PartReaders: reading what productions are made of.
+use Rattle.std.specs.Prelude.{List, ◌∷◌, Bool, Option, Some, None}
+use Rattle.gql_lexer.specs.declared.lexeme.Lexeme.{Lexeme}
+use Rattle.gql_ast.specs.LabelMeaning.{label_expr_of}
+use Rattle.gql_ast.specs.Meaning.{expr_of}
+use Rattle.gql_ast.specs.declared.expr.Expr.{Expr}
+use Rattle.gql_ast.specs.declared.label.LabelExpr.{LabelExpr}
+use Rattle.gql_front.specs.Reading.{◌>>=◌, Reader, after, opted, step, sequence}
+use Rattle.gql_exprs.specs.Machinery.LabelReaders.{read_label}
+use Rattle.gql_exprs.specs.Machinery.Readers.{comma_op, read_expr}
+
+-- an expression, whose meaning is read
+unfoldable pub read_value : Reader Expr
+read_value ts = do
+  e ← read_expr ts
+  Some (expr_of e.0, e.1)
+
+-- a label expression, whose meaning is read
+unfoldable pub read_labels : Reader LabelExpr
+read_labels ts = do
+  l ← read_label ts
+  Some (label_expr_of l.0, l.1)
+
+-- an item behind a lexeme that announces it, or nothing: a lexeme that no item follows is left
+abbrev pub led : {A : Type 0} → (Lexeme → Bool) → Reader A → Reader (Option A)
+led test item ts = Some (opted ts (after test ts >>= item))
+
+-- the lexemes behind one that passes the test, or all
+abbrev pub behind_or : List Lexeme → Option (List Lexeme) → List Lexeme
+behind_or ts None = ts
+behind_or ts (Some a) = a
+
+abbrev pub past : (Lexeme → Bool) → List Lexeme → List Lexeme
+past test ts = behind_or ts (after test ts)
+
+-- what a comma makes of the item behind it
+abbrev pub taken : {A : Type 0} → Unit {0} → A → A
+taken o x = x
+
+-- items between commas
+abbrev pub listed : {A : Type 0} → Reader A → Reader (List A)
+listed item = sequence item (step comma_op item taken) (λ x xs. x ∷ xs)
