@@ -1,5 +1,5 @@
 -- The code's normal patterns, seen as plain data: what a variant with its boxes and lists means.
-use Rattle.std.specs.Prelude.{ℕ, List, map, option_map}
+use Rattle.std.specs.Prelude.{map, option_map}
 use Rattle.gql_ast.specs.LabelMeaning.{label_of}
 use Rattle.gql_ast.specs.Meaning.{tree_of}
 use Rattle.gql_norm.specs.NormalPattern.{Predicate, PropertyIs, Holds, ElementPattern, Part, Node, Edge, Concat, Union, Alt, Quant, Opt, Scope, in_a_row, side_by_side, sides_of, Selector, Any, Shortest, Groups, NormalPath, NormalPattern}

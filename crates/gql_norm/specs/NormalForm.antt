@@ -14,7 +14,7 @@ use Rattle.gql_ast.specs.declared.path.Prefix.{Prefix}
 use Rattle.gql_ast.specs.declared.path.Prefix.TheVariants as prefix
 use Rattle.gql_ast.specs.declared.pattern.Quantifier.{Quantifier}
 use Rattle.gql_ast.specs.declared.pattern.Quantifier.TheVariants as quantifier
-use Rattle.gql_norm.specs.NormalPattern.{Predicate, PropertyIs, Holds, ElementPattern, anonymous, Part, Node, Edge, Concat, Union, Alt, Quant, Opt, Scope, Sides, sides_of, in_a_row, side_by_side, NoSide, Side, Selector, Any, Shortest, Groups, NormalPath, NormalPattern}
+use Rattle.gql_norm.specs.NormalPattern.{Predicate, PropertyIs, Holds, ElementPattern, anonymous, Part, Node, Edge, Concat, Alt, Quant, Opt, Scope, sides_of, in_a_row, side_by_side, Side, Selector, Any, Shortest, Groups, NormalPath, NormalPattern}
 
 -- `{p: e}` asks that the element's p equals e
 abbrev pub predicates_of : Option ConditionTree → List Predicate
