@@ -1,0 +1,24 @@
+pub mod NormalFormLemmas
+pub mod Listing
+pub mod MatchTableLemmas
+pub mod AmongLemmas
+pub mod ExpansionLemmas
+pub mod LayingLemmas
+pub mod LengthLemmas
+pub mod ReducedOrder
+pub mod ListedBindings
+pub mod ExampleGraph
+pub mod BindingExamples
+mod MoreBindingExamples
+mod RowExamples
+mod LegalExamples
+mod SelectorExamples
+pub mod ModeLemmas
+mod NormalFormExamples
+pub mod Pigeonhole
+pub mod ScopeLemmas
+pub mod Finiteness
+pub mod FiniteLists
+pub mod PathLemmas
+pub mod TrailLemmas
+pub mod RowLengths

@@ -1,0 +1,5 @@
+-- What mirrors the code for its proofs: codes by which parts are told apart, and their heights. A reader of the promises may
+-- skip it.
+pub mod PartCode
+pub mod PartHeight
+pub mod PartFalls

@@ -1,0 +1,19 @@
+//! Normal patterns, and what a match of one is: the definitions that path patterns are proved against.
+//!
+//! `specs/` leads from a graph pattern as it was written to its normal form, its expansions, their matches on a graph, reduced
+//! bindings, selection and the rows of MATCH, and says what is refused of a pattern before it runs. The laws tell that these
+//! definitions are sane. It stands on the trees of gql_ast, the scopes of gql_eval and the refusals of gql_scope.
+#![tactic(auto)]
+
+mod element;
+mod laws;
+mod part;
+mod path;
+
+pub use element::{ElementPattern, Predicate, Predicates};
+pub use laws::{
+    acyclic_is_simple, acyclic_is_trail, bindings_are_finite, match_tables_grow, members_are_paths,
+    modes_admit_beginnings, row_order_has_no_duplicates, row_order_is_total, rows_fit_columns,
+};
+pub use part::{Part, PartList, PartSub};
+pub use path::{NormalPath, NormalPaths, NormalPattern, Selector};
