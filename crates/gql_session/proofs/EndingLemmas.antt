@@ -60,6 +60,10 @@ content_of {text = text} t = record { name = t.name; ready = t.ready; left = tex
 pub named : {words : List (List ℕ)} {source : Option Content} {text : List ℕ} (t : SourceTells words source text) (name : List ℕ) → session_of words ≡ Some name → t.name ≡ name
 named t name p = let e = t.command in cc
 
+-- a record at fault is no lack of the store or of memory
+pub not_lacking : IsTrue false → ⊥
+not_lacking p = cc
+
 -- words are a command or none
 pub not_both : {command : Option (List ℕ)} {name : List ℕ} → command ≡ Some name → command ≡ None → ⊥
 not_both p q = cc

@@ -15,3 +15,7 @@ take-suc (y ∷ ys) (suc i) x p = ap (λ zs. y ∷ zs) (take-suc ys i x p)
 -- one item more of a list
 pub take-next : {A : Type 0} (xs : List A) (i : ℕ) (x : A) → slice_get xs i ≡ Some x → take (i + 1) xs ≡ take i xs ++ x ∷ []
 take-next xs i x p = rw add-one (take-suc xs i x p)
+
+-- a record at fault is no want of memory
+pub not_lack : (j : ℕ) → read.BadRecord j ≡ read.OutOfMemory → IsTrue false
+not_lack j q = cc
