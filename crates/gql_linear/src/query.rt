@@ -47,7 +47,11 @@ pub fn run_reading_query<V: View>(
 pub fn changes_data(query: &Query) -> bool
     ensures { result ≡ changes_data query.now }
 {
-    query.clauses.as_slice().iter().any(is_change)
+    query
+        .clauses
+        .as_slice()
+        .iter()
+        .any(|clause| is_change(clause))
 }
 
 /// The answer with its table, if it has one.
