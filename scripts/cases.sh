@@ -44,11 +44,9 @@ for name in $names; do
   fi
 done
 
-# A session of examples/ is a link into data/ already.
-for session in "$crate"/data/*.gql; do
-  if [ ! -L "$top/examples/${session##*/}" ]; then rm -f "$session"; fi
-done
-for session in "$folder"/*.gql; do
+# The sessions of examples/ stand in data/ too: the gate takes no links.
+rm -f "$crate"/data/*.gql
+for session in "$top"/examples/*.gql "$folder"/*.gql; do
   if [ -e "$session" ]; then cp "$session" "$crate/data/" || exit 74; fi
 done
 
