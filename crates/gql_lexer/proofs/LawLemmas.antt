@@ -25,7 +25,7 @@ with_bytes-join (x ∷ xs) (p ∷ ps) =
     append_assoc ((x ∷ xs) ++ p.bytes) e (flat_map with_end ps) ∙ append_assoc (x ∷ xs) p.bytes (e ++ flat_map with_end ps)
     ∙ ap (λ t. (x ∷ xs) ++ t) (sym (append_assoc p.bytes e (flat_map with_end ps)))
 
-end-bytes : (shape : Shape) (bytes : List ℕ) → is_end shape ≡ true → Tells shape bytes → bytes ≡ 59 ∷ []
+pub end-bytes : (shape : Shape) (bytes : List ℕ) → is_end shape ≡ true → Tells shape bytes → bytes ≡ 59 ∷ []
 end-bytes (Symbol place) bytes e t = t e
 end-bytes Gap bytes e t = cc
 end-bytes Plain bytes e t = cc
@@ -75,7 +75,7 @@ pub spans-join : (bs : List ℕ) → SpansJoin bs
 spans-join bs = spans-by (length bs) bs (omega arith)
 
 -- a bound that grows is a bound
-each-more : (fs : List (Option Front)) (m n : ℕ) → m ≤ n → EachForm (λ f. f.size ≤ m) fs → EachForm (λ f. f.size ≤ n) fs
+pub each-more : (fs : List (Option Front)) (m n : ℕ) → m ≤ n → EachForm (λ f. f.size ≤ m) fs → EachForm (λ f. f.size ≤ n) fs
 each-more [] m n h e = tt
 each-more (None ∷ fs) m n h e = (tt, each-more fs m n h e.1)
 each-more (Some f ∷ fs) m n h e = (omega (arith, e.0), each-more fs m n h e.1)

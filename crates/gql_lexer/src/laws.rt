@@ -2,7 +2,7 @@
 ghost use Rattle.std.specs.Prelude.{◌≡◌, ◌⊎◌, ℕ, List, ◌∷◌, Some};
 ghost use Rattle.gql_lexer.specs.declared.lexeme.Lexeme.{Lexeme};
 ghost use Rattle.gql_lexer.specs.Lexemes.{lexemes_of};
-ghost use Rattle.gql_lexer.specs.Laws.{PiecesJoin, SpansJoin, NoneIsLonger, IsAForm, AreBad, IsOpen, IsOpenBlock};
+ghost use Rattle.gql_lexer.specs.Laws.{PiecesJoin, SpansJoin, SpansOfPiecesJoin, LexemesOfPiecesJoin, PiecesAreWhole, NoneIsLonger, IsAForm, AreBad, IsOpen, IsOpenBlock};
 
 /// The bytes of the pieces, each with the `;` that ended it, are the bytes.
 pub fn pieces_join()
@@ -12,6 +12,15 @@ pub fn pieces_join()
 /// The bytes of the forms are the bytes: nothing is left out, and nothing stands twice.
 pub fn spans_join()
     ensures { (bytes : List ℕ) → SpansJoin bytes }
+{}
+
+/// Pieces may be read one by one: the lexemes of the pieces, each followed by the `;` that ended it, are those of the
+/// whole text, and there are none where one of a piece is bad. The same holds of the forms, gaps and bad ones included.
+/// A piece cut again is one piece, or none where it is empty.
+pub fn pieces_are_read_one_by_one()
+    ensures forms { (bytes : List ℕ) → SpansOfPiecesJoin bytes }
+    ensures lexemes { (bytes : List ℕ) → LexemesOfPiecesJoin bytes }
+    ensures whole { (bytes : List ℕ) → PiecesAreWhole bytes }
 {}
 
 /// At a place stands the longest form that could.

@@ -22,7 +22,8 @@ pub mod words;
 
 pub use fault::LexFault;
 pub use laws::{
-    lexemes_are_one_list, pieces_join, spans_join, the_longest_form_counts, what_is_open_is_bad,
+    lexemes_are_one_list, pieces_are_read_one_by_one, pieces_join, spans_join,
+    the_longest_form_counts, what_is_open_is_bad,
 };
 pub use lexeme::{Lexeme, Lexemes, lexemes};
 pub use piece::{Piece, Pieces, pieces};
