@@ -1,4 +1,5 @@
 pub mod NormalFormLemmas
+pub mod NormalPartLemmas
 pub mod Listing
 pub mod MatchTableLemmas
 pub mod AmongLemmas

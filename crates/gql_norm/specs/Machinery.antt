@@ -3,3 +3,4 @@
 pub mod PartCode
 pub mod PartHeight
 pub mod PartFalls
+pub mod PropertyPredicates

@@ -6,14 +6,20 @@
 #![tactic(auto)]
 
 mod element;
+mod element_forms;
 mod laws;
+mod normal_form;
+mod normal_parts;
+mod numbers;
 mod part;
 mod path;
+mod selectors;
 
 pub use element::{ElementPattern, Predicate, Predicates};
 pub use laws::{
     acyclic_is_simple, acyclic_is_trail, bindings_are_finite, match_tables_grow, members_are_paths,
     modes_admit_beginnings, row_order_has_no_duplicates, row_order_is_total, rows_fit_columns,
 };
+pub use normal_form::normal;
 pub use part::{Part, PartList, PartSub};
 pub use path::{NormalPath, NormalPaths, NormalPattern, Selector};
