@@ -1,1 +1,2 @@
 pub mod OutcomeText
+pub mod Machinery

@@ -1,7 +1,0 @@
-use Rattle.std.proofs.Common.{◌≡◌, ◌++◌, drop}
-use Rattle.std.specs.List.{flat_map}
-use Rattle.gql_text.specs.OutcomeText.{row_text}
-use Rattle.gql_text.proofs.outcome.push_rows.Given as goal
-
-abbrev pub invariant-loop-row : goal.invariant-loop-row
-invariant-loop-row l = l.text ++ flat_map row_text (drop l.row-index l.rows) ≡ l.fn.text ++ flat_map row_text l.rows
