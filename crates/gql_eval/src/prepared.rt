@@ -1,0 +1,131 @@
+//! An expression that is prepared once and then evaluated in many rows.
+
+ghost use Rattle.std.specs.Prelude.{◌≡◌, ◌++◌, map, IfOk};
+ghost use Rattle.gql_values3.specs.Meaning.{datum_of};
+ghost use Rattle.gql_ast.specs.Meaning.{tree_of};
+ghost use Rattle.gql_ast.specs.Scope.{row_scope};
+ghost use Rattle.gql_ast.specs.TruthValues.{truth_in};
+ghost use Rattle.gql_ast.specs.Evaluation.{value_of, pattern_truth};
+ghost use Rattle.gql_eval.specs.Bound.{bound_scope};
+ghost use Rattle.gql_eval.specs.CowValue.{cow_datum};
+ghost use Rattle.gql_eval.specs.Gives.{Gives};
+ghost use Rattle.gql_eval.specs.Machinery.Next.{next};
+ghost use Rattle.gql_eval.specs.Machinery.ScopeMeaning.{columns_of};
+
+use crate::cow::CowValue;
+use crate::error::EvalError;
+use crate::evaluation::value_in;
+use crate::scope::{Header, Scope};
+use crate::truths::truth_of_value;
+use gql_ast::Expr;
+use gql_values3::{Binding, OutOfMemory, Params, Text, Truth, Value, View};
+use std::alloc::Global;
+use std::marker::Model;
+
+/// An expression prepared for the rows under some columns, and for parameters. It is seen as these three.
+#[derive(Drop)]
+pub struct Prepared<'a> {
+    header: Header<'a>,
+    params: &'a Params,
+    expr: &'a Expr,
+}
+
+impl<'a> Model for Prepared<'a> {
+    ghost use Rattle.gql_ast.specs.Meaning.{tree_of};
+    ghost use Rattle.gql_eval.specs.Preparation.{Preparation};
+    ghost use Rattle.gql_eval.specs.Machinery.ScopeMeaning.{columns_of};
+
+    ghost Value = { Preparation };
+
+    ghost use Rattle.std.specs.Coded.{codes};
+    ghost use Rattle.gql_values3.specs.Datum.{coded_datum};
+    ghost use Rattle.gql_ast.specs.Machinery.TreeCode.{coded_tree};
+
+    ghost coded = { Prim.hlevel (codes, coded_datum, coded_tree) };
+
+    ghost view = { λ p. record { columns = columns_of p.header; params = p.params.now; tree = tree_of p.expr.now } };
+}
+
+impl<'a> Prepared<'a> {
+    /// Prepares the expression. Columns that it does not name don't matter; `Header::Indexed` is for many of them.
+    pub fn new(
+        _alloc: Global,
+        header: Header<'a>,
+        params: &'a Params,
+        expr: &'a Expr,
+    ) -> Result<Prepared<'a>, OutOfMemory>
+        ensures { IfOk result (λ p. p ≡ record { columns = columns_of header.entry; params = params.now; tree = tree_of expr.now }) }
+    {
+        Ok(Prepared {
+            header,
+            params,
+            expr,
+        })
+    }
+
+    /// The value over a graph and a row, or its first fault. Values past the last column and columns past the last
+    /// value are not seen. What is lent stands in the graph, in the row, or in what was prepared.
+    #[tactic(auto, using(crate::proofs::ScopeLemmas::append_none))]
+    pub fn value<'r, V: View>(
+        &'r self,
+        alloc: Global,
+        view: &'r V,
+        row: &'r [Value],
+    ) -> Result<CowValue<'r>, EvalError>
+        ensures { Gives cow_datum result (value_of (V.graph view.now) self.now.params (row_scope self.now.columns (map datum_of row.now)) self.now.tree) }
+    {
+        self.value_beside(alloc, view, row, &[])
+    }
+
+    /// The same where names of a match stand behind the columns.
+    #[tactic(auto, unfolding(crate::specs::Machinery::ScopeMeaning::scope_of, crate::specs::Machinery::ScopeMeaning::rest_of))]
+    pub fn value_beside<'r, V: View>(
+        &'r self,
+        alloc: Global,
+        view: &'r V,
+        row: &'r [Value],
+        bound: &'r [(Text, Binding)],
+    ) -> Result<CowValue<'r>, EvalError>
+        ensures { Gives cow_datum result (value_of (V.graph view.now) self.now.params (row_scope self.now.columns (map datum_of row.now) ++ bound_scope bound.now) self.now.tree) }
+    {
+        let scope = Scope {
+            front: &[],
+            header: self.header,
+            row,
+            bound,
+        };
+        value_in(alloc, view, &scope, self.params, self.expr)
+    }
+
+    /// The truth of the expression as a predicate inside a path pattern, whose matches have these names beside the
+    /// columns. Every fault is Unknown.
+    pub fn holds_beside<V: View>(
+        &self,
+        alloc: Global,
+        view: &V,
+        row: &[Value],
+        bound: &[(Text, Binding)],
+    ) -> Result<Truth, OutOfMemory>
+        ensures { IfOk result (λ truth. truth ≡ pattern_truth (V.graph view.now) self.now.params (row_scope self.now.columns (map datum_of row.now) ++ bound_scope bound.now) self.now.tree) }
+    {
+        match self.truth_beside(alloc, view, row, bound) {
+            Ok(truth) => Ok(truth),
+            Err(EvalError::Fault(_)) => Ok(Truth::Unknown),
+            Err(EvalError::OutOfMemory) => Err(OutOfMemory),
+        }
+    }
+
+    /// The truth of the expression as a condition, or its first fault.
+    fn truth_beside<V: View>(
+        &self,
+        alloc: Global,
+        view: &V,
+        row: &[Value],
+        bound: &[(Text, Binding)],
+    ) -> Result<Truth, EvalError>
+        ensures { Gives (λ t. t) result (next (value_of (V.graph view.now) self.now.params (row_scope self.now.columns (map datum_of row.now) ++ bound_scope bound.now) self.now.tree) truth_in) }
+    {
+        let value = self.value_beside(alloc, view, row, bound)?;
+        Ok(truth_of_value(value.value())?)
+    }
+}
