@@ -26,4 +26,6 @@ pub mod BuildingLemmas
 pub mod FitsLemmas
 pub mod ConflictLaw
 pub mod EndpointLemmas
+pub mod FittingRows
+pub mod GuardLemmas
 pub mod AssignmentExamples

@@ -6,4 +6,5 @@ pub mod Deletion
 pub mod Insertion
 pub mod Changing
 pub mod Plans
+pub mod AcceptedInserts
 pub mod Machinery

@@ -1,9 +1,10 @@
 //! What a clause that changes data comes to.
 
-ghost use Rattle.std.specs.Prelude.{◌≡◌, ◌==◌, length, IfOk};
+ghost use Rattle.std.specs.Prelude.{◌≡◌, ◌==◌, length, IfOk, IsTrue};
 ghost use Rattle.std.specs.List.{list_all};
 ghost use Rattle.gql_ast.specs.declared.change.ChangeClause.TheVariants.{Insert as insert_clause};
 ghost use Rattle.gql_ast.specs.InsertColumns.{change_columns};
+ghost use Rattle.gql_eval.specs.RowLists.{rows_fit};
 ghost use Rattle.gql_change.specs.Changing.{change_of};
 ghost use Rattle.gql_change.specs.Plans.{Plans};
 
@@ -30,8 +31,23 @@ pub struct Planned {
 ///
 /// Ok holds changes that can act one after the other. `Refused` is E18 with the first fault of an expression, rows in
 /// order and, within a row, in the order of the text; else E20 of DELETE, E21 of SET, E24 of INSERT, with the least
-/// element at fault.
+/// element at fault. Rows that fit their columns become rows that fit the columns behind the clause.
 pub fn plan<V: View>(
+    alloc: Global,
+    view: &V,
+    columns: &Columns,
+    rows: Rows,
+    params: &Params,
+    clause: &ChangeClause,
+) -> Result<Planned, ChangeFault>
+    ensures change { Plans (λ p. (p.list, p.rows)) (V.graph view.now) result (change_of (V.graph view.now) params.now columns.now rows clause.now) }
+    ensures columns { IfOk result (λ p. p.columns ≡ change_columns columns.now clause.now) }
+    ensures fit { IsTrue (rows_fit columns.now rows) → IfOk result (λ p. IsTrue (rows_fit p.columns p.rows)) }
+{
+    plan_clause(alloc, view, columns, rows, params, clause)
+}
+
+fn plan_clause<V: View>(
     alloc: Global,
     view: &V,
     columns: &Columns,

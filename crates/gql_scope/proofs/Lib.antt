@@ -7,5 +7,7 @@ pub mod LetLemmas
 pub mod SeenLemmas
 pub mod SpotLemmas
 pub mod MapLemmas
+pub mod WalkLemmas
+pub mod EndpointLemmas
 mod RefusalExamples
 mod ChangeExamples

@@ -1,6 +1,6 @@
 //! The columns behind each clause.
 
-ghost use Rattle.std.specs.Prelude.{◌≡◌, [], ◌∷◌, ◌++◌, OnOk};
+ghost use Rattle.std.specs.Prelude.{◌≡◌, [], ◌∷◌, ◌++◌, OnOk, IsFalse};
 ghost use Rattle.gql_ast.specs.Meaning.{tree_of};
 ghost use Rattle.gql_ast.specs.Outputs.{kind_of, element_kind};
 ghost use Rattle.gql_ast.specs.ClauseColumns.{let_columns, counter_column, for_columns, with_node, match_columns};
@@ -146,6 +146,22 @@ pub fn step(alloc: Global, scope: &mut KnownColumns, clause: &Clause) -> Result<
         Clause::Change(change) => push_change(alloc, scope, change),
         Clause::Filter(_) | Clause::Page(_) => Ok(()),
     }
+}
+
+/// Changes the columns to those behind the clause, unless it is the last: nobody asks for those behind it, and an INSERT
+/// may give very many.
+pub fn step_unless_last(
+    alloc: Global,
+    scope: &mut KnownColumns,
+    clause: &Clause,
+    is_last: bool,
+) -> Result<(), OutOfMemory>
+    ensures { OnOk result (IsFalse is_last → scope.new ≡ columns_behind scope.old clause.now) }
+{
+    if is_last {
+        return Ok(());
+    }
+    step(alloc, scope, clause)
 }
 
 /// Changes the columns to those that RETURN gives.

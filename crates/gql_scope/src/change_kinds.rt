@@ -1,18 +1,20 @@
 //! E09 in a clause that changes data: an endpoint that is no node, or a target that is no element.
 
-ghost use Rattle.std.specs.Prelude.{◌≡◌, ◌++◌};
+ghost use Rattle.std.specs.Prelude.{◌≡◌, [], ◌++◌};
+ghost use Rattle.std.specs.Bool.{OnTrue};
 ghost use Rattle.std.specs.List.{flat_map};
 ghost use Rattle.gql_ast.specs.InsertColumns.{insert_spots};
 ghost use Rattle.gql_scope.specs.StaticRefusals.{refusal_of_first};
 ghost use Rattle.gql_ast.specs.Endpoints.{is_node, wrong_endpoint, wrong_in_spots};
 ghost use Rattle.gql_scope.specs.WrongKinds.{is_element, wrong_target, set_target, remove_target, wrong_in_change};
 ghost use Rattle.gql_scope.specs.Gives.{Gives};
+ghost use Rattle.gql_scope.specs.Machinery.NodesAlone.{are_unnamed, hold_nodes, name_no_edge};
 
 use crate::columns::KnownColumns;
 use crate::fault::ScopeFault;
 use crate::insert_spots::{SpotQuestion, check_spots};
 use crate::standing::{standing_kind, stands};
-use gql_ast::{ChangeClause, InsertPath, Refusal, RemoveItem, SetItem};
+use gql_ast::{ChangeClause, InsertPath, InsertStep, Refusal, RemoveItem, SetItem};
 use gql_values3::{ColumnKind, Text};
 use std::alloc::Global;
 
@@ -64,12 +66,51 @@ pub fn check_endpoint(
     }
 }
 
-/// Checks the endpoints of INSERT.
-#[tactic(auto, using(crate::proofs::SpotLemmas::wrong_is_first))]
+/// Checks the endpoints of INSERT. Where only nodes have variables, nothing can be at fault, and no name is looked up.
 fn check_insert(alloc: Global, scope: &KnownColumns, paths: &[InsertPath]) -> Result<(), ScopeFault>
     ensures { Gives result (refusal_of_first Refusal.Kind (wrong_in_spots scope.now (insert_spots paths.now))) }
 {
+    if are_nodes_alone(scope, paths) {
+        Ok(())
+    } else {
+        check_endpoints(alloc, scope, paths)
+    }
+}
+
+#[tactic(auto, using(crate::proofs::SpotLemmas::wrong_is_first))]
+fn check_endpoints(
+    alloc: Global,
+    scope: &KnownColumns,
+    paths: &[InsertPath],
+) -> Result<(), ScopeFault>
+    ensures { Gives result (refusal_of_first Refusal.Kind (wrong_in_spots scope.now (insert_spots paths.now))) }
+{
     check_spots(alloc, SpotQuestion::Kinds, scope, paths)
+}
+
+/// Whether the columns hold nodes and no edge has a variable.
+fn are_nodes_alone(scope: &KnownColumns, paths: &[InsertPath]) -> bool
+    ensures { OnTrue result (wrong_in_spots scope.now (insert_spots paths.now) ≡ []) }
+{
+    hold_nodes(scope.columns()) && name_no_edge(paths)
+}
+
+fn hold_nodes(columns: &[(Text, ColumnKind)]) -> bool
+    ensures { result ≡ hold_nodes columns.now }
+{
+    columns.iter().all(|column| is_node(column.1))
+}
+
+fn name_no_edge(paths: &[InsertPath]) -> bool
+    ensures { result ≡ name_no_edge paths.now }
+{
+    paths.iter().all(|path| are_unnamed(path.steps.as_slice()))
+}
+
+fn are_unnamed(steps: &[InsertStep]) -> bool
+    ensures { result ≡ are_unnamed steps.now }
+{
+    steps.iter().all(|step| step.edge.variable.is_none())
 }
 
 /// Checks that a target, where it is a column, is an element.

@@ -1,7 +1,8 @@
 //! E08 in a clause that changes data: a name that is no column, or an INSERT variable that may not stand already.
 
-ghost use Rattle.std.specs.Prelude.{◌≡◌, ◌++◌};
+ghost use Rattle.std.specs.Prelude.{◌≡◌, ◌++◌, ◌&&◌, not};
 ghost use Rattle.std.specs.List.{flat_map};
+ghost use Rattle.gql_ast.specs.ClauseColumns.{is_column};
 ghost use Rattle.gql_ast.specs.InsertColumns.{insert_spots};
 ghost use Rattle.gql_scope.specs.StaticRefusals.{refusal_of_first};
 ghost use Rattle.gql_scope.specs.UnknownNames.{may_refer, misplaced, unknown_in_map, unknown_in_spots, missing, unknown_in_expr, unknown_in_set, unknown_in_remove, unknown_in_change};
@@ -26,6 +27,23 @@ fn may_refer(kind: ColumnKind, fill: &Fill) -> bool
     }
 }
 
+/// Whether the variable stands already and may not. Most that stand may: those are not looked up.
+fn stands_wrongly(
+    incoming: &KnownColumns,
+    fresh: &KnownColumns,
+    kind: ColumnKind,
+    fill: &Fill,
+    name: &Text,
+) -> bool
+    ensures { result ≡ (is_column (incoming.now ++ fresh.now) name.now && not (may_refer kind fill.now.labels fill.now.map)) }
+{
+    if may_refer(kind, fill) {
+        false
+    } else {
+        stands(incoming, fresh, name)
+    }
+}
+
 /// Checks that a variable that stands already may stand here.
 fn check_variable(
     alloc: Global,
@@ -37,7 +55,7 @@ fn check_variable(
     ensures { Gives result (refusal_of_first Refusal.Variable (misplaced (incoming.now ++ fresh.now) kind fill.now fill.now.variable)) }
 {
     match &fill.variable {
-        Some(name) if stands(incoming, fresh, name) && !may_refer(kind, fill) => {
+        Some(name) if stands_wrongly(incoming, fresh, kind, fill, name) => {
             Err(ScopeFault::Defect(Refusal::Variable(name.try_copy(alloc)?)))
         }
         _ => Ok(()),

@@ -1,6 +1,6 @@
 //! E16: a name that stands twice, a column outside an aggregate, keys that GROUP BY misses, or no columns for `*`.
 
-ghost use Rattle.std.specs.Prelude.{◌≡◌, [], ◌∷◌, ◌++◌, map, OnOk, IfOk, if◌then◌else◌};
+ghost use Rattle.std.specs.Prelude.{◌≡◌, [], ◌∷◌, ◌++◌, map, OnOk, IfOk, if◌then◌else◌, IsFalse};
 ghost use Rattle.std.specs.Option.{option_copied};
 ghost use Rattle.gql_scope.specs.ColumnFaults.{is_among, repeated, faults_in_condition, faults_in_node, columns_outside, repeated_name, faults_in_item, faults_in_list, faults_in_items, faults_in_return, faults_in_clause, faults_in_clauses};
 ghost use Rattle.gql_ast.specs.Meaning.{tree_of};
@@ -12,7 +12,7 @@ ghost use Rattle.gql_scope.specs.Gives.{Gives, Fails};
 ghost use Rattle.gql_scope.specs.Machinery.Seen.{seen_names};
 
 use crate::aggregates::has_aggregate;
-use crate::behind::{push_copy, step};
+use crate::behind::{push_copy, step_unless_last};
 use crate::change_maps::check_change;
 use crate::columns::KnownColumns;
 use crate::fault::ScopeFault;
@@ -209,24 +209,30 @@ fn check_clause(alloc: Global, scope: &KnownColumns, clause: &Clause) -> Result<
     }
 }
 
-/// Checks a clause, and changes the columns to those behind it.
-fn pass_clause(alloc: Global, scope: &mut KnownColumns, clause: &Clause) -> Result<(), ScopeFault>
+/// Checks a clause, and changes the columns to those behind it, unless it is the last.
+fn pass_clause(
+    alloc: Global,
+    scope: &mut KnownColumns,
+    clause: &Clause,
+    is_last: bool,
+) -> Result<(), ScopeFault>
     ensures faults { Gives result (refusal_of_first Refusal.Column (faults_in_clause scope.old clause.now)) }
-    ensures columns { OnOk result (scope.new ≡ columns_behind scope.old clause.now) }
+    ensures columns { OnOk result (IsFalse is_last → scope.new ≡ columns_behind scope.old clause.now) }
 {
     check_clause(alloc, scope, clause)?;
-    step(alloc, scope, clause)?;
+    step_unless_last(alloc, scope, clause, is_last)?;
     Ok(())
 }
 
 /// Checks a query's clauses.
-#[tactic(auto, using(crate::proofs::RefusalLemmas::first_of_in_two))]
 pub fn column_faults(alloc: Global, clauses: &[Clause]) -> Result<(), ScopeFault>
     ensures { Gives result (refusal_of_first Refusal.Column (faults_in_clauses [] clauses.now)) }
 {
     let mut scope = KnownColumns::new(alloc);
-    for clause in clauses {
-        pass_clause(alloc, &mut scope, clause)?;
+    for i in 0..clauses.len() {
+        let clause = &clauses[i];
+        let is_last = i + 1 == clauses.len();
+        pass_clause(alloc, &mut scope, clause, is_last)?;
     }
     Ok(())
 }

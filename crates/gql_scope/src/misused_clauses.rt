@@ -1,6 +1,6 @@
 //! E15: something is misused in a clause.
 
-ghost use Rattle.std.specs.Prelude.{◌≡◌, [], ◌∷◌, ◌++◌, ◌||◌, OnOk};
+ghost use Rattle.std.specs.Prelude.{◌≡◌, [], ◌∷◌, ◌++◌, ◌||◌, OnOk, IsFalse};
 ghost use Rattle.std.specs.Option.{option_copied};
 ghost use Rattle.std.specs.List.{list_any};
 ghost use Rattle.gql_ast.specs.ClauseColumns.{with_filler, match_columns, let_columns, for_columns};
@@ -235,14 +235,42 @@ fn check_clause(alloc: Global, scope: &mut KnownColumns, clause: &Clause) -> Res
     }
 }
 
+/// Checks a clause behind which there is none: the columns behind a change are asked of nobody.
+fn check_last(alloc: Global, scope: &mut KnownColumns, clause: &Clause) -> Result<(), ScopeFault>
+    ensures { Gives result (misuse_if (misused_clause scope.old clause.now)) }
+{
+    match clause {
+        Clause::Change(change) => check_change(alloc, scope, change),
+        _ => check_clause(alloc, scope, clause),
+    }
+}
+
+/// Checks a clause, and changes the columns to those behind it, unless it is the last.
+fn pass_clause(
+    alloc: Global,
+    scope: &mut KnownColumns,
+    clause: &Clause,
+    is_last: bool,
+) -> Result<(), ScopeFault>
+    ensures misuses { Gives result (misuse_if (misused_clause scope.old clause.now)) }
+    ensures columns { OnOk result (IsFalse is_last → scope.new ≡ columns_behind scope.old clause.now) }
+{
+    if is_last {
+        check_last(alloc, scope, clause)
+    } else {
+        check_clause(alloc, scope, clause)
+    }
+}
+
 /// Checks a query's clauses.
-#[tactic(auto, using(crate::proofs::RefusalLemmas::misuse_in_two))]
 pub fn misused_clauses(alloc: Global, clauses: &[Clause]) -> Result<(), ScopeFault>
     ensures { Gives result (misuse_if (misused_clauses [] clauses.now)) }
 {
     let mut scope = KnownColumns::new(alloc);
-    for clause in clauses {
-        check_clause(alloc, &mut scope, clause)?;
+    for i in 0..clauses.len() {
+        let clause = &clauses[i];
+        let is_last = i + 1 == clauses.len();
+        pass_clause(alloc, &mut scope, clause, is_last)?;
     }
     Ok(())
 }

@@ -1,13 +1,13 @@
 //! E09: a node's variable that is a column of another kind; `change_kinds` has the clauses that change data.
 
-ghost use Rattle.std.specs.Prelude.{◌≡◌, [], OnOk};
+ghost use Rattle.std.specs.Prelude.{◌≡◌, [], OnOk, IsFalse};
 ghost use Rattle.std.specs.Option.{option_copied};
 ghost use Rattle.gql_ast.specs.Projections.{columns_behind};
 ghost use Rattle.gql_scope.specs.StaticRefusals.{refusal_of_first};
 ghost use Rattle.gql_scope.specs.WrongKinds.{holds_nodes, wrong_variable, wrong_in_node, wrong_in_clause, wrong_in_clauses};
 ghost use Rattle.gql_scope.specs.Gives.{Gives};
 
-use crate::behind::step;
+use crate::behind::step_unless_last;
 use crate::change_kinds::check_change;
 use crate::columns::KnownColumns;
 use crate::fault::ScopeFault;
@@ -59,24 +59,30 @@ fn check_clause(alloc: Global, scope: &KnownColumns, clause: &Clause) -> Result<
     }
 }
 
-/// Checks a clause, and changes the columns to those behind it.
-fn pass_clause(alloc: Global, scope: &mut KnownColumns, clause: &Clause) -> Result<(), ScopeFault>
+/// Checks a clause, and changes the columns to those behind it, unless it is the last.
+fn pass_clause(
+    alloc: Global,
+    scope: &mut KnownColumns,
+    clause: &Clause,
+    is_last: bool,
+) -> Result<(), ScopeFault>
     ensures kinds { Gives result (refusal_of_first Refusal.Kind (wrong_in_clause scope.old clause.now)) }
-    ensures columns { OnOk result (scope.new ≡ columns_behind scope.old clause.now) }
+    ensures columns { OnOk result (IsFalse is_last → scope.new ≡ columns_behind scope.old clause.now) }
 {
     check_clause(alloc, scope, clause)?;
-    step(alloc, scope, clause)?;
+    step_unless_last(alloc, scope, clause, is_last)?;
     Ok(())
 }
 
 /// Checks a query's clauses.
-#[tactic(auto, using(crate::proofs::RefusalLemmas::first_of_in_two))]
 pub fn wrong_kinds(alloc: Global, clauses: &[Clause]) -> Result<(), ScopeFault>
     ensures { Gives result (refusal_of_first Refusal.Kind (wrong_in_clauses [] clauses.now)) }
 {
     let mut scope = KnownColumns::new(alloc);
-    for clause in clauses {
-        pass_clause(alloc, &mut scope, clause)?;
+    for i in 0..clauses.len() {
+        let clause = &clauses[i];
+        let is_last = i + 1 == clauses.len();
+        pass_clause(alloc, &mut scope, clause, is_last)?;
     }
     Ok(())
 }

@@ -4,6 +4,6 @@ use Rattle.gql_scope.specs.StaticRefusals.{refusal_of_first}
 use Rattle.gql_ast.specs.declared.refusal.Refusal.TheVariants as refusal
 use Rattle.gql_scope.proofs.column_faults.column_faults.Given as goal
 
-abbrev pub invariant-loop-clause : goal.invariant-loop-clause
-invariant-loop-clause l =
-    refusal_of_first refusal.Column (faults_in_clauses l.scope (drop l.clause-index l.clauses)) ≡ refusal_of_first refusal.Column (faults_in_clauses [] l.clauses)
+abbrev pub invariant-loop-i : goal.invariant-loop-i
+invariant-loop-i l =
+    refusal_of_first refusal.Column (faults_in_clauses l.scope (drop l.i l.clauses)) ≡ refusal_of_first refusal.Column (faults_in_clauses [] l.clauses)
