@@ -5,9 +5,11 @@
 //! definitions are sane. It stands on the trees of gql_ast, the scopes of gql_eval and the refusals of gql_scope.
 #![tactic(auto)]
 
+mod degree;
 mod element;
 mod element_forms;
 mod laws;
+mod new_columns;
 mod normal_form;
 mod normal_parts;
 mod numbers;
@@ -20,6 +22,7 @@ pub use laws::{
     acyclic_is_simple, acyclic_is_trail, bindings_are_finite, match_tables_grow, members_are_paths,
     modes_admit_beginnings, row_order_has_no_duplicates, row_order_is_total, rows_fit_columns,
 };
+pub use new_columns::columns_after;
 pub use normal_form::normal;
 pub use part::{Part, PartList, PartSub};
 pub use path::{NormalPath, NormalPaths, NormalPattern, Selector};
