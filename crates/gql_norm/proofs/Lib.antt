@@ -1,5 +1,8 @@
 pub mod NormalFormLemmas
 pub mod NormalPartLemmas
+pub mod DegreeLemmas
+pub mod ColumnLemmas
+pub mod HeightLemmas
 pub mod Listing
 pub mod MatchTableLemmas
 pub mod AmongLemmas

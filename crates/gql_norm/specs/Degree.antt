@@ -1,13 +1,9 @@
 -- Degrees of the variables of a path pattern: how many elements a match has under a name.
 use Rattle.std.specs.Prelude.{ℕ, Bool, true, false, List, [], ◌∷◌, Option, Some, None, option_map, if◌then◌else◌}
 use Rattle.gql_values3.specs.Texts.{same_text}
+use Rattle.gql_norm.specs.declared.degree.Degree.{Degree}
+use Rattle.gql_norm.specs.declared.degree.Degree.TheVariants.{Singleton, Conditional, Group}
 use Rattle.gql_norm.specs.NormalPattern.{Part, Node, Edge, Concat, Union, Alt, Quant, Opt, Scope, Sides, NoSide, Side}
-
--- one element; one or none; a list of them
-pub data Degree : Type 0 where
-  Singleton : Degree
-  Conditional : Degree
-  Group : Degree
 
 -- of two declarations in a row the wider counts; none but singletons may stand so
 abbrev pub wider : Degree → Degree → Degree

@@ -11,7 +11,9 @@ use Rattle.gql_ast.specs.ClauseColumns.{ColumnList}
 use Rattle.gql_norm.specs.NormalPattern.{Part, Node, Edge, Concat, Union, Alt, Quant, Opt, Scope, Sides, NoSide, Side, NormalPath, NormalPattern}
 use Rattle.gql_norm.specs.Places.{size}
 use Rattle.gql_norm.specs.Declaration.{Declared, all_declared}
-use Rattle.gql_norm.specs.Degree.{Degree, Singleton, Group, degree_of}
+use Rattle.gql_norm.specs.declared.degree.Degree.{Degree}
+use Rattle.gql_norm.specs.declared.degree.Degree.TheVariants.{Singleton, Group}
+use Rattle.gql_norm.specs.Degree.{degree_of}
 use Rattle.gql_norm.specs.NewColumns.{degree_in_paths}
 
 -- of two degrees one is group; none is, and one is conditional

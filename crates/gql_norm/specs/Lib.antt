@@ -27,4 +27,6 @@ pub mod Finite
 pub mod Laws
 pub mod OtherDefects
 pub mod PatternRefusal
+pub mod RowMatch
+pub mod MatchData
 pub mod Machinery

@@ -4,3 +4,5 @@ pub mod PartCode
 pub mod PartHeight
 pub mod PartFalls
 pub mod PropertyPredicates
+pub mod DegreeFolds
+pub mod ColumnGrowth

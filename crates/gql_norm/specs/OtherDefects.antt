@@ -10,7 +10,7 @@ use Rattle.gql_scope.specs.Misuses.{misused, elsewhere}
 use Rattle.gql_scope.specs.UnsetParameters.{parameters_in, unset}
 use Rattle.gql_norm.specs.NormalPattern.{Part, NormalPath, NormalPattern}
 use Rattle.gql_norm.specs.Declaration.{Declared, may_name}
-use Rattle.gql_norm.specs.Degree.{Group}
+use Rattle.gql_norm.specs.declared.degree.Degree.TheVariants.{Group}
 use Rattle.gql_norm.specs.Reference.{crossed}
 use Rattle.gql_norm.specs.PredicateSpot.{PredicateSpot, predicates_in, trees_in}
 use Rattle.gql_norm.specs.NewColumns.{of_degree, columns_after}

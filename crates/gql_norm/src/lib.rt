@@ -5,21 +5,30 @@
 //! definitions are sane. It stands on the trees of gql_ast, the scopes of gql_eval and the refusals of gql_scope.
 #![tactic(auto)]
 
+mod degree;
 mod element;
 mod element_forms;
+mod item;
 mod laws;
+mod matcher;
+mod new_columns;
 mod normal_form;
 mod normal_parts;
 mod numbers;
 mod part;
 mod path;
+mod reduced;
 mod selectors;
 
 pub use element::{ElementPattern, Predicate, Predicates};
+pub use item::Item;
 pub use laws::{
     acyclic_is_simple, acyclic_is_trail, bindings_are_finite, match_tables_grow, members_are_paths,
     modes_admit_beginnings, row_order_has_no_duplicates, row_order_is_total, rows_fit_columns,
 };
+pub use matcher::{MatchFault, Matcher};
+pub use new_columns::columns_after;
 pub use normal_form::normal;
 pub use part::{Part, PartList, PartSub};
 pub use path::{NormalPath, NormalPaths, NormalPattern, Selector};
+pub use reduced::{NameList, Reduced};

@@ -10,19 +10,19 @@ use Rattle.gql_norm.specs.declared.part.Part.TheVariants as part
 use Rattle.gql_norm.specs.declared.part.PartList.TheDeep.{deep-Part}
 
 -- parts in a row, and beside each other, are as high as the first and as the others
-first_le-row : (p : Part) (ps : List Part) → part_height_of p ≤ part_height_of (in_a_row p ps)
+pub first_le-row : (p : Part) (ps : List Part) → part_height_of p ≤ part_height_of (in_a_row p ps)
 first_le-row p [] = omega arith
 first_le-row p (r ∷ rs) = omega arith
 
-others_le-row : (p : Part) (ps : List Part) → highest_part ps ≤ part_height_of (in_a_row p ps)
+pub others_le-row : (p : Part) (ps : List Part) → highest_part ps ≤ part_height_of (in_a_row p ps)
 others_le-row p [] = omega arith
 others_le-row p (r ∷ rs) = omega (arith, first_le-row r rs, others_le-row r rs)
 
-first_le-beside : (p : Part) (ps : List Part) → part_height_of p ≤ part_height_of (side_by_side p ps)
+pub first_le-beside : (p : Part) (ps : List Part) → part_height_of p ≤ part_height_of (side_by_side p ps)
 first_le-beside p [] = omega arith
 first_le-beside p (r ∷ rs) = omega arith
 
-others_le-beside : (p : Part) (ps : List Part) → highest_part ps ≤ part_height_of (side_by_side p ps)
+pub others_le-beside : (p : Part) (ps : List Part) → highest_part ps ≤ part_height_of (side_by_side p ps)
 others_le-beside p [] = omega arith
 others_le-beside p (r ∷ rs) = omega (arith, first_le-beside r rs, others_le-beside r rs)
 
