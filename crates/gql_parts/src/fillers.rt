@@ -2,12 +2,12 @@
 
 ghost use Rattle.gql_front.specs.Reads.{Reads, MayRead, GoesPast};
 ghost use Rattle.gql_parts.specs.PartWords.{is_colon};
-ghost use Rattle.gql_parts.specs.Machinery.FillerReaders.{where_of, map_of, condition_of, variable_of, filler_labels_of, filler_of};
+ghost use Rattle.gql_parts.specs.Machinery.FillerReaders.{where_of, condition_of, variable_of, filler_labels_of, filler_of};
 
-use crate::item::{Item, item_or_nothing, list};
+use crate::item::{Item, item_behind_word, item_or_nothing, list};
 use crate::values::{Parts, value};
-use gql_ast::{Condition, Expr, Filler, LabelExpr, Map, MapItem, ParseFault};
-use gql_front::{NoFront, ParseResult, after_sign, after_word, any_name, plain_name};
+use gql_ast::{Condition, Expr, Filler, LabelExpr, Map, MapItem};
+use gql_front::{NoFront, ParseResult, after_sign, any_name, plain_name};
 use gql_lexer::Lexeme;
 use gql_lexer::symbols::{CLOSING_BRACE, COLON, OPENING_BRACE};
 use gql_lexer::words::{IS, WHERE};
@@ -26,6 +26,23 @@ impl Item<Parts> for MapItem {
         let name = name.try_copy(alloc)?;
         let (value, rest) = value(alloc, rest)?;
         Ok((MapItem { name, value }, rest))
+    }
+}
+
+/// The items of a map and the closing brace, behind the opening one.
+impl Item<Parts> for Map {
+    ghost use Rattle.gql_parts.specs.Machinery.FillerReaders.{map_of};
+
+    ghost reader = { map_of };
+
+    #[tactic(auto, unfolding(crate::specs::Machinery::FillerReaders::map_of, crate::specs::Machinery::FillerReaders::map_items_of))]
+    fn read<'a>(alloc: Global, rest: &'a [Lexeme]) -> ParseResult<'a, Map> {
+        if let Ok(behind) = after_sign(CLOSING_BRACE, rest) {
+            return Ok((Sequence::new(alloc), behind));
+        }
+        let (items, rest) = list::<Parts, MapItem>(alloc, rest)?;
+        let rest = after_sign(CLOSING_BRACE, rest)?;
+        Ok((items, rest))
     }
 }
 
@@ -52,10 +69,7 @@ pub fn filler<'a>(alloc: Global, rest: &'a [Lexeme]) -> ParseResult<'a, Filler>
 pub fn where_value<'a>(alloc: Global, rest: &'a [Lexeme]) -> ParseResult<'a, Option<Expr>>
     ensures { MayRead result rest.now where_of }
 {
-    match after_word(WHERE, rest) {
-        Ok(behind) => item_or_nothing::<Parts, Expr>(alloc, rest, behind),
-        Err(NoFront) => Ok((None, rest)),
-    }
+    item_behind_word::<Parts, Expr>(alloc, WHERE, rest)
 }
 
 /// A name, or nothing.
@@ -97,11 +111,10 @@ fn condition<'a>(alloc: Global, rest: &'a [Lexeme]) -> ParseResult<'a, Option<Co
     ensures { MayRead result rest.now condition_of }
 {
     if let Ok(behind) = after_sign(OPENING_BRACE, rest) {
-        return match map(alloc, behind) {
-            Ok((items, behind)) => Ok((Some(Condition::Map(items)), behind)),
-            Err(ParseFault::Syntax) => Ok((None, rest)),
-            Err(ParseFault::Deep) => unreachable!(),
-            Err(ParseFault::OutOfMemory) => Err(ParseFault::OutOfMemory),
+        let (items, rest) = item_or_nothing::<Parts, Map>(alloc, rest, behind)?;
+        return match items {
+            Some(items) => Ok((Some(Condition::Map(items)), rest)),
+            None => Ok((None, rest)),
         };
     }
     let (held, rest) = where_value(alloc, rest)?;
@@ -109,17 +122,4 @@ fn condition<'a>(alloc: Global, rest: &'a [Lexeme]) -> ParseResult<'a, Option<Co
         Some(expr) => Ok((Some(Condition::Where(expr)), rest)),
         None => Ok((None, rest)),
     }
-}
-
-/// The items of a map and the closing brace, behind the opening one.
-#[tactic(auto, unfolding(crate::specs::Machinery::FillerReaders::map_of, crate::specs::Machinery::FillerReaders::map_items_of))]
-pub fn map<'a>(alloc: Global, rest: &'a [Lexeme]) -> ParseResult<'a, Map>
-    ensures { Reads result rest.now map_of }
-{
-    if let Ok(behind) = after_sign(CLOSING_BRACE, rest) {
-        return Ok((Sequence::new(alloc), behind));
-    }
-    let (items, rest) = list::<Parts, MapItem>(alloc, rest)?;
-    let rest = after_sign(CLOSING_BRACE, rest)?;
-    Ok((items, rest))
 }

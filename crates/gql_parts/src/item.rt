@@ -2,19 +2,19 @@
 
 ghost use Rattle.std.specs.Prelude.{◌≤◌, List, Option, Some, length};
 ghost use Rattle.gql_lexer.specs.declared.lexeme.Lexeme.{Lexeme as Token};
-ghost use Rattle.gql_front.specs.Reading.{opted};
+ghost use Rattle.gql_front.specs.Reading.{is_word, opted};
 ghost use Rattle.gql_front.specs.Reads.{Reads, MayRead};
-ghost use Rattle.gql_parts.specs.Machinery.PartReaders.{listed};
+ghost use Rattle.gql_parts.specs.Machinery.PartReaders.{led, listed};
 
 use gql_ast::ParseFault;
-use gql_front::{ParseResult, after_sign};
+use gql_front::{NoFront, ParseResult, after_sign, after_word};
 use gql_lexer::Lexeme;
 use gql_lexer::symbols::COMMA;
 use gql_values3::Sequence;
 use std::alloc::Global;
 
-/// What may stand between commas, or behind a word that announces it. `By` is a type of the crate that says how it is
-/// read: so each crate can say it of trees of `gql_ast`.
+/// What may stand between commas, behind one another, or behind a word that announces it. `By` is a type of the crate that
+/// says how it is read: so each crate can say it of trees of `gql_ast`.
 pub trait Item<By>: Drop + Sized {
     /// What reading lexemes gives.
     ghost reader: { List Token → Option (Self × List Token) };
@@ -60,5 +60,19 @@ pub fn item_or_nothing<'a, By, T: Item<By>>(
         Err(ParseFault::Syntax) => Ok((None, rest)),
         Err(ParseFault::Deep) => unreachable!(),
         Err(ParseFault::OutOfMemory) => Err(ParseFault::OutOfMemory),
+    }
+}
+
+/// The item behind the reserved word of this place; where that word or the item is missing, nothing, and all of `rest`.
+pub fn item_behind_word<'a, By, T: Item<By>>(
+    alloc: Global,
+    word: u32,
+    rest: &'a [Lexeme],
+) -> ParseResult<'a, Option<T>>
+    ensures { MayRead result rest.now (led (is_word word) T.reader) }
+{
+    match after_word(word, rest) {
+        Ok(behind) => item_or_nothing::<By, T>(alloc, rest, behind),
+        Err(NoFront) => Ok((None, rest)),
     }
 }

@@ -2,7 +2,7 @@
 
 ghost use Rattle.std.specs.Prelude.{◌≡◌, ◌<◌, length, IfOk};
 ghost use Rattle.gql_front.specs.Reads.{Reads};
-ghost use Rattle.gql_statements.specs.Machinery.ClauseReaders.{clause_behind, clause_of};
+ghost use Rattle.gql_statements.specs.Machinery.ClauseReaders.{clause_behind};
 
 use crate::change_word::change_behind;
 use crate::clause_word::{ClauseWord, clause_word_at};
@@ -11,22 +11,27 @@ use crate::for_clause::for_items;
 use crate::let_clause::let_items;
 use crate::match_clause::match_node;
 use crate::page_clause::{limit_page, order_page, skip_page};
-use gql_ast::{Clause, ParseFault};
+use gql_ast::Clause;
 use gql_front::ParseResult;
 use gql_lexer::Lexeme;
+use gql_parts::Item;
 use std::alloc::Global;
 
 /// The items of clauses.
 #[derive(Clone, Copy)]
 pub struct Clauses;
 
-/// The clause at the front, other than RETURN. `Syntax` comes exactly where none is.
-#[tactic(auto, unfolding(crate::specs::Machinery::ClauseReaders::clause_of))]
-pub fn clause<'a>(alloc: Global, rest: &'a [Lexeme]) -> ParseResult<'a, Clause>
-    ensures { Reads result rest.now clause_of }
-{
-    let (word, rest) = clause_word_at(rest)?;
-    clause_behind(alloc, word, rest)
+/// The clause at the front, other than RETURN.
+impl Item<Clauses> for Clause {
+    ghost use Rattle.gql_statements.specs.Machinery.ClauseReaders.{clause_of};
+
+    ghost reader = { clause_of };
+
+    #[tactic(auto, unfolding(crate::specs::Machinery::ClauseReaders::clause_of))]
+    fn read<'a>(alloc: Global, rest: &'a [Lexeme]) -> ParseResult<'a, Clause> {
+        let (word, rest) = clause_word_at(rest)?;
+        clause_behind(alloc, word, rest)
+    }
 }
 
 /// A clause behind its first word.

@@ -1,16 +1,34 @@
 //! What stands between the brackets of an element to be inserted.
 
 ghost use Rattle.std.specs.Prelude.{◌≡◌, ◌<◌, ◌≤◌, length, IfOk};
-ghost use Rattle.gql_front.specs.Reads.{Reads, MayRead, TakesAs};
-ghost use Rattle.gql_statements.specs.Machinery.ChangeReaders.{other_label_of, labels_from, label_names_of, fill_labels_of, fill_map_of, fill_of};
+ghost use Rattle.gql_front.specs.Reads.{MayRead, TakesAs};
+ghost use Rattle.gql_statements.specs.Machinery.ChangeReaders.{other_label_of, labels_from, fill_labels_of, fill_map_of, fill_of};
 
-use gql_ast::{Fill, Map, ParseFault};
+use gql_ast::{Fill, Map};
 use gql_front::{NoFront, ParseResult, after_sign, any_name};
 use gql_lexer::Lexeme;
 use gql_lexer::symbols::{AMPERSAND, OPENING_BRACE};
-use gql_parts::{after_colon, map, variable};
+use gql_parts::{Item, Parts, after_colon, item_or_nothing, variable};
 use gql_values3::{Names, OutOfMemory, Sequence, Text};
 use std::alloc::Global;
+
+/// The items of fills.
+#[derive(Clone, Copy)]
+pub struct Fills;
+
+/// Labels between `&`.
+impl Item<Fills> for Names {
+    ghost use Rattle.gql_statements.specs.Machinery.ChangeReaders.{label_names_of};
+
+    ghost reader = { label_names_of };
+
+    #[tactic(auto, unfolding(crate::specs::Machinery::ChangeReaders::label_names_of))]
+    fn read<'a>(alloc: Global, rest: &'a [Lexeme]) -> ParseResult<'a, Names> {
+        let (first, rest) = any_name(rest)?;
+        let (labels, rest) = labels_from(alloc, first, rest)?;
+        Ok((labels, rest))
+    }
+}
 
 /// The variable, the labels and the map, each if it is there.
 #[tactic(auto, unfolding(crate::specs::Machinery::ChangeReaders::fill_of))]
@@ -36,12 +54,7 @@ fn fill_map<'a>(alloc: Global, rest: &'a [Lexeme]) -> ParseResult<'a, Option<Map
     ensures { MayRead result rest.now fill_map_of }
 {
     match after_sign(OPENING_BRACE, rest) {
-        Ok(behind) => match map(alloc, behind) {
-            Ok((items, behind)) => Ok((Some(items), behind)),
-            Err(ParseFault::Syntax) => Ok((None, rest)),
-            Err(ParseFault::Deep) => unreachable!(),
-            Err(ParseFault::OutOfMemory) => Err(ParseFault::OutOfMemory),
-        },
+        Ok(behind) => item_or_nothing::<Parts, Map>(alloc, rest, behind),
         Err(NoFront) => Ok((None, rest)),
     }
 }
@@ -52,24 +65,9 @@ fn fill_labels<'a>(alloc: Global, rest: &'a [Lexeme]) -> ParseResult<'a, Option<
     ensures { MayRead result rest.now fill_labels_of }
 {
     match after_colon(rest) {
-        Ok(behind) => match label_names(alloc, behind) {
-            Ok((labels, behind)) => Ok((Some(labels), behind)),
-            Err(ParseFault::Syntax) => Ok((None, rest)),
-            Err(ParseFault::Deep) => unreachable!(),
-            Err(ParseFault::OutOfMemory) => Err(ParseFault::OutOfMemory),
-        },
+        Ok(behind) => item_or_nothing::<Fills, Names>(alloc, rest, behind),
         Err(NoFront) => Ok((None, rest)),
     }
-}
-
-/// Labels between `&`.
-#[tactic(auto, unfolding(crate::specs::Machinery::ChangeReaders::label_names_of))]
-fn label_names<'a>(alloc: Global, rest: &'a [Lexeme]) -> ParseResult<'a, Names>
-    ensures { Reads result rest.now label_names_of }
-{
-    let (first, rest) = any_name(rest)?;
-    let (labels, rest) = labels_from(alloc, first, rest)?;
-    Ok((labels, rest))
 }
 
 /// A label, and the further ones. An `&` that no label follows is left.

@@ -4,13 +4,14 @@ ghost use Rattle.std.specs.Prelude.{◌≡◌, ◌<◌, ◌≤◌, length, IfOk}
 ghost use Rattle.gql_front.specs.Reads.{Reads, MayRead, Takes};
 ghost use Rattle.gql_front.specs.Reading.{op_at};
 ghost use Rattle.gql_statements.specs.PartWords.{counting_word};
-ghost use Rattle.gql_statements.specs.Machinery.ClauseReaders.{counted_of, counter_of, for_of};
+ghost use Rattle.gql_statements.specs.Machinery.ClauseReaders.{counter_of, for_of};
 
-use gql_ast::{Counting, For, ParseFault};
+use crate::clause::Clauses;
+use gql_ast::{Counting, For};
 use gql_front::{NoFront, ParseResult, after_word, plain_name};
 use gql_lexer::Lexeme;
 use gql_lexer::words::{IN, OFFSET, ORDINALITY, WITH};
-use gql_parts::value;
+use gql_parts::{Item, item_behind_word, value};
 use gql_values3::Text;
 use std::alloc::Global;
 
@@ -39,25 +40,21 @@ pub fn for_items<'a>(alloc: Global, rest: &'a [Lexeme]) -> ParseResult<'a, For>
 fn counter<'a>(alloc: Global, rest: &'a [Lexeme]) -> ParseResult<'a, Option<(Counting, Text)>>
     ensures { MayRead result rest.now counter_of }
 {
-    match after_word(WITH, rest) {
-        Ok(behind) => match counted(alloc, behind) {
-            Ok((counter, behind)) => Ok((Some(counter), behind)),
-            Err(ParseFault::Syntax) => Ok((None, rest)),
-            Err(ParseFault::Deep) => unreachable!(),
-            Err(ParseFault::OutOfMemory) => Err(ParseFault::OutOfMemory),
-        },
-        Err(NoFront) => Ok((None, rest)),
-    }
+    item_behind_word::<Clauses, (Counting, Text)>(alloc, WITH, rest)
 }
 
 /// How items are counted, and the counter's name.
-#[tactic(auto, unfolding(crate::specs::Machinery::ClauseReaders::counted_of))]
-fn counted<'a>(alloc: Global, rest: &'a [Lexeme]) -> ParseResult<'a, (Counting, Text)>
-    ensures { Reads result rest.now counted_of }
-{
-    let (counting, rest) = counting_at(rest)?;
-    let (name, rest) = plain_name(rest)?;
-    Ok(((counting, name.try_copy(alloc)?), rest))
+impl Item<Clauses> for (Counting, Text) {
+    ghost use Rattle.gql_statements.specs.Machinery.ClauseReaders.{counted_of};
+
+    ghost reader = { counted_of };
+
+    #[tactic(auto, unfolding(crate::specs::Machinery::ClauseReaders::counted_of))]
+    fn read<'a>(alloc: Global, rest: &'a [Lexeme]) -> ParseResult<'a, (Counting, Text)> {
+        let (counting, rest) = counting_at(rest)?;
+        let (name, rest) = plain_name(rest)?;
+        Ok(((counting, name.try_copy(alloc)?), rest))
+    }
 }
 
 /// The word that says how items are counted.

@@ -5,18 +5,18 @@ ghost use Rattle.gql_front.specs.Reads.{Reads, Takes};
 ghost use Rattle.gql_front.specs.Reading.{op_at};
 ghost use Rattle.gql_statements.specs.ChangeGrammar.{closing_of};
 ghost use Rattle.gql_statements.specs.ChangeWords.{arrow_in};
-ghost use Rattle.gql_statements.specs.Machinery.ChangeReaders.{between_of, insert_edge_of, insert_step_of, insert_steps_of, insert_paths_of};
+ghost use Rattle.gql_statements.specs.Machinery.ChangeReaders.{between_of, insert_edge_of, insert_paths_of};
 
 use crate::clause::Clauses;
 use crate::fill::fill;
-use gql_ast::{Arrow, Fill, InsertPath, InsertStep, ParseFault};
+use gql_ast::{Arrow, Fill, InsertPath, InsertStep};
 use gql_front::{NoFront, ParseResult, after_sign};
 use gql_lexer::Lexeme;
 use gql_lexer::symbols::{
     CLOSING, CLOSING_BRACKET, LEFT_ARROW, MINUS, OPENING, OPENING_BRACKET, RIGHT_ARROW, TILDE,
 };
-use gql_parts::{Item, list};
-use gql_values3::{OutOfMemory, Sequence};
+use gql_parts::{Item, list, many};
+use gql_values3::Sequence;
 use std::alloc::Global;
 
 /// A node, and as many steps as there are.
@@ -25,11 +25,25 @@ impl Item<Clauses> for InsertPath {
 
     ghost reader = { insert_path_of };
 
-    #[tactic(auto, unfolding(crate::specs::Machinery::ChangeReaders::insert_path_of))]
+    #[tactic(auto, unfolding(crate::specs::Machinery::ChangeReaders::insert_path_of, crate::specs::Machinery::ChangeReaders::insert_steps_of))]
     fn read<'a>(alloc: Global, rest: &'a [Lexeme]) -> ParseResult<'a, InsertPath> {
         let (start, rest) = between(alloc, OPENING, CLOSING, rest)?;
-        let (steps, rest) = insert_steps(alloc, rest)?;
+        let (steps, rest) = many::<Clauses, InsertStep>(alloc, rest)?;
         Ok((InsertPath { start, steps }, rest))
+    }
+}
+
+/// An edge, and the node to which it leads.
+impl Item<Clauses> for InsertStep {
+    ghost use Rattle.gql_statements.specs.Machinery.ChangeReaders.{insert_step_of};
+
+    ghost reader = { insert_step_of };
+
+    #[tactic(auto, unfolding(crate::specs::Machinery::ChangeReaders::insert_step_of))]
+    fn read<'a>(alloc: Global, rest: &'a [Lexeme]) -> ParseResult<'a, InsertStep> {
+        let ((arrow, edge), rest) = insert_edge(alloc, rest)?;
+        let (node, rest) = between(alloc, OPENING, CLOSING, rest)?;
+        Ok((InsertStep { arrow, edge, node }, rest))
     }
 }
 
@@ -39,39 +53,6 @@ pub fn insert_paths<'a>(alloc: Global, rest: &'a [Lexeme]) -> ParseResult<'a, Se
     ensures { Reads result rest.now insert_paths_of }
 {
     list::<Clauses, InsertPath>(alloc, rest)
-}
-
-/// As many steps as there are.
-fn insert_steps<'a>(
-    alloc: Global,
-    start: &'a [Lexeme],
-) -> Result<(Sequence<InsertStep>, &'a [Lexeme]), OutOfMemory>
-    ensures given { IfOk result (λ x. (x.0, x.1.now) ≡ insert_steps_of start.now) }
-    ensures shorter { IfOk result (λ x. length x.1.now ≤ length start.now) }
-{
-    let mut steps = Sequence::new(alloc);
-    let mut rest = start;
-    'more: loop {
-        match insert_step(alloc, rest) {
-            Ok((step, behind)) => {
-                steps.push(step)?;
-                rest = behind;
-            }
-            Err(ParseFault::Syntax) => return Ok((steps, rest)),
-            Err(ParseFault::Deep) => unreachable!(),
-            Err(ParseFault::OutOfMemory) => return Err(OutOfMemory),
-        }
-    }
-}
-
-/// An edge, and the node to which it leads.
-#[tactic(auto, unfolding(crate::specs::Machinery::ChangeReaders::insert_step_of))]
-fn insert_step<'a>(alloc: Global, rest: &'a [Lexeme]) -> ParseResult<'a, InsertStep>
-    ensures { Reads result rest.now insert_step_of }
-{
-    let ((arrow, edge), rest) = insert_edge(alloc, rest)?;
-    let (node, rest) = between(alloc, OPENING, CLOSING, rest)?;
-    Ok((InsertStep { arrow, edge, node }, rest))
 }
 
 /// An edge in its symbols.

@@ -2,23 +2,44 @@
 
 ghost use Rattle.std.specs.Prelude.{◌≡◌, ◌<◌, ◌≤◌, length, IfOk};
 ghost use Rattle.gql_front.specs.Reads.{Reads, MayRead, GoesPast};
-ghost use Rattle.gql_front.specs.Reading.{op_at, after};
-ghost use Rattle.gql_statements.specs.PartWords.{count_in, is_skip};
+ghost use Rattle.gql_front.specs.Reading.{after};
+ghost use Rattle.gql_statements.specs.PartWords.{is_skip};
 ghost use Rattle.gql_statements.specs.Machinery.PageReaders.{skip_of, limit_of, order_page_of, skip_page_of, limit_page_of};
 
-use crate::sort::order_by;
-use gql_ast::{Page, ParseFault, RowCount};
-use gql_front::{NoFront, ParseResult, after_word};
+use crate::clause::Clauses;
+use gql_ast::{Page, ParseFault, RowCount, SortItems};
+use gql_front::{NoFront, ParseResult};
 use gql_lexer::Lexeme;
 use gql_lexer::words::{LIMIT, OFFSET, SKIP};
+use gql_parts::{Item, item_behind_word, item_or_nothing};
 use std::alloc::Global;
+
+/// A number or a parameter.
+impl Item<Clauses> for RowCount {
+    ghost use Rattle.gql_front.specs.Reading.{op_at};
+    ghost use Rattle.gql_statements.specs.PartWords.{count_in};
+
+    ghost reader = { op_at count_in };
+
+    fn read<'a>(alloc: Global, rest: &'a [Lexeme]) -> ParseResult<'a, RowCount> {
+        match rest {
+            [Lexeme::Number(digits), rest @ ..] => {
+                Ok((RowCount::Number(digits.try_copy(alloc)?), rest))
+            }
+            [Lexeme::Param(name), rest @ ..] => {
+                Ok((RowCount::Parameter(name.try_copy(alloc)?), rest))
+            }
+            _ => Err(ParseFault::Syntax),
+        }
+    }
+}
 
 /// Sort keys, and how many rows to leave out and to keep, behind ORDER.
 #[tactic(auto, unfolding(crate::specs::Machinery::PageReaders::order_page_of))]
 pub fn order_page<'a>(alloc: Global, rest: &'a [Lexeme]) -> ParseResult<'a, Page>
     ensures { Reads result rest.now order_page_of }
 {
-    let (order, rest) = order_by(alloc, rest)?;
+    let (order, rest) = SortItems::read(alloc, rest)?;
     let (skip, rest) = skip(alloc, rest)?;
     let (limit, rest) = limit(alloc, rest)?;
     Ok((Page::Order(order, skip, limit), rest))
@@ -29,7 +50,7 @@ pub fn order_page<'a>(alloc: Global, rest: &'a [Lexeme]) -> ParseResult<'a, Page
 pub fn skip_page<'a>(alloc: Global, rest: &'a [Lexeme]) -> ParseResult<'a, Page>
     ensures { Reads result rest.now skip_page_of }
 {
-    let (skip, rest) = row_count(alloc, rest)?;
+    let (skip, rest) = RowCount::read(alloc, rest)?;
     let (limit, rest) = limit(alloc, rest)?;
     Ok((Page::Skip(skip, limit), rest))
 }
@@ -39,7 +60,7 @@ pub fn skip_page<'a>(alloc: Global, rest: &'a [Lexeme]) -> ParseResult<'a, Page>
 pub fn limit_page<'a>(alloc: Global, rest: &'a [Lexeme]) -> ParseResult<'a, Page>
     ensures { Reads result rest.now limit_page_of }
 {
-    let (limit, rest) = row_count(alloc, rest)?;
+    let (limit, rest) = RowCount::read(alloc, rest)?;
     Ok((Page::Limit(limit), rest))
 }
 
@@ -49,12 +70,7 @@ pub fn skip<'a>(alloc: Global, rest: &'a [Lexeme]) -> ParseResult<'a, Option<Row
     ensures { MayRead result rest.now skip_of }
 {
     match after_skip(rest) {
-        Ok(behind) => match row_count(alloc, behind) {
-            Ok((count, behind)) => Ok((Some(count), behind)),
-            Err(ParseFault::Syntax) => Ok((None, rest)),
-            Err(ParseFault::Deep) => unreachable!(),
-            Err(ParseFault::OutOfMemory) => Err(ParseFault::OutOfMemory),
-        },
+        Ok(behind) => item_or_nothing::<Clauses, RowCount>(alloc, rest, behind),
         Err(NoFront) => Ok((None, rest)),
     }
 }
@@ -64,15 +80,7 @@ pub fn skip<'a>(alloc: Global, rest: &'a [Lexeme]) -> ParseResult<'a, Option<Row
 pub fn limit<'a>(alloc: Global, rest: &'a [Lexeme]) -> ParseResult<'a, Option<RowCount>>
     ensures { MayRead result rest.now limit_of }
 {
-    match after_word(LIMIT, rest) {
-        Ok(behind) => match row_count(alloc, behind) {
-            Ok((count, behind)) => Ok((Some(count), behind)),
-            Err(ParseFault::Syntax) => Ok((None, rest)),
-            Err(ParseFault::Deep) => unreachable!(),
-            Err(ParseFault::OutOfMemory) => Err(ParseFault::OutOfMemory),
-        },
-        Err(NoFront) => Ok((None, rest)),
-    }
+    item_behind_word::<Clauses, RowCount>(alloc, LIMIT, rest)
 }
 
 /// What is behind OFFSET or SKIP.
@@ -83,18 +91,5 @@ fn after_skip(rest: &[Lexeme]) -> Result<&[Lexeme], NoFront>
         [Lexeme::Word { place: OFFSET, .. }, rest @ ..] => Ok(rest),
         [Lexeme::Word { place: SKIP, .. }, rest @ ..] => Ok(rest),
         _ => Err(NoFront),
-    }
-}
-
-/// A number or a parameter.
-fn row_count<'a>(alloc: Global, rest: &'a [Lexeme]) -> ParseResult<'a, RowCount>
-    ensures { Reads result rest.now (op_at count_in) }
-{
-    match rest {
-        [Lexeme::Number(digits), rest @ ..] => {
-            Ok((RowCount::Number(digits.try_copy(alloc)?), rest))
-        }
-        [Lexeme::Param(name), rest @ ..] => Ok((RowCount::Parameter(name.try_copy(alloc)?), rest)),
-        _ => Err(ParseFault::Syntax),
     }
 }

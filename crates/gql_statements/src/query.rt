@@ -4,51 +4,29 @@ ghost use Rattle.std.specs.Prelude.{◌≡◌, ◌<◌, ◌≤◌, ◌+◌, leng
 ghost use Rattle.gql_front.specs.Gives.{Gives};
 ghost use Rattle.gql_front.specs.Reads.{Reads};
 ghost use Rattle.gql_statements.specs.QueryGrammar.{is_page, no_pages_meet};
-ghost use Rattle.gql_statements.specs.Machinery.QueryReaders.{clauses_of, with_last_clause_of, query_of};
+ghost use Rattle.gql_statements.specs.Machinery.QueryReaders.{with_last_clause_of, query_of};
 
-use crate::clause::clause;
+use crate::clause::Clauses;
 use crate::return_clause::return_behind;
 use gql_ast::{Clause, ParseFault, Query, ends_in_change};
 use gql_front::{NoFront, ParseResult, after_word};
 use gql_lexer::Lexeme;
 use gql_lexer::words::RETURN;
-use gql_values3::{OutOfMemory, Sequence};
+use gql_parts::many;
+use gql_values3::Sequence;
 use std::alloc::Global;
 
 /// The query at the front. `Syntax` comes where there is none, or where two Page clauses stand side by side.
-#[tactic(auto, unfolding(crate::specs::Machinery::QueryReaders::query_of))]
+#[tactic(auto, unfolding(crate::specs::Machinery::QueryReaders::query_of, crate::specs::Machinery::QueryReaders::clauses_of))]
 pub fn query<'a>(alloc: Global, rest: &'a [Lexeme]) -> ParseResult<'a, Query>
     ensures { Reads result rest.now query_of }
 {
-    let (clauses, rest) = clauses(alloc, rest)?;
+    let (clauses, rest) = many::<Clauses, Clause>(alloc, rest)?;
     let (clauses, rest) = with_last_clause(alloc, clauses, rest)?;
     if no_pages_meet(clauses.as_slice()) {
         Ok((Query { clauses }, rest))
     } else {
         Err(ParseFault::Syntax)
-    }
-}
-
-/// As many clauses as there are.
-fn clauses<'a>(
-    alloc: Global,
-    start: &'a [Lexeme],
-) -> Result<(Sequence<Clause>, &'a [Lexeme]), OutOfMemory>
-    ensures given { IfOk result (λ x. (x.0, x.1.now) ≡ clauses_of start.now) }
-    ensures shorter { IfOk result (λ x. length x.0 + length x.1.now ≤ length start.now) }
-{
-    let mut clauses = Sequence::new(alloc);
-    let mut rest = start;
-    'more: loop {
-        match clause(alloc, rest) {
-            Ok((clause, behind)) => {
-                clauses.push(clause)?;
-                rest = behind;
-            }
-            Err(ParseFault::Syntax) => return Ok((clauses, rest)),
-            Err(ParseFault::Deep) => unreachable!(),
-            Err(ParseFault::OutOfMemory) => return Err(OutOfMemory),
-        }
     }
 }
 

@@ -2,18 +2,17 @@
 
 ghost use Rattle.std.specs.Prelude.{◌≡◌, ◌<◌, ◌≤◌, length, IfOk};
 ghost use Rattle.gql_front.specs.Reads.{Reads, MayRead};
-ghost use Rattle.gql_statements.specs.Machinery.ReturnReaders.{alias_of, return_items_of, grouped_of, grouping_of, ordering_of, return_of};
+ghost use Rattle.gql_statements.specs.Machinery.ReturnReaders.{alias_of, return_items_of, grouping_of, ordering_of, return_of};
 
 use crate::clause::Clauses;
 use crate::page_clause::{limit, skip};
-use crate::sort::order_by;
-use gql_ast::{ParseFault, Return, ReturnItem, ReturnItems, SortItems};
+use gql_ast::{Return, ReturnItem, ReturnItems, SortItems};
 use gql_exprs::quantifier_of;
 use gql_front::{NoFront, ParseResult, after_sign, after_word, plain_name};
 use gql_lexer::Lexeme;
 use gql_lexer::symbols::STAR;
 use gql_lexer::words::{AS, BY, GROUP, ORDER};
-use gql_parts::{Item, item_or_nothing, list, value};
+use gql_parts::{Item, item_behind_word, list, value};
 use gql_values3::{Names, Text};
 use std::alloc::Global;
 
@@ -39,6 +38,19 @@ impl Item<Clauses> for Text {
     fn read<'a>(alloc: Global, rest: &'a [Lexeme]) -> ParseResult<'a, Text> {
         let (name, rest) = plain_name(rest)?;
         Ok((name.try_copy(alloc)?, rest))
+    }
+}
+
+/// BY and names.
+impl Item<Clauses> for Names {
+    ghost use Rattle.gql_statements.specs.Machinery.ReturnReaders.{grouped_of};
+
+    ghost reader = { grouped_of };
+
+    #[tactic(auto, unfolding(crate::specs::Machinery::ReturnReaders::grouped_of, crate::specs::Machinery::ReturnReaders::names_of))]
+    fn read<'a>(alloc: Global, rest: &'a [Lexeme]) -> ParseResult<'a, Names> {
+        let rest = after_word(BY, rest)?;
+        list::<Clauses, Text>(alloc, rest)
     }
 }
 
@@ -85,10 +97,7 @@ fn return_items<'a>(alloc: Global, rest: &'a [Lexeme]) -> ParseResult<'a, Return
 fn alias<'a>(alloc: Global, rest: &'a [Lexeme]) -> ParseResult<'a, Option<Text>>
     ensures { MayRead result rest.now alias_of }
 {
-    match after_word(AS, rest) {
-        Ok(behind) => item_or_nothing::<Clauses, Text>(alloc, rest, behind),
-        Err(NoFront) => Ok((None, rest)),
-    }
+    item_behind_word::<Clauses, Text>(alloc, AS, rest)
 }
 
 /// GROUP BY and names, or nothing.
@@ -96,24 +105,7 @@ fn alias<'a>(alloc: Global, rest: &'a [Lexeme]) -> ParseResult<'a, Option<Text>>
 fn grouping<'a>(alloc: Global, rest: &'a [Lexeme]) -> ParseResult<'a, Option<Names>>
     ensures { MayRead result rest.now grouping_of }
 {
-    match after_word(GROUP, rest) {
-        Ok(behind) => match grouped(alloc, behind) {
-            Ok((names, behind)) => Ok((Some(names), behind)),
-            Err(ParseFault::Syntax) => Ok((None, rest)),
-            Err(ParseFault::Deep) => unreachable!(),
-            Err(ParseFault::OutOfMemory) => Err(ParseFault::OutOfMemory),
-        },
-        Err(NoFront) => Ok((None, rest)),
-    }
-}
-
-/// BY and names.
-#[tactic(auto, unfolding(crate::specs::Machinery::ReturnReaders::grouped_of, crate::specs::Machinery::ReturnReaders::names_of))]
-fn grouped<'a>(alloc: Global, rest: &'a [Lexeme]) -> ParseResult<'a, Names>
-    ensures { Reads result rest.now grouped_of }
-{
-    let rest = after_word(BY, rest)?;
-    list::<Clauses, Text>(alloc, rest)
+    item_behind_word::<Clauses, Names>(alloc, GROUP, rest)
 }
 
 /// ORDER BY and sort keys, or nothing.
@@ -121,13 +113,5 @@ fn grouped<'a>(alloc: Global, rest: &'a [Lexeme]) -> ParseResult<'a, Names>
 fn ordering<'a>(alloc: Global, rest: &'a [Lexeme]) -> ParseResult<'a, Option<SortItems>>
     ensures { MayRead result rest.now ordering_of }
 {
-    match after_word(ORDER, rest) {
-        Ok(behind) => match order_by(alloc, behind) {
-            Ok((order, behind)) => Ok((Some(order), behind)),
-            Err(ParseFault::Syntax) => Ok((None, rest)),
-            Err(ParseFault::Deep) => unreachable!(),
-            Err(ParseFault::OutOfMemory) => Err(ParseFault::OutOfMemory),
-        },
-        Err(NoFront) => Ok((None, rest)),
-    }
+    item_behind_word::<Clauses, SortItems>(alloc, ORDER, rest)
 }

@@ -2,15 +2,15 @@
 
 ghost use Rattle.std.specs.Prelude.{◌≡◌, ◌<◌, ◌≤◌, length, IfOk};
 ghost use Rattle.gql_front.specs.Gives.{Finds};
-ghost use Rattle.gql_front.specs.Reads.{Reads, Takes};
+ghost use Rattle.gql_front.specs.Reads.{Takes};
 ghost use Rattle.gql_front.specs.Reading.{op_at, is_word};
 ghost use Rattle.gql_lexer.specs.WordPlaces.{NULLS as nulls_word};
 ghost use Rattle.gql_statements.specs.PartWords.{direction_word, null_word};
 ghost use Rattle.gql_parts.specs.Machinery.PartReaders.{led};
-ghost use Rattle.gql_statements.specs.Machinery.PageReaders.{direction_of, sort_items_of, order_of};
+ghost use Rattle.gql_statements.specs.Machinery.PageReaders.{direction_of};
 
 use crate::clause::Clauses;
-use gql_ast::{NullOrder, ParseFault, SortDirection, SortItem, SortItems};
+use gql_ast::{NullOrder, SortDirection, SortItem, SortItems};
 use gql_front::{NoFront, ParseResult, after_word};
 use gql_lexer::Lexeme;
 use gql_lexer::words::{ASC, ASCENDING, BY, DESC, DESCENDING, FIRST, LAST, NULLS};
@@ -38,13 +38,17 @@ impl Item<Clauses> for SortItem {
     }
 }
 
-/// The sort keys, behind ORDER.
-#[tactic(auto, unfolding(crate::specs::Machinery::PageReaders::order_of, crate::specs::Machinery::PageReaders::sort_items_of))]
-pub fn order_by<'a>(alloc: Global, rest: &'a [Lexeme]) -> ParseResult<'a, SortItems>
-    ensures { Reads result rest.now order_of }
-{
-    let rest = after_word(BY, rest)?;
-    list::<Clauses, SortItem>(alloc, rest)
+/// BY and sort keys.
+impl Item<Clauses> for SortItems {
+    ghost use Rattle.gql_statements.specs.Machinery.PageReaders.{order_of};
+
+    ghost reader = { order_of };
+
+    #[tactic(auto, unfolding(crate::specs::Machinery::PageReaders::order_of, crate::specs::Machinery::PageReaders::sort_items_of))]
+    fn read<'a>(alloc: Global, rest: &'a [Lexeme]) -> ParseResult<'a, SortItems> {
+        let rest = after_word(BY, rest)?;
+        list::<Clauses, SortItem>(alloc, rest)
+    }
 }
 
 /// The direction at the front; no word means ascending.
