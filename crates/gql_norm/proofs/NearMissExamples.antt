@@ -1,16 +1,14 @@
 -- Near misses: what stands close to an example, and is no member. The examples list all members, so a member would be listed.
-use Rattle.std.proofs.Common.{◌≡◌, ℕ, inl, inr, false, List, [], ◌∷◌, codes, length, Option, Some, None, Ok, refl, ap, subst, arith}
+use Rattle.std.proofs.Common.{◌≡◌, ℕ, inl, inr, false, List, [], ◌∷◌, codes, length, Some, None, Ok, refl, ap, subst, arith}
 use Prim.{⊥}
 use Rattle.gql_values3.specs.Datum.{Datum, node as a_node}
 use Rattle.gql_values3.specs.PropertyGraph.{PropertyGraph}
 use Rattle.gql_ast.specs.Evaluation.{value_of}
 use Rattle.gql_ast.specs.Pattern.{Pattern, paren, repeated, sequence, patterns_of}
-use Rattle.gql_ast.specs.declared.mode.Mode.TheVariants as mode
 use Rattle.gql_ast.specs.declared.pattern.Direction.TheVariants as direction
 use Rattle.gql_ast.specs.declared.pattern.Quantifier.TheVariants as quantifier
 use Rattle.gql_scope.specs.Misuses.{misused}
-use Rattle.gql_norm.specs.NormalPattern.{Part}
-use Rattle.gql_norm.specs.NormalForm.{part_of, under_mode}
+use Rattle.gql_norm.specs.NormalForm.{part_of}
 use Rattle.gql_norm.specs.Places.{size}
 use Rattle.gql_norm.specs.Declaration.{visible}
 use Rattle.gql_norm.specs.PredicateSpot.{predicates_in}
@@ -25,7 +23,7 @@ use Rattle.gql_norm.proofs.Finiteness.{most_edges, finitely_many}
 use Rattle.gql_norm.proofs.ExampleGraph.{g0, bare, t_right}
 use Rattle.gql_norm.proofs.BindingExamples.{binding, trail_within, stays, there_and_back, round}
 use Rattle.gql_norm.proofs.MoreBindingExamples.{x_and_y, one_of_two, one_side_or_the_other, one_of_two_told, the_side_is_told, count_behind, e_four_times, group_behind_a_quantifier, through_m, both_are_one, from_two, undirected_or_right, left_or_undirected, loop, over_the_loop, a_loop_is_one_segment, between_two_and_three, both_edges_between}
-use Rattle.gql_norm.proofs.RowExamples.{rows, plain, matched, t_between, x_column, z_between, shared_names_join, refused, right_between}
+use Rattle.gql_norm.proofs.RowExamples.{rows, plain, matched, x_column, z_between, refused, right_between}
 
 -- what is not listed is no member
 unlisted : (g : PropertyGraph) (p : Pattern) (S : List Reduced) (x : Reduced) → IsBounded (part_of p) → bindings g [] [] [] (part_of p) 0 ≡ S → (Among x S → ⊥) → IsBindingOf g [] [] [] (part_of p) x → ⊥
