@@ -13,9 +13,10 @@ pub mod ReducedOrder
 pub mod ListedBindings
 pub mod ExampleGraph
 pub mod BindingExamples
-mod MoreBindingExamples
-mod RowExamples
+pub mod MoreBindingExamples
+pub mod RowExamples
 mod LegalExamples
+mod NearMissExamples
 mod SelectorExamples
 pub mod ModeLemmas
 mod NormalFormExamples
@@ -25,4 +26,5 @@ pub mod Finiteness
 pub mod FiniteLists
 pub mod PathLemmas
 pub mod TrailLemmas
+pub mod EasedMatches
 pub mod RowLengths

@@ -31,22 +31,22 @@ use Rattle.gql_norm.proofs.ExampleGraph.{g0, n_is, blank, bare, node_where, node
 use Rattle.gql_norm.proofs.BindingExamples.{from_one_to_one, nested}
 
 -- a path pattern without a name and a selector
-abbrev plain : Part → NormalPath
+abbrev pub plain : Part → NormalPath
 plain p = record { name = None; selector = None; body = p }
 
-abbrev matched : List NormalPath → Option Tree → NormalPattern
+abbrev pub matched : List NormalPath → Option Tree → NormalPattern
 matched ps e = record { paths = ps; condition = e }
 
 -- what MATCH gives for these rows, where each path pattern keeps all its bindings with at most k copies
-abbrev rows : ℕ → ColumnList → NormalPattern → Bool → List (List Datum) → Result (List (List Datum)) DataFault
+abbrev pub rows : ℕ → ColumnList → NormalPattern → Bool → List (List Datum) → Result (List (List Datum)) DataFault
 rows k columns p opt given = listed_rows g0 k columns p opt given
 
 -- (a)-[:T]->(b)
-abbrev t_between : List ℕ → List ℕ → NormalPath
+abbrev pub t_between : List ℕ → List ℕ → NormalPath
 t_between a b = plain (part_of (sequence (bare a) (patterns_of (t_right None ∷ bare b ∷ []))))
 
 -- MATCH (x)-[:T]->(y), (y)-[:T]->(x)
-shared_names_join : rows 0 [] (matched (t_between (codes "x") (codes "y") ∷ t_between (codes "y") (codes "x") ∷ []) None) false ([] ∷ [])
+pub shared_names_join : rows 0 [] (matched (t_between (codes "x") (codes "y") ∷ t_between (codes "y") (codes "x") ∷ []) None) false ([] ∷ [])
     ≡ Ok ((a_node 1 ∷ a_node 2 ∷ []) ∷ (a_node 2 ∷ a_node 1 ∷ []) ∷ [])
 unfolding size visible expansions layings value_of
 shared_names_join = refl
@@ -77,10 +77,10 @@ unfolding size visible expansions layings value_of
 the_row_stands_twice = refl
 
 -- OPTIONAL MATCH (x)-[:Z]->(y) behind x, and MATCH (y)-[:T]->(z) behind y that is NULL
-abbrev x_column : ColumnList
+abbrev pub x_column : ColumnList
 x_column = (codes "x", kind.Node) ∷ []
 
-abbrev z_between : NormalPath
+abbrev pub z_between : NormalPath
 z_between = plain (part_of (sequence (bare (codes "x")) (patterns_of (edge direction.Right (record { variable = None; labels = Some (label_name (codes "Z")); condition = None }) ∷ bare (codes "y") ∷ []))))
 
 optional_keeps_the_row : rows 0 x_column (matched (z_between ∷ []) None) true ((a_node 1 ∷ []) ∷ []) ≡ Ok ((a_node 1 ∷ null ∷ []) ∷ [])
@@ -105,7 +105,7 @@ unfolding size visible expansions layings value_of
 the_final_where_faults = refl
 
 -- refusals
-abbrev refused : NormalPattern → Option Refusal
+abbrev pub refused : NormalPattern → Option Refusal
 refused p = pattern_refusal [] [] p
 
 an_open_star_is_unbounded : refused (matched (plain (part_of from_one_to_one) ∷ []) None) ≡ Some refusal.Unbounded
@@ -154,7 +154,7 @@ unfolding size visible expansions layings value_of
 one_pattern_through_all_stages = refl
 
 -- (x)->{1,65536}(y), and (x)->{0,65535}(y) is within the limit
-abbrev right_between : List ℕ → List ℕ → NormalPattern
+abbrev pub right_between : List ℕ → List ℕ → NormalPattern
 right_between m n = matched (plain (part_of (sequence (bare (codes "x")) (patterns_of (repeated (edge direction.Right blank) (quantifier.Between (Some m) (Some n)) ∷ bare (codes "y") ∷ [])))) ∷ []) None
 
 a_bound_above_the_limit : bounds_at_fault (right_between (codes "1") (codes "65536")) ≡ 65536 ∷ []
