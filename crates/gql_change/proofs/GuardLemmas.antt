@@ -1,9 +1,11 @@
 -- The guard of INSERT, where each endpoint that is a column is a column of nodes and rows fit.
-use Rattle.std.proofs.Common.{◌≡◌, ◌↔◌, ℕ, suc, Bool, true, false, cond, not, ◌&&◌, ◌==◌, List, [], ◌∷◌, ◌++◌, length, Option, Some, None, IsTrue, refl, sym, ap, ◌∙◌, arith}
+use Rattle.std.proofs.Common.{◌≡◌, ◌↔◌, ℕ, suc, Bool, true, false, not, ◌&&◌, ◌==◌, List, [], ◌∷◌, ◌++◌, length, All, Option, Some, None, IsTrue, refl, sym, ap, ◌∙◌, arith}
 use Rattle.std.specs.List.{list_all}
 use Rattle.std.specs.Prelude.{if◌then◌else◌}
 use Rattle.std.proofs.lemmas.Bool.{and_parts, and_from}
 use Rattle.std.proofs.lemmas.Bool.Decides.{nat_tests}
+use Rattle.std.proofs.lemmas.List.Elements.{All-weaker}
+use Rattle.std.proofs.lemmas.List.Sums.{AllPass-from_list_all}
 use Rattle.gql_values3.specs.Datum.{Datum}
 use Rattle.gql_values3.specs.PropertyGraph.{PropertyGraph}
 use Rattle.gql_values3.specs.Rows.{fits_kind}
@@ -103,3 +105,23 @@ guard_holds columns rows ps fit nodes =
 
 pub guard_is_passed : GuardIsPassed
 guard_is_passed g params columns rows ps fit nodes = rw (guard_holds columns rows ps fit nodes) refl
+
+-- what the guard says of the rows, and of the endpoints
+wide_row : (columns : ColumnList) (row : List Datum) → (length row == length columns) ≡ true → length row ≡ length columns
+wide_row columns row h = grind (arith, nat_tests, h)
+
+nothing_there : (xs : List (List ℕ)) → is_empty xs ≡ true → xs ≡ []
+nothing_there [] h = refl
+nothing_there (x ∷ xs) h = absurd (cc)
+
+module _ (columns : ColumnList) (rows : RowList) (ps : List InsertPath) (holds : has_endpoints columns rows ps ≡ true) where
+  both : (list_all (λ (row : List Datum). length row == length columns) rows ≡ true) × (is_empty (wrong_in_spots columns (insert_spots ps)) ≡ true)
+  both = and_parts (list_all (λ (row : List Datum). length row == length columns) rows) (is_empty (wrong_in_spots columns (insert_spots ps))) holds
+
+  pub guard_wide : All (λ (row : List Datum). length row ≡ length columns) rows
+  guard_wide =
+      All-weaker (λ (row : List Datum). (length row == length columns) ≡ true) (λ (row : List Datum). length row ≡ length columns) (wide_row columns) rows
+      (AllPass-from_list_all (λ (row : List Datum). length row == length columns) rows both.0)
+
+  pub guard_kinds : wrong_in_spots columns (insert_spots ps) ≡ []
+  guard_kinds = nothing_there (wrong_in_spots columns (insert_spots ps)) both.1

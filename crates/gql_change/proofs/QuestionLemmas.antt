@@ -15,3 +15,10 @@ pub path_asked : (done : List Question) (cs : ColumnList) (left : List InsertPat
 path_asked done cs left p rest h =
     append_assoc done (questions cs (path_spots p)) (questions (spot_columns cs (path_spots p)) (insert_spots rest))
     ∙ ap (λ (qs : List Question). done ++ qs) (sym (questions_append cs (path_spots p) (insert_spots rest)) ∙ ap (λ (ps : List InsertPath). questions cs (insert_spots ps)) (sym h))
+
+-- the questions of a front of the spots, and then of the rest
+pub asked_past : (done : List Question) (cs : ColumnList) (front rest all : Spots) → all ≡ front ++ rest
+    → (done ++ questions cs front) ++ questions (spot_columns cs front) rest ≡ done ++ questions cs all
+asked_past done cs front rest all h =
+    append_assoc done (questions cs front) (questions (spot_columns cs front) rest)
+    ∙ ap (λ (qs : List Question). done ++ qs) (sym (questions_append cs front rest) ∙ ap (questions cs) (sym h))

@@ -1,19 +1,24 @@
 //! What a clause that changes data comes to.
 
-ghost use Rattle.std.specs.Prelude.{◌≡◌, ◌==◌, length, IfOk, IsTrue};
+ghost use Rattle.std.specs.Prelude.{◌≡◌, ◌==◌, length, map, IfOk, IsTrue};
 ghost use Rattle.std.specs.List.{list_all};
 ghost use Rattle.gql_ast.specs.declared.change.ChangeClause.TheVariants.{Insert as insert_clause};
-ghost use Rattle.gql_ast.specs.InsertColumns.{change_columns};
+ghost use Rattle.gql_ast.specs.Endpoints.{wrong_in_spots};
+ghost use Rattle.gql_ast.specs.InsertColumns.{change_columns, insert_spots};
 ghost use Rattle.gql_eval.specs.RowLists.{rows_fit};
-ghost use Rattle.gql_change.specs.Changing.{change_of};
+ghost use Rattle.gql_change.specs.Changing.{change_of, changed_by_insert, has_endpoints, is_empty};
+ghost use Rattle.gql_change.specs.Machinery.Roles.{question_of, questions};
 ghost use Rattle.gql_change.specs.Plans.{Plans};
 
-use crate::columns::{columns_behind, endpoints_are_nodes};
+use crate::columns::copy_columns;
 use crate::deletion::plan_delete;
 use crate::fault::ChangeFault;
 use crate::insert::plan_insert;
 use crate::list::ChangeList;
+use crate::names::Names;
+use crate::questions::{Outline, outline_of};
 use crate::set_clause::{plan_remove, plan_set};
+use crate::spot_question::SpotQuestion;
 use gql_ast::{ChangeClause, DataFault, InsertPath, Refusal};
 use gql_graph::Changes;
 use gql_values3::{Columns, Params, Row, Rows, View};
@@ -58,8 +63,7 @@ fn plan_clause<V: View>(
     ensures change { Plans (λ p. (p.list, p.rows)) (V.graph view.now) result (change_of (V.graph view.now) params.now columns.now rows clause.now) }
     ensures columns { IfOk result (λ p. p.columns ≡ change_columns columns.now clause.now) }
 {
-    let wider = columns_behind(alloc, columns, clause)?;
-    let (changes, rows) = changes_of(alloc, view, columns, rows, params, clause)?;
+    let (changes, wider, rows) = changes_of(alloc, view, columns, rows, params, clause)?;
     let list = ChangeList::of(alloc, changes)?;
     Ok(Planned {
         list,
@@ -68,7 +72,7 @@ fn plan_clause<V: View>(
     })
 }
 
-/// The changes of a clause, and the rows behind it.
+/// The changes of a clause, and the columns and rows behind it.
 fn changes_of<V: View>(
     alloc: Global,
     view: &V,
@@ -76,8 +80,9 @@ fn changes_of<V: View>(
     rows: Rows,
     params: &Params,
     clause: &ChangeClause,
-) -> Result<(Changes, Rows), ChangeFault>
-    ensures { Plans (λ p. (p.0, p.1)) (V.graph view.now) result (change_of (V.graph view.now) params.now columns.now rows clause.now) }
+) -> Result<(Changes, Columns, Rows), ChangeFault>
+    ensures change { Plans (λ p. (p.0, p.2)) (V.graph view.now) result (change_of (V.graph view.now) params.now columns.now rows clause.now) }
+    ensures columns { IfOk result (λ p. p.1 ≡ change_columns columns.now clause.now) }
 {
     match clause {
         ChangeClause::Insert(paths) => {
@@ -85,21 +90,24 @@ fn changes_of<V: View>(
         }
         ChangeClause::Set(items) => {
             let changes = plan_set(alloc, view, columns, &rows, params, items.as_slice())?;
-            Ok((changes, rows))
+            let same = copy_columns(alloc, columns)?;
+            Ok((changes, same, rows))
         }
         ChangeClause::Remove(items) => {
             let changes = plan_remove(alloc, view, columns, &rows, params, items.as_slice())?;
-            Ok((changes, rows))
+            let same = copy_columns(alloc, columns)?;
+            Ok((changes, same, rows))
         }
         ChangeClause::Delete(detachment, names) => {
             let changes = plan_delete(alloc, view, columns, &rows, *detachment, names.as_slice())?;
-            Ok((changes, rows))
+            let same = copy_columns(alloc, columns)?;
+            Ok((changes, same, rows))
         }
     }
 }
 
-/// The changes of an INSERT, and its rows. Rows that aren't as wide as their columns, or an endpoint that is a column of
-/// another kind than a node's, are a wrong kind; no statement without a static refusal has them.
+/// The changes of an INSERT, its columns and its rows. Rows that aren't as wide as their columns, or an endpoint that is a
+/// column of another kind than a node's, are a wrong kind; no statement without a static refusal has them.
 fn insert<V: View>(
     alloc: Global,
     view: &V,
@@ -107,14 +115,54 @@ fn insert<V: View>(
     rows: Rows,
     params: &Params,
     paths: &[InsertPath],
-) -> Result<(Changes, Rows), ChangeFault>
-    ensures { Plans (λ p. (p.0, p.1)) (V.graph view.now) result (change_of (V.graph view.now) params.now columns.now rows (insert_clause paths.now)) }
+) -> Result<(Changes, Columns, Rows), ChangeFault>
+    ensures change { Plans (λ p. (p.0, p.2)) (V.graph view.now) result (change_of (V.graph view.now) params.now columns.now rows (insert_clause paths.now)) }
+    ensures columns { IfOk result (λ p. p.1 ≡ change_columns columns.now (insert_clause paths.now)) }
 {
-    if are_as_wide(rows.as_slice(), columns.len()) && endpoints_are_nodes(alloc, columns, paths)? {
-        plan_insert(alloc, view, columns, rows, params, paths)
+    let Outline { names, fits, asked } = outline_of(alloc, columns, paths)?;
+    if have_endpoints(columns, rows.as_slice(), paths, fits) {
+        insert_outlined(
+            alloc,
+            view,
+            columns,
+            rows,
+            params,
+            paths,
+            names,
+            asked.as_slice(),
+        )
     } else {
         Err(ChangeFault::Refused(Refusal::Fault(DataFault::WrongKind)))
     }
+}
+
+/// The same where the guard of INSERT holds, with what its names tell.
+fn insert_outlined<V: View>(
+    alloc: Global,
+    view: &V,
+    columns: &Columns,
+    rows: Rows,
+    params: &Params,
+    paths: &[InsertPath],
+    names: Names,
+    asked: &[SpotQuestion],
+) -> Result<(Changes, Columns, Rows), ChangeFault>
+    requires guard { IsTrue (has_endpoints columns.now rows paths.now) }
+    requires asked { map question_of asked.now ≡ questions columns.now (insert_spots paths.now) }
+    ensures change { Plans (λ p. (p.0, p.2)) (V.graph view.now) result (changed_by_insert (V.graph view.now) params.now columns.now rows paths.now) }
+    ensures columns { IfOk result (λ p. p.1 ≡ names) }
+{
+    let (changes, rows) = plan_insert(alloc, view, columns, rows, params, paths, asked)?;
+    let wider = names.into_columns();
+    Ok((changes, wider, rows))
+}
+
+/// Whether the guard of INSERT holds, where it is known of its endpoints.
+fn have_endpoints(columns: &Columns, rows: &[Row], paths: &[InsertPath], fits: bool) -> bool
+    requires { fits ≡ is_empty (wrong_in_spots columns.now (insert_spots paths.now)) }
+    ensures { result ≡ has_endpoints columns.now rows.now paths.now }
+{
+    are_as_wide(rows, columns.len()) && fits
 }
 
 /// Whether each row has so many values.
