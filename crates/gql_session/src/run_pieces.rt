@@ -18,6 +18,10 @@ use gql_ports::Sink;
 use gql_text::put_outcome;
 use gql_values3::{Bytes, OutOfMemory, Params};
 use std::alloc::Global;
+use std::mem;
+
+/// The most bytes of the buffer that is kept from one statement to the next.
+const KEPT: usize = 65_536;
 
 /// Why the run of a text ended early: a text could not be written, or there was no memory.
 #[derive(Clone, Copy, Debug, PartialEq, Eq)]
@@ -56,12 +60,14 @@ pub fn run_pieces<W: Sink>(
         parameters: Params::new(alloc),
         is_closed: false,
     };
+    let mut buffer = Bytes::new(alloc);
     let mut refused = false;
     for piece in all.as_slice() {
         if session.is_closed {
             return Ok(refused);
         }
-        let piece_refused = match run_piece(alloc, &mut session, piece.bytes.as_slice(), sink) {
+        let bytes = piece.bytes.as_slice();
+        let piece_refused = match run_piece(alloc, &mut session, bytes, &mut buffer, sink) {
             Ok(piece_refused) => piece_refused,
             Err(fault) => return Err(fault),
         };
@@ -70,11 +76,12 @@ pub fn run_pieces<W: Sink>(
     Ok(refused)
 }
 
-/// Runs one piece, writes its outcome's text, and tells whether it is a refusal.
+/// Runs one piece, writes its outcome's text by way of the buffer, and tells whether it is a refusal.
 fn run_piece<W: Sink>(
     alloc: Global,
     session: &mut Session,
     piece: &[u8],
+    buffer: &mut Bytes,
     sink: &mut W,
 ) -> Result<bool, RunFault>
     requires short { length piece.now < 2 ^ 32 }
@@ -85,23 +92,40 @@ fn run_piece<W: Sink>(
 {
     match answer_piece(alloc, session, piece)? {
         None => Ok(false),
-        Some(outcome) => write_outcome(alloc, &outcome, sink),
+        Some(outcome) => write_outcome(alloc, &outcome, buffer, sink),
     }
 }
 
-/// Writes an outcome's text by one `put`, and tells whether it is a refusal.
-fn write_outcome<W: Sink>(alloc: Global, outcome: &Outcome, sink: &mut W) -> Result<bool, RunFault>
+/// Writes an outcome's text by one `put`, and tells whether it is a refusal. The buffer's bytes are lost.
+fn write_outcome<W: Sink>(
+    alloc: Global,
+    outcome: &Outcome,
+    buffer: &mut Bytes,
+    sink: &mut W,
+) -> Result<bool, RunFault>
     ensures told { (start end : SessionState) (piece before : List ℕ) → W.written sink.old ≡ Some before → Step start piece (outcome.now ∷ []) end
         → PieceEnding start piece before result end (W.written sink.new) }
     ensures later { W.faults sink.old ≤ W.faults sink.new }
     ensures failed { result ≡ Err RunFault.Sink → Rose (W.faults sink.old) (W.faults sink.new) }
 {
-    let mut text = Bytes::new(alloc);
-    put_outcome(alloc, outcome, &mut text)?;
-    match sink.put(text.as_slice()) {
+    clear(alloc, buffer);
+    put_outcome(alloc, outcome, buffer)?;
+    match sink.put(buffer.as_slice()) {
         Ok(()) => Ok(is_refusal(outcome)),
         Err(_) => Err(RunFault::Sink),
     }
+}
+
+/// Empties the buffer. A large one is given back, so that later statements have its memory.
+fn clear(alloc: Global, buffer: &mut Bytes)
+    ensures { buffer.new ≡ [] }
+{
+    let mut bytes = mem::replace(buffer, Bytes::new(alloc)).into_vec();
+    if bytes.len() > KEPT {
+        return;
+    }
+    bytes.clear();
+    *buffer = Bytes::from_vec(bytes);
 }
 
 /// Whether the outcome is a refusal.

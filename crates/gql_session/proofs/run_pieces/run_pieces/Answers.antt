@@ -24,7 +24,7 @@ run_piece-requires-clause-short g c =
     let items : c.as_slice-piece-items.result.now ≡ pieces_of c.args.text.now = c.as_slice-piece-items.ensures ∙ c.in_ok-all.ensures in
     let here : at.piece-index < length (pieces_of c.args.text.now) = rw (← items) c.loop-piece-test.true in
     let is : c.piece-item.result ≡ get_or (pieces_of c.args.text.now) at.piece-index c.piece-item.result = rw (← items) c.piece-item.is in
-    omega (arith, c.requires, ap length c.as_slice.ensures, piece-within c.args.text.now at.piece-index c.piece-item.result here is)
+    omega (arith, c.requires, ap length c.as_slice-bytes.ensures, piece-within c.args.text.now at.piece-index c.piece-item.result here is)
 
 pub returns-in-Err-clause-told : goal.returns-in-Err-clause-told
 returns-in-Err-clause-told g c = λ before h.
@@ -33,7 +33,7 @@ returns-in-Err-clause-told g c = λ before h.
     let here : at.piece-index < length (pieces_of c.args.text.now) = rw (← items) c.loop-piece-test.true in
     let is : c.piece-item.result ≡ get_or (pieces_of c.args.text.now) at.piece-index c.piece-item.result = rw (← items) c.piece-item.is in
     let ran = at.invariant.told before h in
-    let failed = rw c.as_slice.ensures at (c.in-Err.ensures.told c.args.catalog (before ++ outcome_texts ran.outcomes) ran.written) in
+    let failed = rw c.as_slice-bytes.ensures at (c.in-Err.ensures.told c.args.catalog (before ++ outcome_texts ran.outcomes) ran.written) in
     text_fault (starting c.args.catalog) c.args.text.now before at.piece-index c.piece-item.result at.refused (session_state c.args.catalog at.session) _ _ c.in-Err.fault here is ran failed
 
 pub loop-piece-preserved : goal.loop-piece-preserved
@@ -45,7 +45,7 @@ loop-piece-preserved g c = record {
       let here : at.piece-index < length (pieces_of c.args.text.now) = rw (← items) c.loop-piece-test.true in
       let is : c.piece-item.result ≡ get_or (pieces_of c.args.text.now) at.piece-index c.piece-item.result = rw (← items) c.piece-item.is in
       let ran = at.invariant.told before h in
-      let step = rw c.as_slice.ensures at (c.in-Ok.ensures.told c.args.catalog (before ++ outcome_texts ran.outcomes) ran.written) in
+      let step = rw c.as_slice-bytes.ensures at (c.in-Ok.ensures.told c.args.catalog (before ++ outcome_texts ran.outcomes) ran.written) in
       ran_more (starting c.args.catalog) c.args.text.now before at.piece-index c.piece-item.result at.refused c.in-Ok.piece_refused (session_state c.args.catalog at.session)
       (session_state c.args.catalog c.run_piece.new.session) _ _ here is ran step;
 }
