@@ -1,4 +1,5 @@
 pub mod LetLemmas
+pub mod PreparationLemmas
 pub mod ForLemmas
 pub mod KeyLemmas
 pub mod WidthLemmas

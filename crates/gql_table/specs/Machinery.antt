@@ -4,5 +4,6 @@ pub mod AggregateMeaning
 pub mod GroupMeaning
 pub mod GroupPlan
 pub mod Places
+pub mod Preparations
 pub mod Ranked
 pub mod Width

@@ -4,13 +4,17 @@ ghost use Rattle.std.specs.Prelude.{◌≡◌, ◌≤◌, ◌++◌, ◌∷◌, [
 ghost use Rattle.gql_values3.specs.Meaning.{datum_of};
 ghost use Rattle.gql_ast.specs.Outputs.{element_kind};
 ghost use Rattle.gql_eval.specs.Gives.{Gives};
-ghost use Rattle.gql_table.specs.For.{first_count, for_row, for_rows, item_rows, start_count};
+ghost use Rattle.gql_eval.specs.Machinery.Next.{next};
+ghost use Rattle.gql_eval.specs.RowLists.{each_some};
+ghost use Rattle.gql_table.specs.For.{first_count, for_rows, item_rows, rows_over, start_count};
+ghost use Rattle.gql_table.specs.Machinery.Preparations.{prepared_value};
 ghost use Rattle.gql_ast.specs.ClauseColumns.{for_columns};
 
-use crate::cells::cell;
 use crate::columns::{copy_columns, expr_kind};
+use crate::prepared::{prepare, prepared_cell};
+use crate::room::{copy_with_room, empty_rows};
 use gql_ast::{Counting, DataFault, For};
-use gql_eval::{EvalError, count_value};
+use gql_eval::{EvalError, Prepared, count_value};
 use gql_values3::{ColumnKind, Columns, List, OutOfMemory, Params, Row, Rows, Text, Value, View};
 use std::alloc::Global;
 
@@ -53,9 +57,22 @@ pub fn for_table<V: View>(
 ) -> Result<Rows, EvalError>
     ensures { Gives (λ r. r) result (for_rows (V.graph view.now) params.now columns.now clause.now rows) }
 {
+    let list = prepare(alloc, columns.as_slice(), params, &clause.list)?;
+    rows_over_lists(alloc, view, &list, rows, clause)
+}
+
+fn rows_over_lists<V: View>(
+    alloc: Global,
+    view: &V,
+    list: &Prepared,
+    rows: Rows,
+    clause: &For,
+) -> Result<Rows, EvalError>
+    ensures { Gives (λ r. r) result (each_some (λ row. next (prepared_value (V.graph view.now) list.now row) (rows_over clause.now row)) rows) }
+{
     let mut done = Rows::new(alloc);
     for row in rows.into_vec() {
-        let more = rows_of_row(alloc, view, columns, &row, params, clause)?;
+        let more = rows_of_row(alloc, view, list, &row, clause)?;
         done.extend(more)?;
     }
     Ok(done)
@@ -65,21 +82,13 @@ pub fn for_table<V: View>(
 fn rows_of_row<V: View>(
     alloc: Global,
     view: &V,
-    columns: &Columns,
+    list: &Prepared,
     row: &Row,
-    params: &Params,
     clause: &For,
 ) -> Result<Rows, EvalError>
-    ensures { Gives (λ r. r) result (for_row (V.graph view.now) params.now columns.now clause.now row.now) }
+    ensures { Gives (λ r. r) result (next (prepared_value (V.graph view.now) list.now row.now) (rows_over clause.now row.now)) }
 {
-    let value = cell(
-        alloc,
-        view,
-        columns.as_slice(),
-        row.as_slice(),
-        params,
-        &clause.list,
-    )?;
+    let value = prepared_cell(alloc, view, list, row.as_slice())?;
     match value {
         Value::Null => Ok(Rows::new(alloc)),
         Value::List(items) => rows_of_items(alloc, row, items, &clause.counter),
@@ -106,9 +115,9 @@ fn rows_of_items(
 fn plain_rows(alloc: Global, row: &Row, items: List) -> Result<Rows, OutOfMemory>
     ensures { IfOk result (λ rows. rows ≡ map (λ d. row.now ++ d ∷ []) items) }
 {
-    let mut rows = Rows::new(alloc);
+    let mut rows = empty_rows(alloc, items.len())?;
     for item in items.into_vec() {
-        let mut longer = row.try_copy(alloc)?;
+        let mut longer = copy_with_room(alloc, row, 2)?;
         longer.push(item)?;
         rows.push(longer)?;
     }
@@ -127,7 +136,7 @@ fn counted_rows(
     let first = first_number(counter.0);
     let all = items.len();
     let mut left = all;
-    let mut rows = Rows::new(alloc);
+    let mut rows = empty_rows(alloc, all)?;
     for item in items.into_vec() {
         let number = count_value(first + (all - left))?;
         rows.push(counted_row(alloc, row, item, number)?)?;
@@ -139,7 +148,7 @@ fn counted_rows(
 fn counted_row(alloc: Global, row: &Row, item: Value, number: Value) -> Result<Row, OutOfMemory>
     ensures { IfOk result (λ longer. longer ≡ row.now ++ datum_of item ∷ datum_of number ∷ []) }
 {
-    let mut longer = row.try_copy(alloc)?;
+    let mut longer = copy_with_room(alloc, row, 3)?;
     longer.push(item)?;
     longer.push(number)?;
     Ok(longer)

@@ -1,14 +1,17 @@
 //! LET.
 
 ghost use Rattle.std.specs.Prelude.{◌≡◌, ◌+◌, take, length, IfOk};
-ghost use Rattle.gql_table.specs.Let.{let_row, let_rows};
+ghost use Rattle.gql_ast.specs.Faults.{each};
+ghost use Rattle.gql_table.specs.Let.{let_rows};
+ghost use Rattle.gql_table.specs.Machinery.Preparations.{prepared_lets, row_with};
 ghost use Rattle.gql_ast.specs.ClauseColumns.{let_columns};
 ghost use Rattle.gql_eval.specs.Gives.{Gives};
 
-use crate::cells::cell;
 use crate::columns::{copy_columns, expr_kind};
+use crate::prepared::{prepare, prepared_cell};
+use crate::room::{empty_rows, with_room};
 use gql_ast::LetItem;
-use gql_eval::EvalError;
+use gql_eval::{EvalError, Prepared};
 use gql_values3::{ColumnKind, Columns, OutOfMemory, Params, Row, Rows, Text, View};
 use std::alloc::Global;
 
@@ -41,35 +44,61 @@ pub fn let_table<V: View>(
     ensures { Gives (λ r. r) result (let_rows (V.graph view.now) params.now columns.now items.now rows) }
 {
     let all = columns_after_let(alloc, columns, items)?;
-    let width = columns.len();
-    let mut done = Rows::new(alloc);
+    let prepared = prepare_lets(alloc, all.as_slice(), columns.len(), params, items)?;
+    rows_with(alloc, view, prepared.as_slice(), rows)
+}
+
+/// The items, each prepared under the columns that it sees. The columns are those behind the clause, of which `width`
+/// were there before.
+fn prepare_lets<'a>(
+    alloc: Global,
+    columns: &'a [(Text, ColumnKind)],
+    width: usize,
+    params: &'a Params,
+    items: &'a [LetItem],
+) -> Result<Vec<Prepared<'a>>, OutOfMemory>
+    requires columns { let_columns (take width columns.now) items.now ≡ columns.now }
+    requires width { width + length items.now ≡ length columns.now }
+    ensures { IfOk result (λ all. all.items ≡ prepared_lets (take width columns.now) params.now items.now) }
+{
+    let mut all = Vec::new(alloc);
+    for i in 0..items.len() {
+        let item = &items[i];
+        let seen = &columns[..width + i];
+        all.push(prepare(alloc, seen, params, &item.value)?)?;
+    }
+    Ok(all)
+}
+
+/// The rows with the values of the items.
+fn rows_with<V: View>(
+    alloc: Global,
+    view: &V,
+    items: &[Prepared],
+    rows: Rows,
+) -> Result<Rows, EvalError>
+    ensures { Gives (λ r. r) result (each (row_with (V.graph view.now) items.now) rows) }
+{
+    let mut done = empty_rows(alloc, rows.len())?;
     for row in rows.into_vec() {
-        let longer = row_after_let(alloc, view, all.as_slice(), width, items, row, params)?;
+        let longer = row_after_let(alloc, view, items, row)?;
         done.push(longer)?;
     }
     Ok(done)
 }
 
-/// The row with the values of the items, each seen by the next. The columns are those behind the clause, of which
-/// `width` were there before.
+/// The row with the values of the items, each seen by the next.
 fn row_after_let<V: View>(
     alloc: Global,
     view: &V,
-    columns: &[(Text, ColumnKind)],
-    width: usize,
-    items: &[LetItem],
+    items: &[Prepared],
     row: Row,
-    params: &Params,
 ) -> Result<Row, EvalError>
-    requires columns { let_columns (take width columns.now) items.now ≡ columns.now }
-    requires width { width + length items.now ≡ length columns.now }
-    ensures { Gives (λ r. r) result (let_row (V.graph view.now) params.now (take width columns.now) items.now row) }
+    ensures { Gives (λ r. r) result (row_with (V.graph view.now) items.now row) }
 {
-    let mut longer = row;
+    let mut longer = with_room(row, items.len())?;
     for i in 0..items.len() {
-        let item = &items[i];
-        let seen = &columns[..width + i];
-        let value = cell(alloc, view, seen, longer.as_slice(), params, &item.value)?;
+        let value = prepared_cell(alloc, view, &items[i], longer.as_slice())?;
         longer.push(value)?;
     }
     Ok(longer)

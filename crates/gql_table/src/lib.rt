@@ -25,9 +25,11 @@ mod numbering;
 mod ordering;
 mod outputs;
 mod paging;
+mod prepared;
 mod projection;
 mod ranked;
 mod return_columns;
+mod room;
 mod row_aggregates;
 mod sorting;
 

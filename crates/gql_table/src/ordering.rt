@@ -3,14 +3,16 @@
 ghost use Rattle.std.specs.Prelude.{◌≡◌, ◌++◌, ◌∷◌, [], map, IfOk, OnOk};
 ghost use Rattle.std.specs.Option.{option_copied};
 ghost use Rattle.gql_table.specs.Paging.{keyed, ordered, paged};
+ghost use Rattle.gql_table.specs.Machinery.Preparations.{keyed_by};
 ghost use Rattle.gql_table.specs.Machinery.Width.{shown, seen};
 ghost use Rattle.gql_ast.specs.Faults.{each};
 ghost use Rattle.gql_eval.specs.Gives.{Gives};
 
 use crate::paging::cut_table;
-use crate::sorting::{Keyed, row_keys, sort_keyed};
+use crate::prepared::{prepare_keys, prepared_cells};
+use crate::sorting::{Keyed, sort_keyed};
 use gql_ast::{RowCount, SortItem, SortItems};
-use gql_eval::EvalError;
+use gql_eval::{EvalError, Prepared};
 use gql_values3::{Columns, List, OutOfMemory, Params, Row, Rows, View};
 use std::alloc::Global;
 
@@ -53,7 +55,7 @@ fn order_table<V: View>(
     match order {
         None => Ok(shown_rows(alloc, rows, width)?),
         Some(items) => {
-            let keyed = keyed_rows(alloc, view, columns, rows, width, params, items.as_slice())?;
+            let keyed = keyed_table(alloc, view, columns, rows, width, params, items.as_slice())?;
             let sorted = sort_keyed(keyed, items.as_slice())?;
             Ok(unkeyed_rows(alloc, sorted)?)
         }
@@ -61,7 +63,7 @@ fn order_table<V: View>(
 }
 
 /// What is put out of each row, with the row's keys.
-fn keyed_rows<V: View>(
+fn keyed_table<V: View>(
     alloc: Global,
     view: &V,
     columns: &Columns,
@@ -72,10 +74,23 @@ fn keyed_rows<V: View>(
 ) -> Result<Vec<Keyed>, EvalError>
     ensures { Gives (λ v. v.items) result (each (keyed (V.graph view.now) params.now columns.now items.now) (map (seen width) rows)) }
 {
+    let keys = prepare_keys(alloc, columns.as_slice(), params, items)?;
+    keyed_rows(alloc, view, keys.as_slice(), rows, width)
+}
+
+fn keyed_rows<V: View>(
+    alloc: Global,
+    view: &V,
+    keys: &[Prepared],
+    rows: Rows,
+    width: Option<usize>,
+) -> Result<Vec<Keyed>, EvalError>
+    ensures { Gives (λ v. v.items) result (each (keyed_by (V.graph view.now) keys.now) (map (seen width) rows)) }
+{
     let mut done = Vec::new(alloc);
     for row in rows.into_vec() {
-        let keys = row_keys(alloc, view, columns, &row, params, items)?;
-        add_keyed(&mut done, keys, shown_row(row, width))?;
+        let of_row = prepared_cells(alloc, view, keys, row.as_slice())?;
+        add_keyed(&mut done, of_row, shown_row(row, width))?;
     }
     Ok(done)
 }

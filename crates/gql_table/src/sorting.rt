@@ -4,49 +4,15 @@ ghost use Rattle.std.specs.Prelude.{◌≡◌, map, drop, IfOk};
 ghost use Rattle.std.specs.declared.cmp.Ordering.TheVariants.{Equal};
 ghost use Rattle.gql_values3.specs.Datum.{null};
 ghost use Rattle.gql_values3.specs.Meaning.{datum_of};
-ghost use Rattle.gql_ast.specs.Meaning.{tree_of};
-ghost use Rattle.gql_ast.specs.Scope.{row_scope};
-ghost use Rattle.gql_ast.specs.Faults.{each};
-ghost use Rattle.gql_ast.specs.Evaluation.{value_of};
-ghost use Rattle.gql_eval.specs.Gives.{Gives};
 ghost use Rattle.gql_table.specs.Sorting.{directed_cmp, null_cmp, key_cmp, keys_cmp, first_key, later_keys, sorted_by_keys};
 
-use crate::cells::cell;
 use gql_ast::{NullOrder, SortDirection, SortItem};
-use gql_eval::EvalError;
-use gql_values3::{Columns, List, OutOfMemory, Params, Row, Value, View, total_cmp};
+use gql_values3::{List, OutOfMemory, Row, Value, total_cmp};
 use std::alloc::Global;
 use std::cmp::Ordering;
 
 /// Keys, and the row that they are of.
 pub type Keyed = (List, Row);
-
-/// The values of the sort keys in a row.
-pub fn row_keys<V: View>(
-    alloc: Global,
-    view: &V,
-    columns: &Columns,
-    row: &Row,
-    params: &Params,
-    items: &[SortItem],
-) -> Result<List, EvalError>
-    ensures { Gives (λ k. k) result (each (λ i. value_of (V.graph view.now) params.now (row_scope columns.now row.now) (tree_of i.key)) items.now) }
-{
-    let mut keys = List::new(alloc);
-    for i in 0..items.len() {
-        let item = &items[i];
-        let key = cell(
-            alloc,
-            view,
-            columns.as_slice(),
-            row.as_slice(),
-            params,
-            &item.key,
-        )?;
-        keys.push(key)?;
-    }
-    Ok(keys)
-}
 
 /// The rows in the order of their keys. Equal ones stand as they stood.
 pub fn sort_keyed(keyed: Vec<Keyed>, items: &[SortItem]) -> Result<Vec<Keyed>, OutOfMemory>

@@ -1,0 +1,28 @@
+use Rattle.std.proofs.Common.{◌≡◌, ◌∙◌, ◌++◌, List, map, ap, subst, Result, Ok}
+use Rattle.gql_values3.specs.Datum.{Datum}
+use Rattle.gql_ast.specs.Tree.{Tree}
+use Rattle.gql_ast.specs.Meaning.{tree_of}
+use Rattle.gql_ast.specs.Faults.{each}
+use Rattle.gql_ast.specs.declared.fault.DataFault.{DataFault}
+use Rattle.gql_ast.specs.declared.projection.ReturnItem.{ReturnItem}
+use Rattle.gql_eval.specs.Gives.{Gives}
+use Rattle.gql_eval.specs.Machinery.Next.{next}
+use Rattle.gql_eval.specs.Preparation.{Preparation}
+use Rattle.gql_eval.specs.RowLists.{RowList}
+use Rattle.gql_table.specs.Projection.{output_row}
+use Rattle.gql_table.specs.Machinery.Preparations.{prepared_under, prepared_value}
+use Rattle.gql_table.proofs.PreparationLemmas.{outputs_are}
+use Rattle.gql_table.proofs.outputs.wide_table.Goals as goal
+
+pub returns : goal.returns
+returns g c =
+    let graph = g.V.View.graph c.args.view.now in
+    let params = c.args.params.now in
+    let columns = c.args.columns.now in
+    let es : List Tree = map (λ (i : ReturnItem). tree_of i.value) c.args.items.now in
+    let wide : Result (List Datum) DataFault → List Datum → Result (List Datum) DataFault = λ r row. next r (λ out. Ok (out ++ row)) in
+    let ps : c.as_slice-2.result.now ≡ map (prepared_under columns params) es = c.as_slice-2.ensures.value ∙ c.in_ok-prepared.ensures ∙ ap (λ cs. map (prepared_under cs params) es) c.as_slice.ensures in
+    let whole : each (λ (row : List Datum). wide (each (λ (p : Preparation). prepared_value graph p row) c.as_slice-2.result.now) row) c.args.rows ≡ each (λ (row : List Datum). wide (output_row graph params columns es row) row) c.args.rows =
+    ap (λ (l : List Preparation). each (λ (row : List Datum). wide (each (λ (p : Preparation). prepared_value graph p row) l) row) c.args.rows) ps
+    ∙ (λ j. each (λ row. wide (outputs_are graph params columns es row j) row) c.args.rows) in
+    subst (λ (r : Result RowList DataFault). Gives (λ (rs : RowList). rs) c.wide_rows.result r) whole c.wide_rows.ensures
