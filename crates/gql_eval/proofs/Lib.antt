@@ -12,3 +12,5 @@ pub mod ExtremeLemmas
 pub mod StableSort
 pub mod EachSteps
 pub mod RowFits
+pub mod TurnedLemmas
+pub mod ProgramLemmas

@@ -7,3 +7,6 @@ pub mod JoinedTruth
 pub mod Kept
 pub mod WholeSum
 pub mod Ranked
+pub mod Turned
+pub mod Program
+pub mod InstructionMeaning

@@ -1,6 +1,6 @@
 //! Expressions without parts: numbers, parameters, names and properties.
 
-ghost use Rattle.std.specs.Prelude.{◌≡◌, pos, Ok};
+ghost use Rattle.std.specs.Prelude.{◌≡◌, pos, Ok, IfOk};
 ghost use Rattle.std.specs.Str.{all_ascii_digits};
 ghost use Rattle.gql_values3.specs.Datum.{integer};
 ghost use Rattle.gql_values3.specs.Integers.{value_of_digits};
@@ -16,7 +16,7 @@ use crate::cow::CowValue;
 use crate::elements::property;
 use crate::error::EvalError;
 use crate::scope::{Scope, look_up};
-use gql_values3::{Params, Text, Value, View, int_of};
+use gql_values3::{OutOfMemory, Params, Text, Value, View, int_of};
 use std::alloc::Global;
 
 /// The value of a parameter; one that isn't set is NULL.
@@ -33,13 +33,20 @@ pub fn parameter<'a>(params: &'a Params, name: &Text) -> CowValue<'a>
 pub fn number_value(digits: &Text) -> Result<Value, EvalError>
     ensures { Gives datum_of result (Ok (integer (pos (value_of_digits digits.now)))) }
 {
+    Ok(number_within(digits)?)
+}
+
+/// The same; one that doesn't fit 64 bits is answered as want of memory.
+pub fn number_within(digits: &Text) -> Result<Value, OutOfMemory>
+    ensures { IfOk result (λ value. datum_of value ≡ integer (pos (value_of_digits digits.now))) }
+{
     let text = digits.as_str();
     if text.is_empty() || !are_digits(text.as_bytes()) {
-        return Err(EvalError::OutOfMemory);
+        return Err(OutOfMemory);
     }
     match int_of(text) {
         Some(number) => Ok(Value::Int(number)),
-        None => Err(EvalError::OutOfMemory),
+        None => Err(OutOfMemory),
     }
 }
 

@@ -6,6 +6,7 @@
 
 mod aggregates;
 mod arithmetic;
+mod compiling;
 mod cow;
 mod distinct;
 mod elements;
@@ -14,6 +15,7 @@ mod evaluation;
 mod functions;
 mod groups;
 mod heading;
+mod instruction;
 mod joining;
 mod labels;
 mod leaves;
@@ -25,7 +27,9 @@ mod predicates;
 mod prepared;
 mod ranked;
 mod rows;
+mod running;
 mod scope;
+mod stack;
 mod truths;
 
 pub use aggregates::{aggregate_of, extremes_of_values};

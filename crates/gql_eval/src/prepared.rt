@@ -12,9 +12,11 @@ ghost use Rattle.gql_eval.specs.Gives.{Gives};
 ghost use Rattle.gql_eval.specs.Machinery.Next.{next};
 ghost use Rattle.gql_eval.specs.Machinery.ScopeMeaning.{columns_of};
 
+use crate::compiling::compile;
 use crate::cow::CowValue;
 use crate::error::EvalError;
-use crate::evaluation::value_in;
+use crate::instruction::Instruction;
+use crate::running::value_of_program;
 use crate::scope::{Header, Scope};
 use crate::truths::truth_of_value;
 use gql_ast::Expr;
@@ -28,6 +30,7 @@ pub struct Prepared<'a> {
     header: Header<'a>,
     params: &'a Params,
     expr: &'a Expr,
+    program: Vec<Instruction<'a>>,
 }
 
 impl<'a> Model for Prepared<'a> {
@@ -44,22 +47,32 @@ impl<'a> Model for Prepared<'a> {
     ghost coded = { Prim.hlevel (codes, coded_datum, coded_tree) };
 
     ghost view = { λ p. record { columns = columns_of p.header; params = p.params.now; tree = tree_of p.expr.now } };
+
+    ghost use Rattle.std.specs.Prelude.{◌≡◌};
+    ghost use Rattle.gql_eval.specs.Machinery.Program.{compiled};
+    ghost use Rattle.gql_eval.specs.Machinery.InstructionMeaning.{program_of};
+
+    ghost invariant = { λ p. program_of p.program.items ≡ compiled (columns_of p.header) p.params.now (tree_of p.expr.now) };
 }
 
 impl<'a> Prepared<'a> {
     /// Prepares the expression. Columns that it does not name don't matter; `Header::Indexed` is for many of them.
+    #[tactic(auto, using(crate::proofs::ScopeLemmas::append_none))]
     pub fn new(
-        _alloc: Global,
+        alloc: Global,
         header: Header<'a>,
         params: &'a Params,
         expr: &'a Expr,
     ) -> Result<Prepared<'a>, OutOfMemory>
         ensures { IfOk result (λ p. p ≡ record { columns = columns_of header.entry; params = params.now; tree = tree_of expr.now }) }
     {
+        let mut program = Vec::new(alloc);
+        compile(header, params, expr, &mut program)?;
         Ok(Prepared {
             header,
             params,
             expr,
+            program,
         })
     }
 
@@ -94,7 +107,8 @@ impl<'a> Prepared<'a> {
             row,
             bound,
         };
-        value_in(alloc, view, &scope, self.params, self.expr)
+        let program = self.program.as_slice();
+        value_of_program(alloc, view, &scope, self.params, self.expr, program)
     }
 
     /// The truth of the expression as a predicate inside a path pattern, whose matches have these names beside the

@@ -1,0 +1,23 @@
+use Rattle.std.proofs.Common.{◌≡◌, ◌++◌, ◌+◌, ◌*◌, max, map}
+use Rattle.gql_ast.specs.Meaning.{tree_of, link_of}
+use Rattle.gql_ast.specs.Machinery.Height.{height_of, highest_link}
+use Rattle.gql_eval.specs.Machinery.InstructionMeaning.{program_of}
+use Rattle.gql_eval.specs.Machinery.Program.{compiled_chain}
+use Rattle.gql_eval.specs.Machinery.ScopeMeaning.{columns_of}
+use Rattle.gql_eval.proofs.PartLemmas.{sides_from}
+use Rattle.gql_eval.proofs.compiling.+compiling.Given as goal
+
+abbrev pub decreases-compile : goal.decreases-compile
+decreases-compile l = 4 * height_of (tree_of l.expr.now)
+
+abbrev pub decreases-operation : goal.decreases-operation
+decreases-operation l = 4 * height_of (tree_of l.part.now) + 1
+
+abbrev pub decreases-binary : goal.decreases-binary
+decreases-binary l = 4 * max (height_of (tree_of l.a.now)) (height_of (tree_of l.b.now)) + 1
+
+abbrev pub decreases-chain : goal.decreases-chain
+decreases-chain l = 4 * max (height_of (tree_of l.first.now)) (highest_link (map link_of l.steps.now)) + 1
+
+abbrev pub invariant-chain-loop-i : goal.invariant-chain-loop-i
+invariant-chain-loop-i l = program_of l.program.items ≡ compiled_chain (columns_of l.fn.header) l.params (sides_from l.steps l.i) ++ program_of l.fn.program.items

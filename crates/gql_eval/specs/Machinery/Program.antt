@@ -1,0 +1,120 @@
+-- Programs: what an expression is made into once, and what its steps do to a stack of values.
+use Rattle.std.specs.Prelude.{ℕ, zero, suc, pos, List, [], ◌∷◌, ◌++◌, map, Option, Some, None, Result, Ok, Err}
+use Rattle.gql_values3.specs.Datum.{Datum, null, integer}
+use Rattle.gql_values3.specs.Integers.{value_of_digits}
+use Rattle.gql_values3.specs.PropertyGraph.{PropertyGraph}
+use Rattle.gql_values3.specs.Meaning.{datum_of}
+use Rattle.gql_ast.specs.ClauseColumns.{ColumnList}
+use Rattle.gql_ast.specs.Tree.{Tree, Links, constant, unknown, number, parameter, name, property, paren, listing, count_all, aggregate, call, modulo, coalesce, signed, product, sum, comparing, test, label_test, end_test, negation, conjunction, disjunction, link, no_links, more_links}
+use Rattle.gql_ast.specs.Faults.{◌>>=◌}
+use Rattle.gql_ast.specs.Scope.{Entry, entry_of, datum_of_name}
+use Rattle.gql_ast.specs.Operators.{operated}
+use Rattle.gql_ast.specs.ElementTests.{property_value}
+use Rattle.gql_ast.specs.Evaluation.{value_of, parameter_value}
+use Rattle.gql_ast.specs.declared.fault.DataFault.{DataFault}
+use Rattle.gql_ast.specs.declared.fault.DataFault.TheVariants as fault
+use Rattle.gql_ast.specs.declared.words.Operator.{Operator}
+use Rattle.gql_eval.specs.Bound.{bound_scope}
+use Rattle.gql_eval.specs.Machinery.Operations.{of_operand, of_operands}
+use Rattle.gql_eval.specs.Machinery.Places.{place_among}
+use Rattle.gql_eval.specs.Machinery.ScopeMeaning.{item_entry, scope_of}
+use Rattle.gql_eval.specs.declared.scope.Scope.{Scope}
+
+-- a step; the top of the stack is its first datum
+pub data Op : Type 0 where
+  -- puts a datum on top
+  fixed : Datum → Op
+  -- puts what a name stands for, and a property of it; with the place of the name's first column
+  held_name : Option ℕ → List ℕ → Op
+  held_property : Option ℕ → List ℕ → List ℕ → Op
+  -- puts what an expression makes of its operand, or of its two, which stand on top
+  of_one : Tree → Op
+  of_two : Tree → Op
+  -- a sum or a product of the two on top
+  join_side : Operator → Op
+  -- puts the value of an expression
+  whole : Tree → Op
+
+-- the value of a row at a place, where there is one
+abbrev pub value_there : List Datum → Option ℕ → Option Datum
+value_there ds None = None
+value_there [] (Some i) = None
+value_there (d ∷ ds) (Some zero) = Some d
+value_there (d ∷ ds) (Some (suc i)) = value_there ds (Some i)
+
+-- an item in front, then a value of the row, then a name of the match
+abbrev pub first_held : Option Entry → Option Datum → Datum → Datum
+first_held (Some e) o d = e.datum
+first_held None (Some v) d = v
+first_held None None d = d
+
+-- what a name stands for, whose first column has a place
+abbrev pub held_at : Scope → Option ℕ → List ℕ → Datum
+held_at s o x = first_held (entry_of (map item_entry s.front.now) x) (value_there (map datum_of s.row.now) o) (datum_of_name (bound_scope s.bound.now) x)
+
+-- a datum that is given, put on top
+abbrev pub pushed : List Datum → Result Datum DataFault → Result (List Datum) DataFault
+pushed st r = r >>= λ d. Ok (d ∷ st)
+
+abbrev pub on_one : List Datum → (Datum → Result Datum DataFault) → Result (List Datum) DataFault
+on_one [] f = Err fault.WrongKind
+on_one (d ∷ st) f = pushed st (f d)
+
+abbrev pub on_two : List Datum → (Datum → Datum → Result Datum DataFault) → Result (List Datum) DataFault
+on_two [] f = Err fault.WrongKind
+on_two (y ∷ []) f = Err fault.WrongKind
+on_two (y ∷ x ∷ st) f = pushed st (f x y)
+
+module _ (g : PropertyGraph) (params : List (List ℕ × Datum)) (s : Scope) where
+  -- the stack behind a step
+  abbrev pub acted : Op → List Datum → Result (List Datum) DataFault
+  acted (fixed d) st = pushed st (Ok d)
+  acted (held_name o x) st = pushed st (Ok (held_at s o x))
+  acted (held_property o x p) st = pushed st (property_value g (held_at s o x) p)
+  acted (of_one e) st = on_one st (of_operand g (scope_of s) e)
+  acted (of_two e) st = on_two st (of_operands e)
+  acted (join_side op) st = on_two st (operated op)
+  acted (whole e) st = pushed st (value_of g params (scope_of s) e)
+
+  -- the stack behind the steps
+  abbrev pub ran : List Op → List Datum → Result (List Datum) DataFault
+  ran [] st = Ok st
+  ran (o ∷ os) st = acted o st >>= λ after. ran os after
+
+-- what stands on top in the end
+abbrev pub top_of : List Datum → Result Datum DataFault
+top_of [] = Err fault.WrongKind
+top_of (d ∷ st) = Ok d
+
+module _ (columns : ColumnList) (params : List (List ℕ × Datum)) where
+  abbrev mutual
+    -- the steps that put the value of an expression
+    pub compiled : Tree → List Op
+    compiled (constant d) = fixed d ∷ []
+    compiled unknown = fixed null ∷ []
+    compiled (number n) = fixed (integer (pos (value_of_digits n))) ∷ []
+    compiled (parameter p) = fixed (parameter_value params p) ∷ []
+    compiled (name x) = held_name (place_among columns x) x ∷ []
+    compiled (property x p) = held_property (place_among columns x) x p ∷ []
+    compiled (paren e) = compiled e
+    compiled (listing es) = whole (listing es) ∷ []
+    compiled count_all = fixed null ∷ []
+    compiled (aggregate a q e) = whole (aggregate a q e) ∷ []
+    compiled (call f e) = compiled e ++ of_one (call f e) ∷ []
+    compiled (modulo a b) = compiled a ++ (compiled b ++ of_two (modulo a b) ∷ [])
+    compiled (coalesce e es) = whole (coalesce e es) ∷ []
+    compiled (signed s e) = compiled e ++ of_one (signed s e) ∷ []
+    compiled (product e ls) = compiled e ++ compiled_chain ls
+    compiled (sum e ls) = compiled e ++ compiled_chain ls
+    compiled (comparing op a b) = compiled a ++ (compiled b ++ of_two (comparing op a b) ∷ [])
+    compiled (test e s q) = compiled e ++ of_one (test e s q) ∷ []
+    compiled (label_test e s l) = compiled e ++ of_one (label_test e s l) ∷ []
+    compiled (end_test e s which x) = compiled e ++ of_one (end_test e s which x) ∷ []
+    compiled (negation e) = compiled e ++ of_one (negation e) ∷ []
+    compiled (conjunction e ls) = whole (conjunction e ls) ∷ []
+    compiled (disjunction e ls) = whole (disjunction e ls) ∷ []
+
+    -- a sum or a product behind its first side
+    pub compiled_chain : Links → List Op
+    compiled_chain no_links = []
+    compiled_chain (more_links (link op e) ls) = compiled e ++ join_side op ∷ compiled_chain ls

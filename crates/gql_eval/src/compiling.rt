@@ -1,0 +1,148 @@
+//! From an expression to its program.
+
+ghost use Rattle.std.specs.Prelude.{◌≡◌, ◌∷◌, ◌++◌, map, OnOk};
+ghost use Rattle.gql_ast.specs.Tree.{links_of};
+ghost use Rattle.gql_ast.specs.Meaning.{tree_of, link_of};
+ghost use Rattle.gql_eval.specs.CowValue.{cow_datum};
+ghost use Rattle.gql_eval.specs.Machinery.Places.{place_among};
+ghost use Rattle.gql_eval.specs.Machinery.Program.{compiled, compiled_chain, of_one, of_two};
+ghost use Rattle.gql_eval.specs.Machinery.ScopeMeaning.{columns_of};
+ghost use Rattle.gql_eval.specs.Machinery.InstructionMeaning.{op_of, program_of};
+
+use crate::cow::CowValue;
+use crate::instruction::Instruction;
+use crate::leaves::{number_within, parameter};
+use crate::scope::Header;
+use gql_ast::{Expr, Step};
+use gql_values3::{ColumnKind, OutOfMemory, Params, Text, Value};
+
+// A program is made and kept from its last step on.
+
+/// Puts the steps of the expression in front of a program.
+#[cycle(compiling)]
+pub fn compile<'a>(
+    header: Header<'a>,
+    params: &'a Params,
+    expr: &'a Expr,
+    program: &mut Vec<Instruction<'a>>,
+) -> Result<(), OutOfMemory>
+    ensures { OnOk result (program_of program.new.items ≡ compiled (columns_of header.entry) params.now (tree_of expr.now) ++ program_of program.old.items) }
+{
+    match expr {
+        Expr::Constant(value) => put(program, Instruction::Fixed(CowValue::Borrowed(value))),
+        Expr::Unknown | Expr::CountAll => put(
+            program,
+            Instruction::Fixed(CowValue::Owned(Value::Null)),
+        ),
+        Expr::Number(digits) => put(
+            program,
+            Instruction::Fixed(CowValue::Owned(number_within(digits)?)),
+        ),
+        Expr::Parameter(name) => put(program, Instruction::Fixed(parameter(params, name))),
+        Expr::Name(name) => put(program, Instruction::Name(place_in(header, name), name)),
+        Expr::Property(name, key) => put(
+            program,
+            Instruction::Property(place_in(header, name), name, key),
+        ),
+        Expr::Paren(part) => compile(header, params, part.expr(), program),
+        Expr::List(_)
+        | Expr::Aggregate(_, _, _)
+        | Expr::Coalesce(_, _)
+        | Expr::And(_, _)
+        | Expr::Or(_, _) => put(program, Instruction::Whole(expr)),
+        Expr::Call(_, part)
+        | Expr::Signed(_, part)
+        | Expr::Is(part, _, _)
+        | Expr::IsLabeled(part, _, _)
+        | Expr::IsEnd(part, _, _, _)
+        | Expr::Not(part) => operation(header, params, expr, part.expr(), program),
+        Expr::Mod(a, b) | Expr::Compare(_, a, b) => {
+            binary(header, params, expr, a.expr(), b.expr(), program)
+        }
+        Expr::Product(first, steps) | Expr::Sum(first, steps) => {
+            chain(header, params, first.expr(), steps.as_slice(), program)
+        }
+    }
+}
+
+/// Puts one step in front.
+#[tactic(auto, using(crate::proofs::TurnedLemmas::turned_last))]
+pub fn put<'a>(program: &mut Vec<Instruction<'a>>, step: Instruction<'a>) -> Result<(), OutOfMemory>
+    ensures { OnOk result (program_of program.new.items ≡ op_of step.entry ∷ program_of program.old.items) }
+{
+    program.push(step)?;
+    Ok(())
+}
+
+/// The place of the first column of a name.
+pub fn place_in(header: Header, name: &Text) -> Option<usize>
+    ensures { result ≡ place_among (columns_of header.entry) name.now }
+{
+    match header {
+        Header::Listed(columns) => place_of(columns, name.as_str()),
+        Header::Indexed(heading) => heading.place_of(name.as_str()),
+    }
+}
+
+fn place_of(columns: &[(Text, ColumnKind)], name: &str) -> Option<usize>
+    ensures { result ≡ place_among columns.now name.now }
+{
+    for i in 0..columns.len() {
+        let (column, _) = &columns[i];
+        if name == column.as_str() {
+            return Some(i);
+        }
+    }
+    None
+}
+
+#[inline(never)]
+#[cycle(compiling)]
+fn operation<'a>(
+    header: Header<'a>,
+    params: &'a Params,
+    expr: &'a Expr,
+    part: &'a Expr,
+    program: &mut Vec<Instruction<'a>>,
+) -> Result<(), OutOfMemory>
+    ensures { OnOk result (program_of program.new.items ≡ compiled (columns_of header.entry) params.now (tree_of part.now) ++ of_one (tree_of expr.now) ∷ program_of program.old.items) }
+{
+    put(program, Instruction::OfOne(expr))?;
+    compile(header, params, part, program)
+}
+
+#[inline(never)]
+#[cycle(compiling)]
+fn binary<'a>(
+    header: Header<'a>,
+    params: &'a Params,
+    expr: &'a Expr,
+    a: &'a Expr,
+    b: &'a Expr,
+    program: &mut Vec<Instruction<'a>>,
+) -> Result<(), OutOfMemory>
+    ensures { OnOk result (program_of program.new.items ≡ compiled (columns_of header.entry) params.now (tree_of a.now) ++ (compiled (columns_of header.entry) params.now (tree_of b.now) ++ of_two (tree_of expr.now) ∷ program_of program.old.items)) }
+{
+    put(program, Instruction::OfTwo(expr))?;
+    compile(header, params, b, program)?;
+    compile(header, params, a, program)
+}
+
+#[inline(never)]
+#[cycle(compiling)]
+fn chain<'a>(
+    header: Header<'a>,
+    params: &'a Params,
+    first: &'a Expr,
+    steps: &'a [Step],
+    program: &mut Vec<Instruction<'a>>,
+) -> Result<(), OutOfMemory>
+    ensures { OnOk result (program_of program.new.items ≡ compiled (columns_of header.entry) params.now (tree_of first.now) ++ (compiled_chain (columns_of header.entry) params.now (links_of (map link_of steps.now)) ++ program_of program.old.items)) }
+{
+    for i in (0..steps.len()).rev() {
+        let step = &steps[i];
+        put(program, Instruction::JoinSide(step.operator))?;
+        compile(header, params, &step.operand, program)?;
+    }
+    compile(header, params, first, program)
+}

@@ -1,0 +1,24 @@
+//! The steps that an expression is made into.
+
+use crate::cow::CowValue;
+use gql_ast::{Expr, Operator};
+use gql_values3::Text;
+
+/// A step over a stack of values. Its meaning is `op_of`; what it does is said in `specs/Machinery/Program.antt`.
+#[derive(Drop)]
+pub enum Instruction<'a> {
+    /// Puts the value on top.
+    Fixed(CowValue<'a>),
+    /// Puts what the name stands for. The place is that of the first column of the name.
+    Name(Option<usize>, &'a Text),
+    /// Puts a property of what the name stands for.
+    Property(Option<usize>, &'a Text, &'a Text),
+    /// Puts what the expression makes of its operand.
+    OfOne(&'a Expr),
+    /// Puts what the expression makes of its two operands.
+    OfTwo(&'a Expr),
+    /// Joins the two on top by the operator of a sum or a product.
+    JoinSide(Operator),
+    /// Puts the value of the expression.
+    Whole(&'a Expr),
+}
