@@ -1,3 +1,4 @@
 pub mod BoundLemmas
 pub mod CandidateLemmas
 pub mod Examples
+pub mod PreparedLemmas

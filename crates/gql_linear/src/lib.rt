@@ -12,6 +12,8 @@ mod clauses;
 mod conditions;
 mod new_node;
 mod node_match;
+mod prepared;
+mod prepared_property;
 mod query;
 mod row_nodes;
 
