@@ -28,3 +28,9 @@ pub mod PathLemmas
 pub mod TrailLemmas
 pub mod EasedMatches
 pub mod RowLengths
+pub mod EachLemmas
+pub mod PositionKinds
+pub mod NameKinds
+pub mod GroupNames
+pub mod RowProperties
+pub mod CellKinds
