@@ -17,6 +17,8 @@ pub mod MoreBindingExamples
 pub mod RowExamples
 mod LegalExamples
 mod NearMissExamples
+mod NearMissTables
+mod StartExamples
 mod SelectorExamples
 pub mod ModeLemmas
 mod NormalFormExamples
@@ -34,3 +36,4 @@ pub mod NameKinds
 pub mod GroupNames
 pub mod RowProperties
 pub mod CellKinds
+mod OneTable
