@@ -19,6 +19,8 @@ mod LegalExamples
 mod NearMissExamples
 mod NearMissTables
 mod StartExamples
+mod AllShortest
+mod AnyExamples
 mod SelectorExamples
 pub mod ModeLemmas
 mod NormalFormExamples

@@ -42,13 +42,13 @@ abbrev back_twice : List Datum
 back_twice = row_of_path ((1, 2) ∷ (2, 1) ∷ (1, 2) ∷ (2, 1) ∷ [])
 
 no_trail_goes_back_twice : (T : List (List Datum)) → IsTable [] (p_under mode.Trail) false ([] ∷ []) T → Among back_twice T → ⊥
-no_trail_goes_back_twice = in_no_table g0 [] [] (p_under mode.Trail) false ([] ∷ []) three_rows (refl, tt) the_rows back_twice refl
+no_trail_goes_back_twice = in_no_table g0 [] [] (p_under mode.Trail) false ([] ∷ []) three_rows (tt, tt) the_rows back_twice refl
 
 no_simple_path_goes_back_twice : (T : List (List Datum)) → IsTable [] (p_under mode.Simple) false ([] ∷ []) T → Among back_twice T → ⊥
-no_simple_path_goes_back_twice = in_no_table g0 [] [] (p_under mode.Simple) false ([] ∷ []) three_rows (refl, tt) the_simple_rows back_twice refl
+no_simple_path_goes_back_twice = in_no_table g0 [] [] (p_under mode.Simple) false ([] ∷ []) three_rows (tt, tt) the_simple_rows back_twice refl
 
 no_acyclic_path_goes_back : (T : List (List Datum)) → IsTable [] (p_under mode.Acyclic) false ([] ∷ []) T → Among (row_of_path ((1, 2) ∷ (2, 1) ∷ [])) T → ⊥
-no_acyclic_path_goes_back = in_no_table g0 [] [] (p_under mode.Acyclic) false ([] ∷ []) (row_of_path [] ∷ []) (refl, tt) the_acyclic_row (row_of_path ((1, 2) ∷ (2, 1) ∷ [])) refl
+no_acyclic_path_goes_back = in_no_table g0 [] [] (p_under mode.Acyclic) false ([] ∷ []) (row_of_path [] ∷ []) (tt, tt) the_acyclic_row (row_of_path ((1, 2) ∷ (2, 1) ∷ [])) refl
 
 -- MATCH p = (x WHERE x.n = 1)(TRAIL -[:T]->*)(y WHERE y.n = 1): the mode of a part
 abbrev p_within : NormalPattern
