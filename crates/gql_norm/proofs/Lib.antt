@@ -17,6 +17,10 @@ pub mod MoreBindingExamples
 pub mod RowExamples
 mod LegalExamples
 mod NearMissExamples
+mod NearMissTables
+mod StartExamples
+mod AllShortest
+mod AnyExamples
 mod SelectorExamples
 pub mod ModeLemmas
 mod NormalFormExamples
@@ -34,3 +38,4 @@ pub mod NameKinds
 pub mod GroupNames
 pub mod RowProperties
 pub mod CellKinds
+mod OneTable

@@ -1,12 +1,13 @@
 -- Examples of the rows and the refusals of MATCH on the example graph, computed from the bindings of its path patterns.
-use Rattle.std.proofs.Common.{◌≡◌, ℕ, true, false, Bool, List, [], ◌∷◌, codes, Option, Some, None, Result, Ok, Err, refl}
-use Rattle.gql_values3.specs.Datum.{Datum, null, list, node as a_node, edge as an_edge, path as a_path, data_of}
+use Rattle.std.proofs.Common.{◌≡◌, ℕ, pos, true, false, Bool, List, [], ◌∷◌, codes, Option, Some, None, Result, Ok, Err, refl}
+use Rattle.gql_values3.specs.Datum.{Datum, integer, null, list, node as a_node, edge as an_edge, path as a_path, data_of}
 use Rattle.gql_values3.specs.declared.comparison.Comparison.TheVariants as op
 use Rattle.gql_values3.specs.declared.table.ColumnKind.TheVariants as kind
-use Rattle.gql_ast.specs.Tree.{Tree, number, comparing, product, links_of, link}
+use Rattle.gql_ast.specs.Tree.{Tree, number, property, aggregate, comparing, product, links_of, link}
 use Rattle.gql_ast.specs.Evaluation.{value_of}
 use Rattle.gql_ast.specs.ClauseColumns.{ColumnList}
-use Rattle.gql_ast.specs.Pattern.{edge, paren, repeated, optional, sequence, multiset_alternation, patterns_of}
+use Rattle.gql_ast.specs.Scope.{row_scope}
+use Rattle.gql_ast.specs.Pattern.{edge, paren, repeated, optional, sequence, patterns_of}
 use Rattle.gql_ast.specs.Label.{name as label_name}
 use Rattle.gql_scope.specs.Misuses.{misused}
 use Rattle.gql_ast.specs.declared.fault.DataFault.{DataFault}
@@ -16,7 +17,9 @@ use Rattle.gql_ast.specs.declared.pattern.Direction.TheVariants as direction
 use Rattle.gql_ast.specs.declared.pattern.Quantifier.TheVariants as quantifier
 use Rattle.gql_ast.specs.declared.refusal.Refusal.{Refusal}
 use Rattle.gql_ast.specs.declared.refusal.Refusal.TheVariants as refusal
+use Rattle.gql_ast.specs.declared.words.Aggregate.TheVariants as aggregates
 use Rattle.gql_ast.specs.declared.words.Operator.TheVariants as operator
+use Rattle.gql_ast.specs.declared.words.SetQuantifier.TheVariants as quantifiers
 use Rattle.gql_norm.specs.NormalPattern.{Part, NormalPath, NormalPattern}
 use Rattle.gql_norm.specs.NormalForm.{part_of, under_mode}
 use Rattle.gql_norm.specs.Places.{size}
@@ -29,6 +32,7 @@ use Rattle.gql_norm.specs.PatternRefusal.{pattern_refusal}
 use Rattle.gql_norm.proofs.Listing.{expansions, layings, listed_rows}
 use Rattle.gql_norm.proofs.ExampleGraph.{g0, n_is, blank, bare, node_where, node_with_n, t_right}
 use Rattle.gql_norm.proofs.BindingExamples.{from_one_to_one, nested}
+use Rattle.gql_norm.proofs.MoreBindingExamples.{one_of_two, one_of_two_told}
 
 -- a path pattern without a name and a selector
 abbrev pub plain : Part → NormalPath
@@ -46,22 +50,44 @@ abbrev pub t_between : List ℕ → List ℕ → NormalPath
 t_between a b = plain (part_of (sequence (bare a) (patterns_of (t_right None ∷ bare b ∷ []))))
 
 -- MATCH (x)-[:T]->(y), (y)-[:T]->(x)
-pub shared_names_join : rows 0 [] (matched (t_between (codes "x") (codes "y") ∷ t_between (codes "y") (codes "x") ∷ []) None) false ([] ∷ [])
+abbrev pub both_ways : NormalPattern
+both_ways = matched (t_between (codes "x") (codes "y") ∷ t_between (codes "y") (codes "x") ∷ []) None
+
+pub shared_names_join : rows 0 [] both_ways false ([] ∷ [])
     ≡ Ok ((a_node 1 ∷ a_node 2 ∷ []) ∷ (a_node 2 ∷ a_node 1 ∷ []) ∷ [])
 unfolding size visible expansions layings value_of
 shared_names_join = refl
 
 -- MATCH TRAIL (x WHERE x.n=1)((()-[e:T]->()){1,2}){1,2}(y WHERE y.n=3): x, e and y
-abbrev under_trail : NormalPattern
+abbrev pub under_trail : NormalPattern
 under_trail = matched (plain (under_mode (Some mode.Trail) (part_of nested)) ∷ []) None
 
 its_columns : columns_after [] under_trail ≡ (codes "x", kind.Node) ∷ (codes "e", kind.Edges) ∷ (codes "y", kind.Node) ∷ []
 unfolding size visible
 its_columns = refl
 
-a_group_is_a_list : rows 0 [] under_trail false ([] ∷ []) ≡ Ok ((a_node 1 ∷ list (data_of (an_edge 1 ∷ an_edge 3 ∷ [])) ∷ a_node 3 ∷ []) ∷ [])
+pub a_group_is_a_list : rows 0 [] under_trail false ([] ∷ []) ≡ Ok ((a_node 1 ∷ list (data_of (an_edge 1 ∷ an_edge 3 ∷ [])) ∷ a_node 3 ∷ []) ∷ [])
 unfolding size visible expansions layings value_of
 a_group_is_a_list = refl
+
+-- MATCH TRAIL (x {n: 1})-[e:T]->{3}(y), and SUM(e.w) over its row
+abbrev pub three_edges_body : Part
+three_edges_body = under_mode (Some mode.Trail) (part_of (sequence (node_with_n (codes "x") (codes "1"))
+    (patterns_of (repeated (t_right (Some (codes "e"))) (quantifier.Exactly (codes "3")) ∷ bare (codes "y") ∷ []))))
+
+abbrev pub three_edges : NormalPattern
+three_edges = matched (plain three_edges_body ∷ []) None
+
+abbrev pub row_of_three : List Datum
+row_of_three = a_node 1 ∷ list (data_of (an_edge 1 ∷ an_edge 3 ∷ an_edge 4 ∷ [])) ∷ a_node 1 ∷ []
+
+pub three_edges_in_a_row : rows 0 [] three_edges false ([] ∷ []) ≡ Ok (row_of_three ∷ [])
+unfolding size visible expansions layings value_of
+three_edges_in_a_row = refl
+
+their_sum : value_of g0 [] (row_scope (columns_after [] three_edges) row_of_three) (aggregate aggregates.Sum quantifiers.All (property (codes "e") (codes "w"))) ≡ Ok (integer (pos 10))
+unfolding size visible value_of
+their_sum = refl
 
 -- MATCH p = (x {n: 3})-[:T]->(y): a path name
 a_path_name_is_the_path : rows 0 [] (matched (record { name = Some (codes "p"); selector = None; body = part_of (sequence (node_with_n (codes "x") (codes "3")) (patterns_of (t_right None ∷ bare (codes "y") ∷ []))) } ∷ []) None) false ([] ∷ [])
@@ -69,10 +95,18 @@ a_path_name_is_the_path : rows 0 [] (matched (record { name = Some (codes "p"); 
 unfolding size visible expansions layings value_of
 a_path_name_is_the_path = refl
 
--- MATCH (x WHERE x.n=1)(-[:T]-> |+| -[:T]->)(y): the row stands twice
-the_row_stands_twice : rows 0 [] (matched (plain (part_of (sequence (node_where (codes "x") (n_is (codes "x") (codes "1")))
-    (patterns_of (paren None (multiset_alternation (t_right None) (patterns_of (t_right None ∷ []))) None ∷ bare (codes "y") ∷ [])))) ∷ []) None) false ([] ∷ [])
-    ≡ Ok ((a_node 1 ∷ a_node 2 ∷ []) ∷ (a_node 1 ∷ a_node 2 ∷ []) ∷ [])
+-- MATCH (x WHERE x.n=1)(-[:T]-> | -[:T]->)(y): the row stands once, and with `|+|` twice
+abbrev pub untold : NormalPattern
+untold = matched (plain (part_of one_of_two) ∷ []) None
+
+abbrev pub told : NormalPattern
+told = matched (plain (part_of one_of_two_told) ∷ []) None
+
+pub the_row_stands_once : rows 0 [] untold false ([] ∷ []) ≡ Ok ((a_node 1 ∷ a_node 2 ∷ []) ∷ [])
+unfolding size visible expansions layings value_of
+the_row_stands_once = refl
+
+pub the_row_stands_twice : rows 0 [] told false ([] ∷ []) ≡ Ok ((a_node 1 ∷ a_node 2 ∷ []) ∷ (a_node 1 ∷ a_node 2 ∷ []) ∷ [])
 unfolding size visible expansions layings value_of
 the_row_stands_twice = refl
 
@@ -83,11 +117,14 @@ x_column = (codes "x", kind.Node) ∷ []
 abbrev pub z_between : NormalPath
 z_between = plain (part_of (sequence (bare (codes "x")) (patterns_of (edge direction.Right (record { variable = None; labels = Some (label_name (codes "Z")); condition = None }) ∷ bare (codes "y") ∷ []))))
 
-optional_keeps_the_row : rows 0 x_column (matched (z_between ∷ []) None) true ((a_node 1 ∷ []) ∷ []) ≡ Ok ((a_node 1 ∷ null ∷ []) ∷ [])
+pub optional_keeps_the_row : rows 0 x_column (matched (z_between ∷ []) None) true ((a_node 1 ∷ []) ∷ []) ≡ Ok ((a_node 1 ∷ null ∷ []) ∷ [])
 unfolding size visible expansions layings value_of
 optional_keeps_the_row = refl
 
-null_agrees_with_nothing : rows 0 ((codes "x", kind.Node) ∷ (codes "y", kind.Node) ∷ []) (matched (t_between (codes "y") (codes "z") ∷ []) None) false ((a_node 1 ∷ null ∷ []) ∷ []) ≡ Ok []
+abbrev pub x_and_y_columns : ColumnList
+x_and_y_columns = (codes "x", kind.Node) ∷ (codes "y", kind.Node) ∷ []
+
+pub null_agrees_with_nothing : rows 0 x_and_y_columns (matched (t_between (codes "y") (codes "z") ∷ []) None) false ((a_node 1 ∷ null ∷ []) ∷ []) ≡ Ok []
 unfolding size visible expansions layings value_of
 null_agrees_with_nothing = refl
 
