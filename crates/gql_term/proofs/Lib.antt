@@ -1,0 +1,10 @@
+mod NoLengthLemmas
+mod OpenEndLemmas
+mod CrossingLemmas
+mod OpenPlaceLemmas
+mod BarredLemmas
+mod DeclaringLemmas
+mod FirstBarredLemmas
+mod NameLemmas
+mod BeforeLemmas
+mod NoReferenceLemmas

@@ -1,0 +1,54 @@
+use Rattle.std.proofs.Common.{arith, ◌<◌, ◌+◌, ◌∙◌, length, ap, sym, find}
+use Rattle.std.specs.Option.{option_or}
+use Rattle.gql_ast.specs.Meaning.{tree_of, link_of}
+use Rattle.gql_ast.specs.Scope.{names_in, names_in_trees, names_in_links}
+use Rattle.gql_ast.proofs.HeightLemmas.{height_of_le-highest, link_height_of_le-highest_link}
+use Rattle.gql_scope.proofs.PartLemmas.{parts_from, sides_from, parts_step, sides_step, found_in_two}
+use Rattle.gql_term.specs.Machinery.BarredNames.{barred_by}
+use Rattle.gql_term.proofs.names.+names.Goals as goal
+
+pub first_in_parts-first_in_expr-requires : goal.first_in_parts-first_in_expr-requires
+first_in_parts-first_in_expr-requires t c =
+    let below : c.loop-i.i < length c.args.parts.now = omega arith in
+    (omega (arith, height_of_le-highest tree_of c.args.parts.now c.loop-i.i c.index-parts-i.result below c.index-parts-i.is), tt)
+
+pub first_in_steps-first_in_expr-requires : goal.first_in_steps-first_in_expr-requires
+first_in_steps-first_in_expr-requires t c =
+    let below : c.loop-i.i < length c.args.steps.now = omega arith in
+    (omega (arith, link_height_of_le-highest_link link_of c.args.steps.now c.loop-i.i c.index-steps-i.result below c.index-steps-i.is), tt)
+
+pub first_in_parts-returns-in-Some : goal.first_in_parts-returns-in-Some
+first_in_parts-returns-in-Some t c =
+    let below : c.loop-i.i < length c.args.parts.now = omega arith in
+    let test = barred_by c.args.before.now in
+    let rest = names_in_trees (parts_from c.args.parts.now (c.loop-i.i + 1)) in
+    ap (λ o. option_or o (find test rest)) c.in-Some.ensures
+    ∙ sym (ap (λ ts. find test (names_in_trees ts)) (parts_step c.args.parts.now c.loop-i.i c.index-parts-i.result below c.index-parts-i.is) ∙ found_in_two test (names_in (tree_of c.index-parts-i.result)) rest)
+    ∙ c.loop-i.invariant
+
+pub first_in_parts-loop-i-preserved : goal.first_in_parts-loop-i-preserved
+first_in_parts-loop-i-preserved t c =
+    let below : c.loop-i.i < length c.args.parts.now = omega arith in
+    let test = barred_by c.args.before.now in
+    let rest = names_in_trees (parts_from c.args.parts.now (c.loop-i.i + 1)) in
+    ap (λ o. option_or o (find test rest)) c.in_default.ensures
+    ∙ sym (ap (λ ts. find test (names_in_trees ts)) (parts_step c.args.parts.now c.loop-i.i c.index-parts-i.result below c.index-parts-i.is) ∙ found_in_two test (names_in (tree_of c.index-parts-i.result)) rest)
+    ∙ c.loop-i.invariant
+
+pub first_in_steps-returns-in-Some : goal.first_in_steps-returns-in-Some
+first_in_steps-returns-in-Some t c =
+    let below : c.loop-i.i < length c.args.steps.now = omega arith in
+    let test = barred_by c.args.before.now in
+    let rest = names_in_links (sides_from c.args.steps.now (c.loop-i.i + 1)) in
+    ap (λ o. option_or o (find test rest)) c.in-Some.ensures
+    ∙ sym (ap (λ ts. find test (names_in_links ts)) (sides_step c.args.steps.now c.loop-i.i c.index-steps-i.result below c.index-steps-i.is) ∙ found_in_two test (names_in (tree_of c.index-steps-i.result.operand)) rest)
+    ∙ c.loop-i.invariant
+
+pub first_in_steps-loop-i-preserved : goal.first_in_steps-loop-i-preserved
+first_in_steps-loop-i-preserved t c =
+    let below : c.loop-i.i < length c.args.steps.now = omega arith in
+    let test = barred_by c.args.before.now in
+    let rest = names_in_links (sides_from c.args.steps.now (c.loop-i.i + 1)) in
+    ap (λ o. option_or o (find test rest)) c.in_default.ensures
+    ∙ sym (ap (λ ts. find test (names_in_links ts)) (sides_step c.args.steps.now c.loop-i.i c.index-steps-i.result below c.index-steps-i.is) ∙ found_in_two test (names_in (tree_of c.index-steps-i.result.operand)) rest)
+    ∙ c.loop-i.invariant

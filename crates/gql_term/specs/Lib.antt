@@ -1,0 +1,2 @@
+pub mod FirstReference
+pub mod Machinery
