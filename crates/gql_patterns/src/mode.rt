@@ -1,0 +1,83 @@
+//! Path modes, and the words PATH and PATHS behind them.
+
+ghost use Rattle.std.specs.Prelude.{◌≡◌, ◌<◌, ◌≤◌, length, IfOk};
+ghost use Rattle.gql_front.specs.Tables.{entry};
+ghost use Rattle.gql_front.specs.Reading.{op_at};
+ghost use Rattle.gql_front.specs.Reads.{Takes};
+ghost use Rattle.gql_patterns.specs.PatternWords.{mode_words, mode_word};
+ghost use Rattle.gql_patterns.specs.Machinery.PrefixReaders.{past_path_word, mode_of, part_mode_of, mode_behind};
+
+use gql_ast::Mode;
+use gql_front::NoFront;
+use gql_lexer::Lexeme;
+use gql_lexer::words::{ACYCLIC, PATH, PATHS, SIMPLE, TRAIL, WALK};
+
+/// The mode that the reserved word of the place says, if it says one.
+fn mode_word(place: u32) -> Option<Mode>
+    ensures { result ≡ entry mode_words place }
+{
+    match place {
+        WALK => Some(Mode::Walk),
+        TRAIL => Some(Mode::Trail),
+        ACYCLIC => Some(Mode::Acyclic),
+        SIMPLE => Some(Mode::Simple),
+        _ => None,
+    }
+}
+
+/// The mode at the front.
+fn mode_word_at(rest: &[Lexeme]) -> Result<(Mode, &[Lexeme]), NoFront>
+    ensures { Takes result rest.now (op_at mode_word) }
+{
+    if let [Lexeme::Word { place, .. }, after @ ..] = rest {
+        if let Some(mode) = mode_word(*place) {
+            return Ok((mode, after));
+        }
+    }
+    Err(NoFront)
+}
+
+/// What is behind PATH or PATHS, or all where neither stands.
+pub fn past_path_word(rest: &[Lexeme]) -> &[Lexeme]
+    ensures given { result.now ≡ past_path_word rest.now }
+    ensures shorter { length result.now ≤ length rest.now }
+{
+    match rest {
+        [Lexeme::Word { place: PATH, .. }, rest @ ..] => rest,
+        [Lexeme::Word { place: PATHS, .. }, rest @ ..] => rest,
+        _ => rest,
+    }
+}
+
+/// A mode, and PATH or PATHS where one of them is there.
+#[tactic(auto, unfolding(crate::specs::Machinery::PrefixReaders::mode_of))]
+fn mode(rest: &[Lexeme]) -> Result<(Mode, &[Lexeme]), NoFront>
+    ensures { Takes result rest.now mode_of }
+{
+    let (mode, rest) = mode_word_at(rest)?;
+    Ok((mode, past_path_word(rest)))
+}
+
+/// The mode of a part in parentheses, or nothing.
+#[tactic(auto, unfolding(crate::specs::Machinery::PrefixReaders::part_mode_of))]
+pub fn part_mode(rest: &[Lexeme]) -> (Option<Mode>, &[Lexeme])
+    ensures given { (result.0, result.1.now) ≡ part_mode_of rest.now }
+    ensures shorter { length result.1.now ≤ length rest.now }
+{
+    match mode(rest) {
+        Ok((mode, behind)) => (Some(mode), behind),
+        Err(NoFront) => (None, rest),
+    }
+}
+
+/// The mode behind the words of a selector, or nothing, and PATH or PATHS where one of them is there.
+#[tactic(auto, unfolding(crate::specs::Machinery::PrefixReaders::mode_behind))]
+pub fn mode_behind(rest: &[Lexeme]) -> (Option<Mode>, &[Lexeme])
+    ensures given { (result.0, result.1.now) ≡ mode_behind rest.now }
+    ensures shorter { length result.1.now ≤ length rest.now }
+{
+    match mode_word_at(rest) {
+        Ok((mode, behind)) => (Some(mode), past_path_word(behind)),
+        Err(NoFront) => (None, past_path_word(rest)),
+    }
+}
