@@ -29,10 +29,6 @@ bars_these : (f : ℕ → Bool) (around : List ℕ) (ds es : List Declared) (x :
 bars_these f around ds es x a b h k = bars_both f around ds es x ∙ (λ i. h i || k i)
 
 -- none of the quantifiers around is outside
-around_more : (a b : Bool) → (a || b) ≡ false → b ≡ false
-around_more true b h = absurd (cc)
-around_more false b h = h
-
 none_outside : (f : ℕ → Bool) (around qs : List ℕ) → ((q : ℕ) → is_number_among qs q ≡ true → is_number_among around q ≡ true) → outside f around qs ≡ false
 none_outside f around [] h = refl
 none_outside f around (q ∷ qs) h =

@@ -20,13 +20,6 @@ pub or_none : (a b : Bool) → b ≡ false → (a || b) ≡ a
 or_none true b h = refl
 or_none false b h = h
 
-pub none_or : (a b : Bool) → a ≡ false → (a || b) ≡ b
-none_or a b h = ap (λ c. c || b) h
-
-and_assoc : (a b c : Bool) → (a && (b && c)) ≡ ((a && b) && c)
-and_assoc true b c = refl
-and_assoc false b c = refl
-
 or_again : (a b : Bool) → (a || b) ≡ (a || (a || b))
 or_again true b = refl
 or_again false b = refl
@@ -35,10 +28,6 @@ or_swap : (a b c : Bool) → c ≡ (b || c) → (a || c) ≡ (b || (a || c))
 or_swap true true c h = refl
 or_swap true false c h = refl
 or_swap false b c h = h
-
-pub and_none : (a b : Bool) → b ≡ false → (a && b) ≡ false
-and_none true b h = h
-and_none false b h = refl
 
 -- quantifiers that pass a test and are not among those around
 abbrev pub outside : (ℕ → Bool) → List ℕ → List ℕ → Bool

@@ -13,10 +13,6 @@ or_nothing : (o : Option (List ℕ)) → o ≡ option_or o None
 or_nothing None = refl
 or_nothing (Some y) = refl
 
-or_or : (o p q : Option (List ℕ)) → option_or o (option_or p q) ≡ option_or (option_or o p) q
-or_or None p q = refl
-or_or (Some y) p q = refl
-
 in_row : (p : Part) (ps : List Part) (safe : Bool) (barred : Barred) → first_barred (in_a_row p ps) safe barred ≡ first_barred_row (p ∷ ps) safe barred
 in_row p [] safe barred = or_nothing (first_barred p safe barred)
 in_row p (r ∷ rs) safe barred = ap (option_or (first_barred p safe barred)) (in_row r rs safe (barred_behind barred safe p))

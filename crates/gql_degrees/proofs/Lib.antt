@@ -1,0 +1,4 @@
+mod DigitLemmas
+mod BoundLemmas
+mod DeclaredLemmas
+mod KindLemmas
