@@ -11,8 +11,8 @@ use Rattle.gql_ast.specs.declared.path.GraphPattern.{GraphPattern}
 use Rattle.gql_ast.specs.declared.path.PathPattern.{PathPattern}
 use Rattle.gql_ast.specs.declared.pattern.PathExpr.{PathExpr}
 use Rattle.gql_ast.specs.declared.pattern.Quantifier.{Quantifier}
-use Rattle.gql_scope.specs.Machinery.First.{first}
-use Rattle.gql_scope.proofs.FirstLemmas.{first_in_two}
+use Rattle.gql_expr_checks.specs.First.{first}
+use Rattle.gql_expr_checks.proofs.FirstLemmas.{first_in_two}
 use Rattle.gql_norm.specs.NormalPattern.{Part, NormalPath, sides_of, in_a_row, side_by_side}
 use Rattle.gql_norm.specs.NormalForm.{quantified, part_of, parts_of, fewest_copies, most_copies, from_prefix, selector_of, mode_of, under_mode, normal_path}
 use Rattle.gql_norm.specs.Bounds.{bounds_in, bounds_in_sides, bounds_in_selector, faults_of_bounds, faults_of_number}

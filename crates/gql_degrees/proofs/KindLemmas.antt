@@ -9,7 +9,7 @@ use Rattle.gql_values3.specs.Texts.{same_text}
 use Rattle.gql_values3.specs.declared.table.ColumnKind.{ColumnKind}
 use Rattle.gql_values3.specs.declared.table.ColumnKind.TheVariants as kind
 use Rattle.gql_ast.specs.ClauseColumns.{ColumnList, is_column}
-use Rattle.gql_scope.specs.Machinery.First.{first}
+use Rattle.gql_expr_checks.specs.First.{first}
 use Rattle.gql_norm.specs.NormalPattern.{NormalPath, NormalPattern}
 use Rattle.gql_norm.specs.Declaration.{Declared, declarations}
 use Rattle.gql_norm.specs.Selection.{Each}

@@ -2,7 +2,7 @@
 use Rattle.std.specs.Prelude.{ℕ, ℤ, pos, min, List, Option, option_map}
 use Rattle.gql_ast.specs.ClauseColumns.{ColumnList}
 use Rattle.gql_ast.specs.declared.path.GraphPattern.{GraphPattern}
-use Rattle.gql_scope.specs.Machinery.First.{first}
+use Rattle.gql_expr_checks.specs.First.{first}
 use Rattle.gql_norm.specs.Bounds.{bounds_at_fault}
 use Rattle.gql_norm.specs.NormalForm.{normal_form}
 use Rattle.gql_norm.specs.NormalPattern.{NormalPattern}

@@ -4,7 +4,7 @@ ghost use Rattle.std.specs.Prelude.{◌≡◌, map, option_map};
 ghost use Rattle.std.specs.List.{flat_map};
 ghost use Rattle.gql_ast.specs.Pattern.{patterns_of};
 ghost use Rattle.gql_ast.specs.PatternMeaning.{pattern_of};
-ghost use Rattle.gql_scope.specs.Machinery.First.{first};
+ghost use Rattle.gql_expr_checks.specs.First.{first};
 ghost use Rattle.gql_norm.specs.Bounds.{bounds_in, bounds_in_selector, faults_of_bounds, faults_of_number};
 ghost use Rattle.gql_norm.specs.NormalForm.{fewest_copies, from_prefix, most_copies, part_of, selector_of};
 ghost use Rattle.gql_degrees.specs.FirstFaults.{first_bound_at_fault, told_number};

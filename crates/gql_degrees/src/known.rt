@@ -2,7 +2,7 @@
 
 ghost use Rattle.std.specs.Prelude.{◌≡◌, [], ◌∷◌, ◌++◌, IfOk, OnOk, OnErr};
 ghost use Rattle.gql_ast.specs.ClauseColumns.{is_column};
-ghost use Rattle.gql_scope.specs.Machinery.Knowing.{first_kind};
+ghost use Rattle.gql_expr_checks.specs.Machinery.Knowing.{first_kind};
 
 use gql_values3::{ColumnKind, Columns, OutOfMemory, Text};
 use indexmap::IndexMap;
@@ -21,7 +21,7 @@ impl Model for KnownNames {
     ghost use Rattle.std.specs.Prelude.{List, ℕ};
     ghost use Rattle.gql_values3.specs.declared.table.ColumnKind.{ColumnKind};
     ghost use Rattle.indexmap.specs.IndexMap.{get_by_text};
-    ghost use Rattle.gql_scope.specs.Machinery.Knowing.{Knows};
+    ghost use Rattle.gql_expr_checks.specs.Machinery.Knowing.{Knows};
 
     ghost Value = { List (List ℕ × ColumnKind) };
 

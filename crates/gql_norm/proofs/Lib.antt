@@ -3,6 +3,7 @@ pub mod NormalPartLemmas
 pub mod DegreeLemmas
 pub mod ColumnLemmas
 pub mod HeightLemmas
+pub mod Measures
 pub mod Listing
 pub mod MatchTableLemmas
 pub mod AmongLemmas
@@ -39,3 +40,4 @@ pub mod GroupNames
 pub mod RowProperties
 pub mod CellKinds
 mod OneTable
+pub mod StartLemmas

@@ -6,7 +6,7 @@ use Rattle.gql_values3.specs.Texts.{same_text}
 use Rattle.gql_values3.specs.declared.table.ColumnKind.{ColumnKind}
 use Rattle.gql_values3.specs.declared.table.ColumnKind.TheVariants as kind
 use Rattle.gql_ast.specs.ClauseColumns.{ColumnList, is_column}
-use Rattle.gql_scope.proofs.KnowingLemmas.{same_text-refl, same_text-sym}
+use Rattle.gql_expr_checks.proofs.KnowingLemmas.{same_text-refl, same_text-sym}
 use Rattle.gql_norm.specs.NormalPattern.{Part, Node, Edge, Concat, Union, Alt, Quant, Opt, Scope, Sides, NoSide, Side, NormalPath}
 use Rattle.gql_norm.specs.Places.{size}
 use Rattle.gql_norm.specs.Declaration.{Declared, declarations}

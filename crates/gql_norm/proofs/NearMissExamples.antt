@@ -7,7 +7,7 @@ use Rattle.gql_ast.specs.Evaluation.{value_of}
 use Rattle.gql_ast.specs.Pattern.{Pattern, paren, repeated, optional, sequence, patterns_of}
 use Rattle.gql_ast.specs.declared.pattern.Direction.TheVariants as direction
 use Rattle.gql_ast.specs.declared.pattern.Quantifier.TheVariants as quantifier
-use Rattle.gql_scope.specs.Misuses.{misused}
+use Rattle.gql_expr_checks.specs.ExprMisuses.{misused}
 use Rattle.gql_ast.specs.declared.mode.Mode.TheVariants as mode
 use Rattle.gql_norm.specs.NormalForm.{part_of, under_mode}
 use Rattle.gql_norm.specs.Places.{size}

@@ -9,7 +9,7 @@ use Rattle.gql_ast.specs.ClauseColumns.{ColumnList}
 use Rattle.gql_ast.specs.Scope.{row_scope}
 use Rattle.gql_ast.specs.Pattern.{edge, paren, repeated, optional, sequence, patterns_of}
 use Rattle.gql_ast.specs.Label.{name as label_name}
-use Rattle.gql_scope.specs.Misuses.{misused}
+use Rattle.gql_expr_checks.specs.ExprMisuses.{misused}
 use Rattle.gql_ast.specs.declared.fault.DataFault.{DataFault}
 use Rattle.gql_ast.specs.declared.fault.DataFault.TheVariants as fault
 use Rattle.gql_ast.specs.declared.mode.Mode.TheVariants as mode

@@ -28,5 +28,7 @@ pub mod Laws
 pub mod OtherDefects
 pub mod PatternRefusal
 pub mod RowMatch
+pub mod StartNodes
 pub mod MatchData
+pub mod DeclarationData
 pub mod Machinery

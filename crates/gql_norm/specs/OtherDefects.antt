@@ -5,9 +5,9 @@ use Rattle.std.specs.List.{list_any, flat_map}
 use Rattle.gql_values3.specs.Datum.{Datum}
 use Rattle.gql_values3.specs.declared.table.ColumnKind.{ColumnKind}
 use Rattle.gql_ast.specs.ClauseColumns.{ColumnList}
-use Rattle.gql_scope.specs.ColumnFaults.{repeated}
-use Rattle.gql_scope.specs.Misuses.{misused, elsewhere}
-use Rattle.gql_scope.specs.UnsetParameters.{parameters_in, unset}
+use Rattle.gql_expr_checks.specs.Repeated.{repeated}
+use Rattle.gql_expr_checks.specs.ExprMisuses.{misused, elsewhere}
+use Rattle.gql_expr_checks.specs.ExprParameters.{parameters_in, unset}
 use Rattle.gql_norm.specs.NormalPattern.{Part, NormalPath, NormalPattern}
 use Rattle.gql_norm.specs.Declaration.{Declared, may_name}
 use Rattle.gql_norm.specs.declared.degree.Degree.TheVariants.{Group}

@@ -2,9 +2,11 @@
 //!
 //! `specs/` leads from a graph pattern as it was written to its normal form, its expansions, their matches on a graph, reduced
 //! bindings, selection and the rows of MATCH, and says what is refused of a pattern before it runs. The laws tell that these
-//! definitions are sane. It stands on the trees of gql_ast, the scopes of gql_eval and the refusals of gql_scope.
+//! definitions are sane. It stands on the trees of gql_ast, the scopes of gql_eval and what gql_expr_checks says of one expression.
 #![tactic(auto)]
 
+mod copies;
+mod declaration;
 mod degree;
 mod element;
 mod element_forms;
@@ -17,9 +19,14 @@ mod normal_parts;
 mod numbers;
 mod part;
 mod path;
+mod places;
 mod reduced;
 mod selectors;
+mod sizes;
+mod starts;
 
+pub use copies::{copied_condition, copied_element};
+pub use declaration::{Declarations, Declared, visible};
 pub use element::{ElementPattern, Predicate, Predicates};
 pub use item::Item;
 pub use laws::{
@@ -32,4 +39,7 @@ pub use new_columns::columns_after;
 pub use normal_form::normal;
 pub use part::{Part, PartList, PartSub};
 pub use path::{NormalPath, NormalPaths, NormalPattern, Selector};
-pub use reduced::{NameList, Reduced};
+pub use places::plus;
+pub use reduced::{NameList, Reduced, ReducedList};
+pub use sizes::{next_entry, size};
+pub use starts::{RowOnGraph, StartLists, StartListsOfEach, StartNodes};

@@ -1,6 +1,6 @@
 -- Examples of static refusals of clauses that change data, computed: each was worked out by hand from the rules.
 use Rattle.std.proofs.Common.{◌≡◌, ℕ, false, List, [], ◌∷◌, codes, Option, Some, None, refl}
-use Rattle.gql_scope.specs.Misuses.{misused}
+use Rattle.gql_expr_checks.specs.ExprMisuses.{misused}
 use Rattle.gql_ast.specs.ExprText.{expr_text}
 use Rattle.gql_ast.specs.RowAggregates.{row_aggregates}
 use Rattle.gql_scope.specs.StaticRefusals.{static_refusal}

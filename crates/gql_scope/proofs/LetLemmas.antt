@@ -3,13 +3,15 @@ use Rattle.std.proofs.Common.{◌≡◌, List, [], ◌∷◌, ◌++◌}
 use Rattle.std.specs.Option.{option_or}
 use Rattle.gql_ast.specs.ClauseColumns.{ColumnList}
 use Rattle.gql_ast.specs.Meaning.{tree_of}
-use Rattle.gql_scope.specs.Misuses.{misused_let, misused_expr, elsewhere}
+use Rattle.gql_scope.specs.Misuses.{misused_let}
+use Rattle.gql_expr_checks.specs.ExprMisuses.{misused_expr, elsewhere}
 use Rattle.gql_ast.specs.Outputs.{kind_of}
-use Rattle.gql_scope.specs.StaticRefusals.{refusal_of_first, misuse_if}
-use Rattle.gql_scope.specs.UnknownNames.{taken, unknown_in_expr, unknown_in_let}
+use Rattle.gql_expr_checks.specs.Refusals.{refusal_of_first, misuse_if}
+use Rattle.gql_scope.specs.UnknownNames.{taken, unknown_in_let}
+use Rattle.gql_expr_checks.specs.ExprNames.{unknown_in_expr}
 use Rattle.gql_ast.specs.declared.clause.LetItem.{LetItem}
 use Rattle.gql_ast.specs.declared.refusal.Refusal.TheVariants as refusal
-use Rattle.gql_scope.proofs.RefusalLemmas.{first_of_in_two, misuse_in_two}
+use Rattle.gql_expr_checks.proofs.RefusalLemmas.{first_of_in_two, misuse_in_two}
 
 pub unknown_in_let-item : (columns : ColumnList) (i : LetItem) (is : List LetItem)
     → refusal_of_first refusal.Variable (unknown_in_let columns (i ∷ is))

@@ -7,18 +7,20 @@ use Rattle.gql_values3.specs.declared.table.ColumnKind.{ColumnKind}
 use Rattle.gql_scope.specs.ColumnFaults.{faults_in_map}
 use Rattle.gql_ast.specs.InsertColumns.{Spots}
 use Rattle.gql_scope.specs.Misuses.{misused_map}
-use Rattle.gql_scope.specs.StaticRefusals.{refusal_of_first, misuse_if}
-use Rattle.gql_scope.specs.UnsetParameters.{parameters_of_map, unset}
+use Rattle.gql_expr_checks.specs.Refusals.{refusal_of_first, misuse_if}
+use Rattle.gql_scope.specs.UnsetParameters.{parameters_of_map}
+use Rattle.gql_expr_checks.specs.ExprParameters.{unset}
 use Rattle.gql_ast.specs.declared.change.Fill.{Fill}
 use Rattle.gql_ast.specs.declared.filler.MapItem.{MapItem}
 use Rattle.gql_ast.specs.declared.refusal.Refusal.TheVariants as refusal
 use Rattle.gql_ast.specs.declared.refusal.Refusal.{Refusal}
-use Rattle.gql_scope.specs.Gives.{Gives, Fails}
+use Rattle.gql_expr_checks.specs.Gives.{Gives, Fails}
 use Rattle.gql_scope.specs.Machinery.Questions.{map_refusal, first_in_maps}
-use Rattle.gql_scope.specs.declared.fault.ScopeFault.{ScopeFault}
+use Rattle.gql_expr_checks.specs.declared.fault.ScopeFault.{ScopeFault}
 use Rattle.gql_scope.specs.declared.insert_maps.MapQuestion.{MapQuestion}
 use Rattle.gql_scope.specs.declared.insert_maps.MapQuestion.TheVariants as question
-use Rattle.gql_scope.proofs.RefusalLemmas.{first_of_in_two, misuse_in_two, unset_of_two, stops, goes_on, drop_step}
+use Rattle.gql_expr_checks.proofs.RefusalLemmas.{first_of_in_two, misuse_in_two, unset_of_two, stops, goes_on}
+use Rattle.gql_expr_checks.proofs.DropLemmas.{drop_step}
 
 or_assoc : (o p q : Option Refusal) → option_or o (option_or p q) ≡ option_or (option_or o p) q
 or_assoc None p q = refl

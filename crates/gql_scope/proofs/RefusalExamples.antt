@@ -9,7 +9,7 @@ use Rattle.ucd_derived.specs.XidContinueRanges.{xid_continue_ranges}
 use Rattle.gql_values3.specs.Names.{reserved_words}
 use Rattle.gql_values3.specs.Datum.{integer}
 use Rattle.gql_values3.specs.declared.table.ColumnKind.TheVariants as kind
-use Rattle.gql_scope.specs.Misuses.{misused, elsewhere, item}
+use Rattle.gql_expr_checks.specs.ExprMisuses.{misused, elsewhere, item}
 use Rattle.gql_ast.specs.ExprText.{expr_text}
 use Rattle.gql_ast.specs.RowAggregates.{row_aggregates}
 use Rattle.gql_scope.specs.StaticRefusals.{static_refusal}

@@ -10,7 +10,7 @@ use Rattle.gql_values3.specs.declared.table.ColumnKind.TheVariants as kind
 use Rattle.gql_ast.specs.ClauseColumns.{ColumnList, is_column}
 use Rattle.gql_ast.specs.InsertColumns.{Spots, with_variable, spot_columns}
 use Rattle.gql_ast.specs.Outputs.{kind_of_name}
-use Rattle.gql_scope.specs.StaticRefusals.{refusal_of_first}
+use Rattle.gql_expr_checks.specs.Refusals.{refusal_of_first}
 use Rattle.gql_scope.specs.UnknownNames.{misplaced, unknown_in_map, unknown_in_spots}
 use Rattle.gql_ast.specs.Endpoints.{wrong_endpoint, wrong_in_spots}
 use Rattle.gql_ast.specs.declared.refusal.Refusal.TheVariants as refusal
@@ -18,10 +18,11 @@ use Rattle.gql_ast.specs.declared.refusal.Refusal.{Refusal}
 use Rattle.gql_scope.specs.Machinery.Questions.{spot_refusal, first_in_spots}
 use Rattle.gql_scope.specs.declared.insert_spots.SpotQuestion.{SpotQuestion}
 use Rattle.gql_scope.specs.declared.insert_spots.SpotQuestion.TheVariants as question
-use Rattle.gql_scope.specs.declared.fault.ScopeFault.{ScopeFault}
-use Rattle.gql_scope.specs.Gives.{Fails}
-use Rattle.gql_scope.proofs.KnowingLemmas.{is_some-first_kind}
-use Rattle.gql_scope.proofs.RefusalLemmas.{first_of_in_two, stops, goes_on, drop_step}
+use Rattle.gql_expr_checks.specs.declared.fault.ScopeFault.{ScopeFault}
+use Rattle.gql_expr_checks.specs.Gives.{Fails}
+use Rattle.gql_expr_checks.proofs.KnowingLemmas.{is_some-first_kind}
+use Rattle.gql_expr_checks.proofs.RefusalLemmas.{first_of_in_two, stops, goes_on}
+use Rattle.gql_expr_checks.proofs.DropLemmas.{drop_step}
 
 -- a name is a column of two lists where it is one of either
 pub column_of_two : (xs ys : ColumnList) (x : List ℕ) → is_column (xs ++ ys) x ≡ (is_column xs x || is_column ys x)

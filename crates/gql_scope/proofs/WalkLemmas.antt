@@ -8,9 +8,10 @@ use Rattle.gql_ast.specs.ClauseColumns.{ColumnList}
 use Rattle.gql_ast.specs.Projections.{columns_behind}
 use Rattle.gql_ast.specs.declared.clause.Clause.{Clause}
 use Rattle.gql_ast.specs.declared.refusal.Refusal.{Refusal}
-use Rattle.gql_scope.specs.Gives.{Fails}
-use Rattle.gql_scope.specs.declared.fault.ScopeFault.{ScopeFault}
-use Rattle.gql_scope.proofs.RefusalLemmas.{stops, goes_on, drop_step}
+use Rattle.gql_expr_checks.specs.Gives.{Fails}
+use Rattle.gql_expr_checks.specs.declared.fault.ScopeFault.{ScopeFault}
+use Rattle.gql_expr_checks.proofs.RefusalLemmas.{stops, goes_on}
+use Rattle.gql_expr_checks.proofs.DropLemmas.{drop_step}
 
 -- what is first refused of a clause, and of several
 module _ (in_clause : ColumnList → Clause → Option Refusal) (in_clauses : ColumnList → List Clause → Option Refusal) where

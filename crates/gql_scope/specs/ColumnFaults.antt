@@ -1,18 +1,15 @@
 -- E16 COLUMN: two output columns have one name; a map names a property twice; an item with an aggregate over rows names a
 -- column outside it; GROUP BY names something else than a key, or one twice, or omits one; `RETURN *` has no column. Here
 -- stands what is at fault, in the order of the text.
-use Rattle.std.specs.Prelude.{ℕ, Bool, not, ◌&&◌, List, [], ◌∷◌, ◌++◌, map, filter, Option, Some, None, if◌then◌else◌}
-use Rattle.std.specs.List.{list_any, flat_map}
-use Rattle.gql_values3.specs.Texts.{same_text}
+use Rattle.std.specs.Prelude.{ℕ, not, ◌&&◌, List, [], ◌∷◌, ◌++◌, map, filter, Option, Some, None, if◌then◌else◌}
+use Rattle.std.specs.List.{flat_map}
 use Rattle.gql_values3.specs.declared.table.ColumnKind.{ColumnKind}
-use Rattle.gql_ast.specs.Tree.{Tree, Trees, Links, constant, unknown, number, parameter, name, property, paren, listing, count_all, aggregate, call, modulo, coalesce, signed, product, sum, comparing, test, label_test, end_test, negation, conjunction, disjunction, link, no_trees, more_trees, no_links, more_links}
+use Rattle.gql_ast.specs.Tree.{Tree}
 use Rattle.gql_ast.specs.Meaning.{tree_of}
-use Rattle.gql_ast.specs.Scope.{names_in}
 use Rattle.gql_ast.specs.Outputs.{item_name}
 use Rattle.gql_ast.specs.ClauseColumns.{ColumnList, node_of_pattern}
 use Rattle.gql_ast.specs.InsertColumns.{insert_spots}
 use Rattle.gql_ast.specs.Projections.{is_key, columns_behind}
-use Rattle.gql_ast.specs.RowAggregates.{is_over_group}
 use Rattle.gql_ast.specs.declared.change.ChangeClause.{ChangeClause}
 use Rattle.gql_ast.specs.declared.change.ChangeClause.TheVariants as change
 use Rattle.gql_ast.specs.declared.change.Fill.{Fill}
@@ -28,14 +25,8 @@ use Rattle.gql_ast.specs.declared.projection.ReturnItems.{ReturnItems}
 use Rattle.gql_ast.specs.declared.projection.ReturnItems.TheVariants as items
 use Rattle.gql_ast.specs.declared.refusal.ColumnRef.{ColumnRef}
 use Rattle.gql_ast.specs.declared.refusal.ColumnRef.TheVariants as column
-
-abbrev pub is_among : List (List ℕ) → List ℕ → Bool
-is_among names x = list_any (same_text x) names
-
--- the names that stand a second time, behind names seen before
-abbrev pub repeated : List (List ℕ) → List (List ℕ) → List (List ℕ)
-repeated seen [] = []
-repeated seen (x ∷ xs) = if is_among seen x then x ∷ repeated (x ∷ seen) xs else repeated (x ∷ seen) xs
+use Rattle.gql_expr_checks.specs.NamesOutside.{names_outside}
+use Rattle.gql_expr_checks.specs.Repeated.{is_among, repeated}
 
 abbrev pub faults_in_condition : Option Condition → List ColumnRef
 faults_in_condition (Some (condition.Map is)) = map column.Property (repeated [] (map (λ (i : MapItem). i.name) is))
@@ -46,44 +37,9 @@ faults_in_node None = []
 faults_in_node (Some f) = faults_in_condition f.condition
 
 module _ (columns : ColumnList) where
-  abbrev mutual
-    -- the names of an expression outside its aggregates over rows
-    pub names_outside : Tree → List (List ℕ)
-    names_outside (constant d) = []
-    names_outside unknown = []
-    names_outside (number n) = []
-    names_outside (parameter p) = []
-    names_outside (name x) = x ∷ []
-    names_outside (property x k) = x ∷ []
-    names_outside (paren e) = names_outside e
-    names_outside (listing es) = names_outside_each es
-    names_outside count_all = []
-    names_outside (aggregate a q e) = if is_over_group columns e then names_in e else []
-    names_outside (call f e) = names_outside e
-    names_outside (modulo a b) = names_outside a ++ names_outside b
-    names_outside (coalesce e es) = names_outside e ++ names_outside_each es
-    names_outside (signed s e) = names_outside e
-    names_outside (product e ls) = names_outside e ++ names_outside_sides ls
-    names_outside (sum e ls) = names_outside e ++ names_outside_sides ls
-    names_outside (comparing op a b) = names_outside a ++ names_outside b
-    names_outside (test e s q) = names_outside e
-    names_outside (label_test e s l) = names_outside e
-    names_outside (end_test e s which x) = names_outside e ++ x ∷ []
-    names_outside (negation e) = names_outside e
-    names_outside (conjunction e ls) = names_outside e ++ names_outside_sides ls
-    names_outside (disjunction e ls) = names_outside e ++ names_outside_sides ls
-
-    pub names_outside_each : Trees → List (List ℕ)
-    names_outside_each no_trees = []
-    names_outside_each (more_trees e es) = names_outside e ++ names_outside_each es
-
-    pub names_outside_sides : Links → List (List ℕ)
-    names_outside_sides no_links = []
-    names_outside_sides (more_links (link op e) ls) = names_outside e ++ names_outside_sides ls
-
   -- an item with an aggregate over rows may name no column outside it
   abbrev pub columns_outside : Tree → List ColumnRef
-  columns_outside e = if is_key columns e then [] else map column.Name (names_outside e)
+  columns_outside e = if is_key columns e then [] else map column.Name (names_outside columns e)
 
   abbrev pub repeated_name : List (List ℕ) → List ℕ → List ColumnRef
   repeated_name seen x = if is_among seen x then column.Name x ∷ [] else []

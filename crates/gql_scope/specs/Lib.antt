@@ -1,8 +1,9 @@
 pub mod StaticRefusals
+pub mod StatementBounds
+pub mod WholePatterns
 pub mod UnknownNames
 pub mod WrongKinds
 pub mod Misuses
 pub mod ColumnFaults
 pub mod UnsetParameters
-pub mod Gives
 pub mod Machinery

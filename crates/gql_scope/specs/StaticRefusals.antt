@@ -1,16 +1,19 @@
 -- Static refusals: the first in the order of their codes, and within one code the first in the order of the text. Only
 -- E08, E09, E15, E16 and E23 stand here, as they come in statements over one node pattern and in changes of data.
-use Rattle.std.specs.Prelude.{ℕ, Bool, true, false, List, [], ◌∷◌, Option, Some, None}
+use Rattle.std.specs.Prelude.{ℕ, Bool, List, [], Option, None}
 use Rattle.std.specs.List.{flat_map}
 use Rattle.std.specs.Option.{option_or}
 use Rattle.gql_values3.specs.Datum.{Datum}
 use Rattle.gql_ast.specs.Meaning.{tree_of}
 use Rattle.gql_ast.specs.Tree.{Tree}
-use Rattle.gql_scope.specs.UnknownNames.{unknown_in, unknown_in_clauses}
+use Rattle.gql_expr_checks.specs.ExprNames.{unknown_in}
+use Rattle.gql_scope.specs.UnknownNames.{unknown_in_clauses}
 use Rattle.gql_scope.specs.WrongKinds.{wrong_in_clauses}
-use Rattle.gql_scope.specs.Misuses.{misused, misused_clauses, elsewhere}
+use Rattle.gql_expr_checks.specs.ExprMisuses.{misused, elsewhere}
+use Rattle.gql_scope.specs.Misuses.{misused_clauses}
 use Rattle.gql_scope.specs.ColumnFaults.{faults_in_clauses}
-use Rattle.gql_scope.specs.UnsetParameters.{parameters_in, parameters_of_clause, unset}
+use Rattle.gql_expr_checks.specs.ExprParameters.{parameters_in, unset}
+use Rattle.gql_scope.specs.UnsetParameters.{parameters_of_clause}
 use Rattle.gql_ast.specs.declared.clause.Clause.{Clause}
 use Rattle.gql_ast.specs.declared.refusal.ColumnRef.{ColumnRef}
 use Rattle.gql_ast.specs.declared.refusal.Refusal.{Refusal}
@@ -19,15 +22,7 @@ use Rattle.gql_ast.specs.declared.statement.SessionStatement.{SessionStatement}
 use Rattle.gql_ast.specs.declared.statement.SessionStatement.TheVariants as session
 use Rattle.gql_ast.specs.declared.statement.Statement.{Statement}
 use Rattle.gql_ast.specs.declared.statement.Statement.TheVariants as statement
-
--- the refusal of the first of what is at fault
-abbrev pub refusal_of_first : {A : Type 0} → (A → Refusal) → List A → Option Refusal
-refusal_of_first refuse [] = None
-refusal_of_first refuse (x ∷ xs) = Some (refuse x)
-
-abbrev pub misuse_if : Bool → Option Refusal
-misuse_if true = Some refusal.Misuse
-misuse_if false = None
+use Rattle.gql_expr_checks.specs.Refusals.{refusal_of_first, misuse_if}
 
 -- the first in the order of the codes
 abbrev pub first_by_code : List (List ℕ) → List (List ℕ) → Bool → List ColumnRef → List (List ℕ) → Option Refusal

@@ -1,13 +1,11 @@
 -- E08 VARIABLE: an expression, SET, REMOVE or DELETE names a variable that isn't in scope; LET or FOR declares a name that
 -- is taken; an INSERT variable that stands already has labels or a map, or is an edge's. Here stand the names at fault in
 -- the order of the text.
-use Rattle.std.specs.Prelude.{ℕ, Bool, true, false, not, ◌&&◌, List, [], ◌∷◌, ◌++◌, filter, Option, Some, None, if◌then◌else◌}
+use Rattle.std.specs.Prelude.{ℕ, Bool, true, false, not, ◌&&◌, List, [], ◌∷◌, ◌++◌, Option, Some, None, if◌then◌else◌}
 use Rattle.std.specs.List.{flat_map}
 use Rattle.gql_values3.specs.declared.table.ColumnKind.{ColumnKind}
 use Rattle.gql_values3.specs.declared.table.ColumnKind.TheVariants as kind
-use Rattle.gql_ast.specs.Tree.{Tree}
 use Rattle.gql_ast.specs.Meaning.{tree_of}
-use Rattle.gql_ast.specs.Scope.{names_in}
 use Rattle.gql_ast.specs.Outputs.{kind_of}
 use Rattle.gql_ast.specs.ClauseColumns.{ColumnList, is_column, node_of_pattern, match_columns, with_filler}
 use Rattle.gql_ast.specs.InsertColumns.{Spots, insert_spots, with_variable}
@@ -37,13 +35,7 @@ use Rattle.gql_ast.specs.declared.projection.Return.{Return}
 use Rattle.gql_ast.specs.declared.projection.ReturnItem.{ReturnItem}
 use Rattle.gql_ast.specs.declared.projection.ReturnItems.{ReturnItems}
 use Rattle.gql_ast.specs.declared.projection.ReturnItems.TheVariants as items
-
--- the names of an expression that are no columns
-abbrev pub unknown_in : ColumnList → Tree → List (List ℕ)
-unknown_in columns e = filter (λ x. not (is_column columns x)) (names_in e)
-
-abbrev pub unknown_in_expr : ColumnList → Expr → List (List ℕ)
-unknown_in_expr columns e = unknown_in columns (tree_of e)
+use Rattle.gql_expr_checks.specs.ExprNames.{unknown_in_expr}
 
 abbrev pub unknown_if : ColumnList → Option Expr → List (List ℕ)
 unknown_if columns None = []

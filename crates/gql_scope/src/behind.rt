@@ -6,10 +6,10 @@ ghost use Rattle.gql_ast.specs.Outputs.{kind_of, element_kind};
 ghost use Rattle.gql_ast.specs.ClauseColumns.{let_columns, counter_column, for_columns, with_node, match_columns};
 ghost use Rattle.gql_ast.specs.Projections.{columns_behind, output_columns};
 
-use crate::columns::KnownColumns;
 use crate::insert_columns::push_change;
 use crate::outputs::output_scope;
 use gql_ast::{Clause, Counting, Expr, For, GraphPattern, LetItem, ReturnItems, node_of_pattern};
+use gql_expr_checks::KnownColumns;
 use gql_values3::{ColumnKind, OutOfMemory, Text};
 use std::alloc::Global;
 
@@ -34,18 +34,6 @@ pub fn element_kind(kind: ColumnKind) -> ColumnKind
     }
 }
 
-/// Adds a column, with a copy of its name.
-pub fn push_copy(
-    alloc: Global,
-    scope: &mut KnownColumns,
-    name: &Text,
-    kind: ColumnKind,
-) -> Result<(), OutOfMemory>
-    ensures { OnOk result (scope.new ≡ scope.old ++ (name.now, kind) ∷ []) }
-{
-    scope.push(name.try_copy(alloc)?, kind)
-}
-
 /// Adds the column of an item of LET.
 pub fn push_let_item(
     alloc: Global,
@@ -55,7 +43,7 @@ pub fn push_let_item(
     ensures { OnOk result (scope.new ≡ scope.old ++ (item.now.name, kind_of scope.old (tree_of item.now.value)) ∷ []) }
 {
     let kind = kind_of(scope, &item.value);
-    push_copy(alloc, scope, &item.name, kind)
+    scope.push_copy(alloc, &item.name, kind)
 }
 
 /// Adds the columns of LET.
@@ -81,7 +69,7 @@ pub fn push_for_item(
     ensures { OnOk result (scope.new ≡ scope.old ++ (clause.now.name, element_kind (kind_of scope.old (tree_of clause.now.list))) ∷ []) }
 {
     let kind = element_kind(kind_of(scope, &clause.list));
-    push_copy(alloc, scope, &clause.name, kind)
+    scope.push_copy(alloc, &clause.name, kind)
 }
 
 /// Adds the column of FOR's counter, where there is one.
@@ -94,7 +82,7 @@ pub fn push_counter(
 {
     match counter {
         None => Ok(()),
-        Some((_, name)) => push_copy(alloc, scope, name, ColumnKind::Plain),
+        Some((_, name)) => scope.push_copy(alloc, name, ColumnKind::Plain),
     }
 }
 
@@ -115,7 +103,7 @@ pub fn push_node(
     ensures { OnOk result (scope.new ≡ with_node scope.old variable.now) }
 {
     match variable {
-        Some(name) if !scope.contains(name) => push_copy(alloc, scope, name, ColumnKind::Node),
+        Some(name) if !scope.contains(name) => scope.push_copy(alloc, name, ColumnKind::Node),
         _ => Ok(()),
     }
 }

@@ -4,17 +4,16 @@ ghost use Rattle.std.specs.Prelude.{◌≡◌, [], ◌++◌};
 ghost use Rattle.std.specs.Bool.{OnTrue};
 ghost use Rattle.std.specs.List.{flat_map};
 ghost use Rattle.gql_ast.specs.InsertColumns.{insert_spots};
-ghost use Rattle.gql_scope.specs.StaticRefusals.{refusal_of_first};
+ghost use Rattle.gql_expr_checks.specs.Refusals.{refusal_of_first};
 ghost use Rattle.gql_ast.specs.Endpoints.{is_node, wrong_endpoint, wrong_in_spots};
 ghost use Rattle.gql_scope.specs.WrongKinds.{is_element, wrong_target, set_target, remove_target, wrong_in_change};
-ghost use Rattle.gql_scope.specs.Gives.{Gives};
+ghost use Rattle.gql_expr_checks.specs.Gives.{Gives};
 ghost use Rattle.gql_scope.specs.Machinery.NodesAlone.{are_unnamed, hold_nodes, name_no_edge};
 
-use crate::columns::KnownColumns;
-use crate::fault::ScopeFault;
 use crate::insert_spots::{SpotQuestion, check_spots};
 use crate::standing::{standing_kind, stands};
 use gql_ast::{ChangeClause, InsertPath, InsertStep, Refusal, RemoveItem, SetItem};
+use gql_expr_checks::{KnownColumns, ScopeFault};
 use gql_values3::{ColumnKind, Text};
 use std::alloc::Global;
 
@@ -133,7 +132,7 @@ fn check_set_item(alloc: Global, scope: &KnownColumns, item: &SetItem) -> Result
 }
 
 /// Checks the targets of SET.
-#[tactic(auto, using(crate::proofs::RefusalLemmas::first_of_in_two))]
+#[tactic(auto, using(gql_expr_checks::proofs::RefusalLemmas::first_of_in_two))]
 fn check_set(alloc: Global, scope: &KnownColumns, items: &[SetItem]) -> Result<(), ScopeFault>
     ensures { Gives result (refusal_of_first Refusal.Kind (flat_map (λ i. wrong_target scope.now (set_target i)) items.now)) }
 {
@@ -159,7 +158,7 @@ fn check_remove_item(
 }
 
 /// Checks the targets of REMOVE.
-#[tactic(auto, using(crate::proofs::RefusalLemmas::first_of_in_two))]
+#[tactic(auto, using(gql_expr_checks::proofs::RefusalLemmas::first_of_in_two))]
 fn check_remove(alloc: Global, scope: &KnownColumns, items: &[RemoveItem]) -> Result<(), ScopeFault>
     ensures { Gives result (refusal_of_first Refusal.Kind (flat_map (λ i. wrong_target scope.now (remove_target i)) items.now)) }
 {
@@ -170,7 +169,7 @@ fn check_remove(alloc: Global, scope: &KnownColumns, items: &[RemoveItem]) -> Re
 }
 
 /// Checks the targets of DELETE.
-#[tactic(auto, using(crate::proofs::RefusalLemmas::first_of_in_two))]
+#[tactic(auto, using(gql_expr_checks::proofs::RefusalLemmas::first_of_in_two))]
 fn check_delete(alloc: Global, scope: &KnownColumns, names: &[Text]) -> Result<(), ScopeFault>
     ensures { Gives result (refusal_of_first Refusal.Kind (flat_map (wrong_target scope.now) names.now)) }
 {

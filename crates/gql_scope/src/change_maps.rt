@@ -4,13 +4,13 @@ ghost use Rattle.std.specs.Prelude.{◌≡◌};
 ghost use Rattle.std.specs.List.{flat_map};
 ghost use Rattle.gql_scope.specs.ColumnFaults.{faults_in_map, faults_in_change};
 ghost use Rattle.gql_ast.specs.InsertColumns.{insert_spots};
-ghost use Rattle.gql_scope.specs.StaticRefusals.{refusal_of_first};
+ghost use Rattle.gql_expr_checks.specs.Refusals.{refusal_of_first};
 ghost use Rattle.gql_ast.specs.declared.refusal.Refusal.TheVariants as refusal;
-ghost use Rattle.gql_scope.specs.Gives.{Gives};
+ghost use Rattle.gql_expr_checks.specs.Gives.{Gives};
 
-use crate::fault::ScopeFault;
 use crate::insert_maps::{MapQuestion, check_maps};
 use gql_ast::{ChangeClause, InsertPath};
+use gql_expr_checks::ScopeFault;
 use std::alloc::Global;
 
 /// Checks the maps of INSERT.

@@ -4,14 +4,12 @@ ghost use Rattle.std.specs.Prelude.{◌≡◌, ◌||◌};
 ghost use Rattle.std.specs.List.{list_any};
 ghost use Rattle.gql_ast.specs.InsertColumns.{insert_spots};
 ghost use Rattle.gql_scope.specs.Misuses.{misused_map, misused_set, misused_change};
-ghost use Rattle.gql_scope.specs.StaticRefusals.{misuse_if};
-ghost use Rattle.gql_scope.specs.Gives.{Gives};
+ghost use Rattle.gql_expr_checks.specs.Refusals.{misuse_if};
+ghost use Rattle.gql_expr_checks.specs.Gives.{Gives};
 
-use crate::columns::KnownColumns;
-use crate::fault::ScopeFault;
 use crate::insert_maps::{MapQuestion, check_maps};
-use crate::misused_clauses::check_expr;
 use gql_ast::{ChangeClause, InsertPath, SetItem};
+use gql_expr_checks::{KnownColumns, ScopeFault, check_misuse};
 use std::alloc::Global;
 
 /// Checks the maps of INSERT.
@@ -26,13 +24,13 @@ fn check_set_item(scope: &KnownColumns, item: &SetItem) -> Result<(), ScopeFault
     ensures { Gives result (misuse_if (misused_set scope.now item.now)) }
 {
     match item {
-        SetItem::Property(_, _, value) => check_expr(scope, value),
+        SetItem::Property(_, _, value) => check_misuse(scope, value),
         SetItem::Label(_, _) => Ok(()),
     }
 }
 
 /// Checks the values of SET.
-#[tactic(auto, using(crate::proofs::RefusalLemmas::misuse_in_two))]
+#[tactic(auto, using(gql_expr_checks::proofs::RefusalLemmas::misuse_in_two))]
 fn check_set(scope: &KnownColumns, items: &[SetItem]) -> Result<(), ScopeFault>
     ensures { Gives result (misuse_if (list_any (misused_set scope.now) items.now)) }
 {

@@ -4,16 +4,16 @@ ghost use Rattle.std.specs.Prelude.{◌≡◌, ◌++◌, ◌&&◌, not};
 ghost use Rattle.std.specs.List.{flat_map};
 ghost use Rattle.gql_ast.specs.ClauseColumns.{is_column};
 ghost use Rattle.gql_ast.specs.InsertColumns.{insert_spots};
-ghost use Rattle.gql_scope.specs.StaticRefusals.{refusal_of_first};
-ghost use Rattle.gql_scope.specs.UnknownNames.{may_refer, misplaced, unknown_in_map, unknown_in_spots, missing, unknown_in_expr, unknown_in_set, unknown_in_remove, unknown_in_change};
-ghost use Rattle.gql_scope.specs.Gives.{Gives};
+ghost use Rattle.gql_expr_checks.specs.Refusals.{refusal_of_first};
+ghost use Rattle.gql_scope.specs.UnknownNames.{may_refer, misplaced, unknown_in_map, unknown_in_spots, missing, unknown_in_set, unknown_in_remove, unknown_in_change};
+ghost use Rattle.gql_expr_checks.specs.ExprNames.{unknown_in_expr};
+ghost use Rattle.gql_expr_checks.specs.Gives.{Gives};
 
-use crate::columns::KnownColumns;
-use crate::fault::ScopeFault;
 use crate::insert_spots::{SpotQuestion, check_spots};
 use crate::standing::stands;
-use crate::unknown_names::{check_map, check_names};
+use crate::unknown_names::check_map;
 use gql_ast::{ChangeClause, Expr, Fill, InsertPath, Map, Refusal, RemoveItem, SetItem};
+use gql_expr_checks::{KnownColumns, ScopeFault, check_names};
 use gql_values3::{ColumnKind, Text};
 use std::alloc::Global;
 
@@ -73,7 +73,7 @@ fn check_values(alloc: Global, scope: &KnownColumns, map: &Option<Map>) -> Resul
 }
 
 /// Checks the variable of a node or an edge of an INSERT, and the names of its map, which sees the incoming columns alone.
-#[tactic(auto, using(crate::proofs::RefusalLemmas::first_of_in_two))]
+#[tactic(auto, using(gql_expr_checks::proofs::RefusalLemmas::first_of_in_two))]
 pub fn check_fill(
     alloc: Global,
     incoming: &KnownColumns,
@@ -106,7 +106,7 @@ fn check_target(alloc: Global, scope: &KnownColumns, name: &Text) -> Result<(), 
 }
 
 /// Checks that a target is a column, and then the names of the value that it gets.
-#[tactic(auto, using(crate::proofs::RefusalLemmas::first_of_in_two))]
+#[tactic(auto, using(gql_expr_checks::proofs::RefusalLemmas::first_of_in_two))]
 fn check_assignment(
     alloc: Global,
     scope: &KnownColumns,
@@ -130,7 +130,7 @@ fn check_set_item(alloc: Global, scope: &KnownColumns, item: &SetItem) -> Result
 }
 
 /// Checks the names of SET.
-#[tactic(auto, using(crate::proofs::RefusalLemmas::first_of_in_two))]
+#[tactic(auto, using(gql_expr_checks::proofs::RefusalLemmas::first_of_in_two))]
 fn check_set(alloc: Global, scope: &KnownColumns, items: &[SetItem]) -> Result<(), ScopeFault>
     ensures { Gives result (refusal_of_first Refusal.Variable (flat_map (unknown_in_set scope.now) items.now)) }
 {
@@ -156,7 +156,7 @@ fn check_remove_item(
 }
 
 /// Checks the names of REMOVE.
-#[tactic(auto, using(crate::proofs::RefusalLemmas::first_of_in_two))]
+#[tactic(auto, using(gql_expr_checks::proofs::RefusalLemmas::first_of_in_two))]
 fn check_remove(alloc: Global, scope: &KnownColumns, items: &[RemoveItem]) -> Result<(), ScopeFault>
     ensures { Gives result (refusal_of_first Refusal.Variable (flat_map (unknown_in_remove scope.now) items.now)) }
 {
@@ -167,7 +167,7 @@ fn check_remove(alloc: Global, scope: &KnownColumns, items: &[RemoveItem]) -> Re
 }
 
 /// Checks the names of DELETE.
-#[tactic(auto, using(crate::proofs::RefusalLemmas::first_of_in_two))]
+#[tactic(auto, using(gql_expr_checks::proofs::RefusalLemmas::first_of_in_two))]
 fn check_delete(alloc: Global, scope: &KnownColumns, names: &[Text]) -> Result<(), ScopeFault>
     ensures { Gives result (refusal_of_first Refusal.Variable (flat_map (missing scope.now) names.now)) }
 {

@@ -3,15 +3,15 @@
 ghost use Rattle.std.specs.Prelude.{◌≡◌};
 ghost use Rattle.std.specs.List.{flat_map};
 ghost use Rattle.gql_ast.specs.InsertColumns.{insert_spots};
-ghost use Rattle.gql_scope.specs.StaticRefusals.{refusal_of_first};
-ghost use Rattle.gql_scope.specs.UnsetParameters.{unset, parameters_of_map, parameters_of_set, parameters_of_change};
+ghost use Rattle.gql_expr_checks.specs.Refusals.{refusal_of_first};
+ghost use Rattle.gql_expr_checks.specs.ExprParameters.{unset};
+ghost use Rattle.gql_scope.specs.UnsetParameters.{parameters_of_map, parameters_of_set, parameters_of_change};
 ghost use Rattle.gql_ast.specs.declared.refusal.Refusal.TheVariants as refusal;
-ghost use Rattle.gql_scope.specs.Gives.{Gives};
+ghost use Rattle.gql_expr_checks.specs.Gives.{Gives};
 
-use crate::fault::ScopeFault;
 use crate::insert_maps::{MapQuestion, check_maps};
-use crate::unset_parameters::check_expr;
 use gql_ast::{ChangeClause, InsertPath, SetItem};
+use gql_expr_checks::{ScopeFault, check_parameters};
 use gql_values3::Params;
 use std::alloc::Global;
 
@@ -27,7 +27,7 @@ fn check_set_item(alloc: Global, params: &Params, item: &SetItem) -> Result<(), 
     ensures { Gives result (refusal_of_first refusal.Parameter (unset params.now (parameters_of_set item.now))) }
 {
     match item {
-        SetItem::Property(_, _, value) => check_expr(alloc, params, value),
+        SetItem::Property(_, _, value) => check_parameters(alloc, params, value),
         SetItem::Label(_, _) => Ok(()),
     }
 }

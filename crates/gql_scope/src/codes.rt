@@ -3,16 +3,15 @@
 ghost use Rattle.std.specs.Prelude.{◌≡◌, [], Some, None, OnOk, IfErr};
 ghost use Rattle.gql_ast.specs.Meaning.{tree_of};
 ghost use Rattle.gql_scope.specs.StaticRefusals.{static_refusal, query_refusal, session_refusal, value_refusal};
-ghost use Rattle.gql_scope.specs.Gives.{Gives, Fails};
+ghost use Rattle.gql_expr_checks.specs.Gives.{Gives, Fails};
 
 use crate::column_faults::column_faults;
-use crate::columns::KnownColumns;
-use crate::fault::ScopeFault;
-use crate::misused_clauses::{check_expr as check_misuse, misused_clauses};
-use crate::unknown_names::{check_names, unknown_names};
-use crate::unset_parameters::{check_expr as check_parameters, unset_parameters};
+use crate::misused_clauses::misused_clauses;
+use crate::unknown_names::unknown_names;
+use crate::unset_parameters::unset_parameters;
 use crate::wrong_kinds::wrong_kinds;
 use gql_ast::{Clause, Expr, SessionStatement, Statement};
+use gql_expr_checks::{KnownColumns, ScopeFault, check_misuse, check_names, check_parameters};
 use gql_values3::Params;
 use std::alloc::Global;
 

@@ -2,27 +2,25 @@
 
 ghost use Rattle.std.specs.Prelude.{◌≡◌, [], ◌∷◌, ◌++◌, map, OnOk, IfOk, if◌then◌else◌, IsFalse};
 ghost use Rattle.std.specs.Option.{option_copied};
-ghost use Rattle.gql_scope.specs.ColumnFaults.{is_among, repeated, faults_in_condition, faults_in_node, columns_outside, repeated_name, faults_in_item, faults_in_list, faults_in_items, faults_in_return, faults_in_clause, faults_in_clauses};
+ghost use Rattle.gql_expr_checks.specs.Repeated.{is_among, repeated};
+ghost use Rattle.gql_scope.specs.ColumnFaults.{faults_in_condition, faults_in_node, columns_outside, repeated_name, faults_in_item, faults_in_list, faults_in_items, faults_in_return, faults_in_clause, faults_in_clauses};
 ghost use Rattle.gql_ast.specs.Meaning.{tree_of};
 ghost use Rattle.gql_ast.specs.Outputs.{item_name, text_name};
 ghost use Rattle.gql_ast.specs.Projections.{columns_behind};
-ghost use Rattle.gql_scope.specs.StaticRefusals.{refusal_of_first};
+ghost use Rattle.gql_expr_checks.specs.Refusals.{refusal_of_first};
 ghost use Rattle.gql_ast.specs.declared.refusal.ColumnRef.TheVariants as column;
-ghost use Rattle.gql_scope.specs.Gives.{Gives, Fails};
-ghost use Rattle.gql_scope.specs.Machinery.Seen.{seen_names};
+ghost use Rattle.gql_expr_checks.specs.Gives.{Gives, Fails};
+ghost use Rattle.gql_expr_checks.specs.Machinery.Seen.{seen_names};
 
-use crate::aggregates::has_aggregate;
-use crate::behind::{push_copy, step_unless_last};
+use crate::behind::step_unless_last;
 use crate::change_maps::check_change;
-use crate::columns::KnownColumns;
-use crate::fault::ScopeFault;
 use crate::grouping::check_grouping;
 use crate::outputs::text_name;
-use crate::outside::name_outside;
 use gql_ast::{
     Clause, ColumnRef, Condition, Expr, Filler, MapItem, Refusal, Return, ReturnItem, ReturnItems,
     node_of_pattern,
 };
+use gql_expr_checks::{KnownColumns, ScopeFault, check_properties, has_aggregate, name_outside};
 use gql_values3::{ColumnKind, Text};
 use std::alloc::Global;
 
@@ -36,22 +34,8 @@ pub fn fault_of(alloc: Global, name: &Text) -> ScopeFault
     }
 }
 
-/// Checks that the property was not seen before, and notes it.
-#[tactic(auto, using(crate::proofs::SeenLemmas::seen))]
-fn note_property(alloc: Global, seen: &mut KnownColumns, name: &Text) -> Result<(), ScopeFault>
-    ensures fresh { Gives result (refusal_of_first Refusal.Column (if is_among (seen_names seen.old) name.now then ColumnRef.Property name.now ∷ [] else [])) }
-    ensures noted { OnOk result (seen_names seen.new ≡ name.now ∷ seen_names seen.old) }
-{
-    if seen.contains(name) {
-        let copy = name.try_copy(alloc)?;
-        return Err(ScopeFault::Defect(Refusal::Column(ColumnRef::Property(copy))));
-    }
-    push_copy(alloc, seen, name, ColumnKind::Plain)?;
-    Ok(())
-}
-
 /// Checks that the column's name was not seen before, and notes it.
-#[tactic(auto, using(crate::proofs::SeenLemmas::seen))]
+#[tactic(auto, using(gql_expr_checks::proofs::SeenLemmas::seen))]
 pub fn note_name(alloc: Global, seen: &mut KnownColumns, name: &Text) -> Result<(), ScopeFault>
     ensures fresh { Gives result (refusal_of_first Refusal.Column (if is_among (seen_names seen.old) name.now then ColumnRef.Name name.now ∷ [] else [])) }
     ensures noted { OnOk result (seen_names seen.new ≡ name.now ∷ seen_names seen.old) }
@@ -59,19 +43,7 @@ pub fn note_name(alloc: Global, seen: &mut KnownColumns, name: &Text) -> Result<
     if seen.contains(name) {
         return Err(fault_of(alloc, name));
     }
-    push_copy(alloc, seen, name, ColumnKind::Plain)?;
-    Ok(())
-}
-
-/// Checks that a map names no property twice.
-#[tactic(auto, using(crate::proofs::SeenLemmas::repeated_step))]
-pub fn check_map(alloc: Global, items: &[MapItem]) -> Result<(), ScopeFault>
-    ensures { Gives result (refusal_of_first Refusal.Column (map column.Property (repeated [] (map (λ i. i.name) items.now)))) }
-{
-    let mut seen = KnownColumns::new(alloc);
-    for item in items {
-        note_property(alloc, &mut seen, &item.name)?;
-    }
+    seen.push_copy(alloc, name, ColumnKind::Plain)?;
     Ok(())
 }
 
@@ -89,13 +61,13 @@ fn check_condition(alloc: Global, condition: &Option<Condition>) -> Result<(), S
     ensures { Gives result (refusal_of_first Refusal.Column (faults_in_condition condition.now)) }
 {
     match condition {
-        Some(Condition::Map(items)) => check_map(alloc, items.as_slice()),
+        Some(Condition::Map(items)) => check_properties(alloc, items.as_slice()),
         _ => Ok(()),
     }
 }
 
 /// Checks that an item with an aggregate over rows names no column outside it.
-#[tactic(auto, using(crate::proofs::SeenLemmas::named))]
+#[tactic(auto, using(crate::proofs::ProjectionLemmas::named))]
 fn check_outside(alloc: Global, scope: &KnownColumns, expr: &Expr) -> Result<(), ScopeFault>
     ensures { Gives result (refusal_of_first Refusal.Column (columns_outside scope.now (tree_of expr.now))) }
 {
@@ -109,7 +81,7 @@ fn check_outside(alloc: Global, scope: &KnownColumns, expr: &Expr) -> Result<(),
 }
 
 /// Checks an item of RETURN with AS, and notes the name of its column, which stands behind the expression.
-#[tactic(auto, using(crate::proofs::RefusalLemmas::first_of_in_two))]
+#[tactic(auto, using(gql_expr_checks::proofs::RefusalLemmas::first_of_in_two))]
 fn check_named(
     alloc: Global,
     scope: &KnownColumns,
@@ -125,7 +97,7 @@ fn check_named(
 }
 
 /// Checks an item of RETURN without AS, and notes the name of its column, which begins where the expression does.
-#[tactic(auto, using(crate::proofs::RefusalLemmas::first_of_in_two))]
+#[tactic(auto, using(gql_expr_checks::proofs::RefusalLemmas::first_of_in_two))]
 fn check_unnamed(
     alloc: Global,
     scope: &KnownColumns,
@@ -157,7 +129,7 @@ fn check_item(
 }
 
 /// Checks the items of RETURN in order.
-#[tactic(auto, using(crate::proofs::SeenLemmas::item_step))]
+#[tactic(auto, using(crate::proofs::ProjectionLemmas::item_step))]
 fn check_listed(alloc: Global, scope: &KnownColumns, items: &[ReturnItem]) -> Result<(), ScopeFault>
     ensures { Gives result (refusal_of_first Refusal.Column (faults_in_list scope.now [] items.now)) }
 {
@@ -189,7 +161,7 @@ fn check_all(scope: &KnownColumns) -> Result<(), ScopeFault>
 }
 
 /// Checks RETURN.
-#[tactic(auto, using(crate::proofs::RefusalLemmas::first_of_in_two))]
+#[tactic(auto, using(gql_expr_checks::proofs::RefusalLemmas::first_of_in_two))]
 fn check_return(alloc: Global, scope: &KnownColumns, clause: &Return) -> Result<(), ScopeFault>
     ensures { Gives result (refusal_of_first Refusal.Column (faults_in_return scope.now clause.now)) }
 {

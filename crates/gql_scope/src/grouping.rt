@@ -1,28 +1,26 @@
 //! E16 of GROUP BY: its names are the keys, each once.
 
 ghost use Rattle.std.specs.Prelude.{◌≡◌, [], ◌∷◌, ◌++◌, map, filter, not, ◌&&◌, OnOk, IfOk, if◌then◌else◌};
-ghost use Rattle.gql_scope.specs.ColumnFaults.{is_among, key_names, faults_in_names, omitted, faults_in_grouping};
+ghost use Rattle.gql_expr_checks.specs.Repeated.{is_among};
+ghost use Rattle.gql_scope.specs.ColumnFaults.{key_names, faults_in_names, omitted, faults_in_grouping};
 ghost use Rattle.gql_ast.specs.Meaning.{tree_of};
 ghost use Rattle.gql_ast.specs.Outputs.{item_name};
 ghost use Rattle.gql_ast.specs.Projections.{is_key};
-ghost use Rattle.gql_scope.specs.StaticRefusals.{refusal_of_first};
+ghost use Rattle.gql_expr_checks.specs.Refusals.{refusal_of_first};
 ghost use Rattle.gql_ast.specs.declared.refusal.ColumnRef.TheVariants as column;
 ghost use Rattle.gql_ast.specs.declared.refusal.Refusal.TheVariants as refusal;
-ghost use Rattle.gql_scope.specs.Gives.{Gives};
-ghost use Rattle.gql_scope.specs.Machinery.Seen.{names_of, seen_names};
+ghost use Rattle.gql_expr_checks.specs.Gives.{Gives};
+ghost use Rattle.gql_expr_checks.specs.Machinery.Seen.{names_of, seen_names};
 
-use crate::aggregates::has_aggregate;
-use crate::behind::push_copy;
 use crate::column_faults::{fault_of, note_name};
-use crate::columns::KnownColumns;
-use crate::fault::ScopeFault;
 use crate::outputs::{item_name, push_columns};
 use gql_ast::{Return, ReturnItem, ReturnItems};
+use gql_expr_checks::{KnownColumns, ScopeFault, has_aggregate};
 use gql_values3::{ColumnKind, OutOfMemory, Text};
 use std::alloc::Global;
 
 /// Adds the output name of an item where it is a key.
-#[tactic(auto, using(crate::proofs::SeenLemmas::seen))]
+#[tactic(auto, using(gql_expr_checks::proofs::SeenLemmas::seen))]
 fn push_key(
     alloc: Global,
     scope: &KnownColumns,
@@ -38,7 +36,7 @@ fn push_key(
 }
 
 /// Adds the output names of the items that are keys.
-#[tactic(auto, using(crate::proofs::SeenLemmas::key_step))]
+#[tactic(auto, using(crate::proofs::ProjectionLemmas::key_step))]
 fn push_keys(
     alloc: Global,
     scope: &KnownColumns,
@@ -70,19 +68,19 @@ fn key_scope(
 }
 
 /// Names in order.
-#[tactic(auto, using(crate::proofs::SeenLemmas::seen))]
+#[tactic(auto, using(gql_expr_checks::proofs::SeenLemmas::seen))]
 fn name_scope(alloc: Global, names: &[Text]) -> Result<KnownColumns, OutOfMemory>
     ensures { IfOk result (λ named. names_of named ≡ names.now) }
 {
     let mut named = KnownColumns::new(alloc);
     for name in names {
-        push_copy(alloc, &mut named, name, ColumnKind::Plain)?;
+        named.push_copy(alloc, name, ColumnKind::Plain)?;
     }
     Ok(named)
 }
 
 /// Checks that a name of GROUP BY is a key that was not seen before, and notes it.
-#[tactic(auto, using(crate::proofs::SeenLemmas::seen))]
+#[tactic(auto, using(gql_expr_checks::proofs::SeenLemmas::seen))]
 fn check_name(
     alloc: Global,
     keys: &KnownColumns,
@@ -99,7 +97,7 @@ fn check_name(
 }
 
 /// Checks the names of GROUP BY in order.
-#[tactic(auto, using(crate::proofs::SeenLemmas::name_step))]
+#[tactic(auto, using(crate::proofs::ProjectionLemmas::name_step))]
 fn check_names(
     alloc: Global,
     scope: &KnownColumns,
@@ -116,7 +114,7 @@ fn check_names(
 }
 
 /// Checks that a key is named.
-#[tactic(auto, using(crate::proofs::SeenLemmas::seen))]
+#[tactic(auto, using(gql_expr_checks::proofs::SeenLemmas::seen))]
 fn check_key(alloc: Global, named: &KnownColumns, key: &Text) -> Result<(), ScopeFault>
     ensures { Gives result (refusal_of_first refusal.Column (if is_among (names_of named.now) key.now then [] else column.Name key.now ∷ [])) }
 {
@@ -127,7 +125,7 @@ fn check_key(alloc: Global, named: &KnownColumns, key: &Text) -> Result<(), Scop
 }
 
 /// Checks that each key is named.
-#[tactic(auto, using(crate::proofs::SeenLemmas::omitted_step))]
+#[tactic(auto, using(crate::proofs::ProjectionLemmas::omitted_step))]
 fn check_omitted(
     alloc: Global,
     scope: &KnownColumns,
@@ -143,7 +141,7 @@ fn check_omitted(
 }
 
 /// Checks the names of GROUP BY against the keys.
-#[tactic(auto, using(crate::proofs::RefusalLemmas::first_of_in_two))]
+#[tactic(auto, using(gql_expr_checks::proofs::RefusalLemmas::first_of_in_two))]
 fn check_keys(
     alloc: Global,
     scope: &KnownColumns,

@@ -4,9 +4,8 @@ ghost use Rattle.std.specs.Prelude.{◌≡◌, OnOk};
 ghost use Rattle.std.specs.List.{flat_map};
 ghost use Rattle.gql_ast.specs.InsertColumns.{step_spots, path_spots, insert_spots, with_variable, spot_columns, change_columns};
 
-use crate::behind::push_copy;
-use crate::columns::KnownColumns;
 use gql_ast::{ChangeClause, InsertPath, InsertStep};
+use gql_expr_checks::KnownColumns;
 use gql_values3::{ColumnKind, OutOfMemory, Text};
 use std::alloc::Global;
 
@@ -20,7 +19,7 @@ fn push_variable(
     ensures { OnOk result (scope.new ≡ with_variable scope.old kind variable.now) }
 {
     match variable {
-        Some(name) if !scope.contains(name) => push_copy(alloc, scope, name, kind),
+        Some(name) if !scope.contains(name) => scope.push_copy(alloc, name, kind),
         _ => Ok(()),
     }
 }

@@ -3,15 +3,13 @@
 ghost use Rattle.std.specs.Prelude.{◌≡◌};
 ghost use Rattle.std.specs.List.{flat_map};
 ghost use Rattle.gql_ast.specs.InsertColumns.{step_spots, path_spots, insert_spots};
-ghost use Rattle.gql_scope.specs.Gives.{Gives};
+ghost use Rattle.gql_expr_checks.specs.Gives.{Gives};
 ghost use Rattle.gql_scope.specs.Machinery.Questions.{map_refusal, first_in_maps};
 
-use crate::column_faults::check_map as check_repeated;
-use crate::columns::KnownColumns;
-use crate::fault::ScopeFault;
 use crate::misused_clauses::check_map as check_misuse;
 use crate::unset_parameters::check_map as check_parameters;
 use gql_ast::{InsertPath, InsertStep, Map, MapItem};
+use gql_expr_checks::{KnownColumns, ScopeFault, check_properties};
 use gql_values3::Params;
 use std::alloc::Global;
 
@@ -32,7 +30,7 @@ fn ask(alloc: Global, question: &MapQuestion, items: &[MapItem]) -> Result<(), S
 {
     match question {
         MapQuestion::Misuse(scope) => check_misuse(scope, items),
-        MapQuestion::Repeated => check_repeated(alloc, items),
+        MapQuestion::Repeated => check_properties(alloc, items),
         MapQuestion::Parameter(params) => check_parameters(alloc, params, items),
     }
 }

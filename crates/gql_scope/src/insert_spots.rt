@@ -3,15 +3,14 @@
 ghost use Rattle.std.specs.Prelude.{◌≡◌, ◌++◌, OnOk};
 ghost use Rattle.std.specs.List.{flat_map};
 ghost use Rattle.gql_ast.specs.InsertColumns.{step_spots, path_spots, insert_spots, with_variable, spot_columns};
-ghost use Rattle.gql_scope.specs.Gives.{Gives};
+ghost use Rattle.gql_expr_checks.specs.Gives.{Gives};
 ghost use Rattle.gql_scope.specs.Machinery.Questions.{spot_refusal, first_in_spots};
 
 use crate::change_kinds::check_endpoint;
 use crate::change_names::check_fill;
-use crate::columns::KnownColumns;
-use crate::fault::ScopeFault;
 use crate::standing::push_fresh;
 use gql_ast::{Fill, InsertPath, InsertStep};
+use gql_expr_checks::{KnownColumns, ScopeFault};
 use gql_values3::ColumnKind;
 use std::alloc::Global;
 

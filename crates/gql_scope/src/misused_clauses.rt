@@ -6,42 +6,24 @@ ghost use Rattle.std.specs.List.{list_any};
 ghost use Rattle.gql_ast.specs.ClauseColumns.{with_filler, match_columns, let_columns, for_columns};
 ghost use Rattle.gql_ast.specs.InsertColumns.{change_columns};
 ghost use Rattle.gql_ast.specs.Meaning.{tree_of};
-ghost use Rattle.gql_scope.specs.Misuses.{misused_expr, misused_if, misused_condition, misused_node, misused_pattern, misused_let, misused_keys, misused_order, misused_page, misused_items, misused_change, misused_clause, misused_clauses, item, elsewhere};
+ghost use Rattle.gql_expr_checks.specs.ExprMisuses.{misused_expr, item, elsewhere};
+ghost use Rattle.gql_scope.specs.Misuses.{misused_if, misused_condition, misused_node, misused_pattern, misused_let, misused_keys, misused_order, misused_page, misused_items, misused_change, misused_clause, misused_clauses};
 ghost use Rattle.gql_ast.specs.Outputs.{kind_of};
 ghost use Rattle.gql_ast.specs.Projections.{columns_behind, sort_columns, output_columns};
-ghost use Rattle.gql_scope.specs.StaticRefusals.{misuse_if};
-ghost use Rattle.gql_scope.specs.Gives.{Gives};
-ghost use Rattle.gql_scope.specs.Machinery.Places.{place_of, columns_at};
+ghost use Rattle.gql_expr_checks.specs.Refusals.{misuse_if};
+ghost use Rattle.gql_expr_checks.specs.Gives.{Gives};
+ghost use Rattle.gql_expr_checks.specs.Machinery.Places.{place_of, columns_at};
 
 use crate::behind::{keep_outputs, push_for, push_let_item, push_node};
 use crate::change_misuses::check_change;
-use crate::columns::KnownColumns;
-use crate::fault::ScopeFault;
 use crate::insert_columns::push_change;
-use crate::misuses::{Place, is_misused};
 use crate::outputs::sort_scope;
 use gql_ast::{
     ChangeClause, Clause, Condition, Expr, Filler, For, GraphPattern, LetItem, MapItem, Page,
     Refusal, Return, ReturnItem, ReturnItems, SortItem, node_of_pattern,
 };
+use gql_expr_checks::{KnownColumns, ScopeFault, check_item, check_misuse};
 use std::alloc::Global;
-
-/// Checks an expression at its place.
-fn check_at(scope: &KnownColumns, place: &Place, expr: &Expr) -> Result<(), ScopeFault>
-    ensures { Gives result (misuse_if (misused_expr (columns_at scope.now place.now) (place_of place.now) expr.now)) }
-{
-    if is_misused(scope, place, expr) {
-        return Err(ScopeFault::Defect(Refusal::Misuse));
-    }
-    Ok(())
-}
-
-/// Checks an expression outside the items of RETURN.
-pub fn check_expr(scope: &KnownColumns, expr: &Expr) -> Result<(), ScopeFault>
-    ensures { Gives result (misuse_if (misused_expr scope.now elsewhere expr.now)) }
-{
-    check_at(scope, &Place::Elsewhere, expr)
-}
 
 /// Checks an expression that may be there.
 fn check_if(scope: &KnownColumns, expr: &Option<Expr>) -> Result<(), ScopeFault>
@@ -49,17 +31,17 @@ fn check_if(scope: &KnownColumns, expr: &Option<Expr>) -> Result<(), ScopeFault>
 {
     match expr {
         None => Ok(()),
-        Some(expr) => check_expr(scope, expr),
+        Some(expr) => check_misuse(scope, expr),
     }
 }
 
 /// Checks a map's values.
-#[tactic(auto, using(crate::proofs::RefusalLemmas::misuse_in_two))]
+#[tactic(auto, using(gql_expr_checks::proofs::RefusalLemmas::misuse_in_two))]
 pub fn check_map(scope: &KnownColumns, items: &[MapItem]) -> Result<(), ScopeFault>
     ensures { Gives result (misuse_if (list_any (λ i. misused_expr scope.now elsewhere i.value) items.now)) }
 {
     for item in items {
-        check_expr(scope, &item.value)?;
+        check_misuse(scope, &item.value)?;
     }
     Ok(())
 }
@@ -71,7 +53,7 @@ fn check_condition(scope: &KnownColumns, condition: &Option<Condition>) -> Resul
     match condition {
         None => Ok(()),
         Some(Condition::Map(items)) => check_map(scope, items.as_slice()),
-        Some(Condition::Where(expr)) => check_expr(scope, expr),
+        Some(Condition::Where(expr)) => check_misuse(scope, expr),
     }
 }
 
@@ -94,7 +76,7 @@ fn check_node(
 }
 
 /// Checks a pattern, and adds its variables.
-#[tactic(auto, using(crate::proofs::RefusalLemmas::misuse_in_two))]
+#[tactic(auto, using(gql_expr_checks::proofs::RefusalLemmas::misuse_in_two))]
 fn check_pattern(
     alloc: Global,
     scope: &mut KnownColumns,
@@ -112,7 +94,7 @@ fn check_let_item(alloc: Global, scope: &mut KnownColumns, item: &LetItem) -> Re
     ensures misuses { Gives result (misuse_if (misused_expr scope.old elsewhere item.now.value)) }
     ensures columns { OnOk result (scope.new ≡ scope.old ++ (item.now.name, kind_of scope.old (tree_of item.now.value)) ∷ []) }
 {
-    check_expr(scope, &item.value)?;
+    check_misuse(scope, &item.value)?;
     push_let_item(alloc, scope, item)?;
     Ok(())
 }
@@ -134,18 +116,18 @@ fn check_for(alloc: Global, scope: &mut KnownColumns, clause: &For) -> Result<()
     ensures misuses { Gives result (misuse_if (misused_expr scope.old elsewhere clause.now.list)) }
     ensures columns { OnOk result (scope.new ≡ for_columns scope.old clause.now) }
 {
-    check_expr(scope, &clause.list)?;
+    check_misuse(scope, &clause.list)?;
     push_for(alloc, scope, clause)?;
     Ok(())
 }
 
 /// Checks sort keys.
-#[tactic(auto, using(crate::proofs::RefusalLemmas::misuse_in_two))]
+#[tactic(auto, using(gql_expr_checks::proofs::RefusalLemmas::misuse_in_two))]
 fn check_keys(scope: &KnownColumns, keys: &[SortItem]) -> Result<(), ScopeFault>
     ensures { Gives result (misuse_if (misused_keys scope.now keys.now)) }
 {
     for item in keys {
-        check_expr(scope, &item.key)?;
+        check_misuse(scope, &item.key)?;
     }
     Ok(())
 }
@@ -161,12 +143,12 @@ fn check_page(scope: &KnownColumns, page: &Page) -> Result<(), ScopeFault>
 }
 
 /// Checks the items of RETURN.
-#[tactic(auto, using(crate::proofs::RefusalLemmas::misuse_in_two))]
+#[tactic(auto, using(gql_expr_checks::proofs::RefusalLemmas::misuse_in_two))]
 fn check_listed(scope: &KnownColumns, items: &[ReturnItem]) -> Result<(), ScopeFault>
     ensures { Gives result (misuse_if (list_any (λ i. misused_expr scope.now item i.value) items.now)) }
 {
     for item in items {
-        check_at(scope, &Place::Item, &item.value)?;
+        check_item(scope, &item.value)?;
     }
     Ok(())
 }
@@ -194,7 +176,7 @@ fn check_order(alloc: Global, scope: &KnownColumns, clause: &Return) -> Result<(
 }
 
 /// Checks RETURN, and keeps its columns alone.
-#[tactic(auto, using(crate::proofs::RefusalLemmas::misuse_in_two))]
+#[tactic(auto, using(gql_expr_checks::proofs::RefusalLemmas::misuse_in_two))]
 fn check_return(alloc: Global, scope: &mut KnownColumns, clause: &Return) -> Result<(), ScopeFault>
     ensures misuses { Gives result (misuse_if (misused_items scope.old clause.now.items || misused_order (sort_columns scope.old clause.now) clause.now.order)) }
     ensures columns { OnOk result (scope.new ≡ output_columns scope.old clause.now.items) }
@@ -227,7 +209,7 @@ fn check_clause(alloc: Global, scope: &mut KnownColumns, clause: &Clause) -> Res
     match clause {
         Clause::Match(m) => check_pattern(alloc, scope, &m.pattern),
         Clause::Let(items) => check_let(alloc, scope, items.as_slice()),
-        Clause::Filter(condition) => check_expr(scope, condition),
+        Clause::Filter(condition) => check_misuse(scope, condition),
         Clause::For(clause) => check_for(alloc, scope, clause),
         Clause::Page(page) => check_page(scope, page),
         Clause::Return(clause) => check_return(alloc, scope, clause),

@@ -6,10 +6,9 @@ ghost use Rattle.gql_ast.specs.Meaning.{tree_of};
 ghost use Rattle.gql_ast.specs.Outputs.{item_name, item_column, text_name};
 ghost use Rattle.gql_ast.specs.Projections.{output_columns, output_trees, is_key, is_grouped, is_distinct, sort_columns};
 
-use crate::aggregates::has_aggregate;
-use crate::behind::{kind_of, push_copy};
-use crate::columns::KnownColumns;
+use crate::behind::kind_of;
 use gql_ast::{Expr, Return, ReturnItem, ReturnItems, SetQuantifier, expr_text};
+use gql_expr_checks::{KnownColumns, has_aggregate};
 use gql_values3::{ColumnKind, OutOfMemory, Text};
 use std::alloc::Global;
 
@@ -69,7 +68,7 @@ pub fn push_columns(
     ensures { OnOk result (outputs.new ≡ outputs.old ++ columns.now) }
 {
     for column in columns {
-        push_copy(alloc, outputs, &column.0, column.1)?;
+        outputs.push_copy(alloc, &column.0, column.1)?;
     }
     Ok(())
 }

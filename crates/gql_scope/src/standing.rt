@@ -6,8 +6,7 @@ ghost use Rattle.gql_ast.specs.ClauseColumns.{is_column};
 ghost use Rattle.gql_ast.specs.InsertColumns.{with_variable};
 ghost use Rattle.gql_ast.specs.Outputs.{kind_of_name};
 
-use crate::behind::push_copy;
-use crate::columns::KnownColumns;
+use gql_expr_checks::KnownColumns;
 use gql_values3::{ColumnKind, OutOfMemory, Text};
 use std::alloc::Global;
 
@@ -43,7 +42,7 @@ pub fn push_fresh(
     ensures { OnOk result (incoming.now ++ fresh.new ≡ with_variable (incoming.now ++ fresh.old) kind variable.now) }
 {
     match variable {
-        Some(name) if !stands(incoming, fresh, name) => push_copy(alloc, fresh, name, kind),
+        Some(name) if !stands(incoming, fresh, name) => fresh.push_copy(alloc, name, kind),
         _ => Ok(()),
     }
 }

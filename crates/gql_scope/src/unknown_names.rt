@@ -8,34 +8,22 @@ ghost use Rattle.gql_ast.specs.Outputs.{kind_of, element_kind};
 ghost use Rattle.gql_ast.specs.ClauseColumns.{with_filler, match_columns, let_columns, for_columns, counter_column};
 ghost use Rattle.gql_ast.specs.InsertColumns.{change_columns};
 ghost use Rattle.gql_ast.specs.Projections.{columns_behind, sort_columns, output_columns};
-ghost use Rattle.gql_scope.specs.StaticRefusals.{refusal_of_first};
-ghost use Rattle.gql_scope.specs.UnknownNames.{unknown_in_expr, unknown_if, taken, unknown_in_condition, unknown_in_node, unknown_in_pattern, unknown_in_let, unknown_in_counter, unknown_in_for, unknown_in_keys, unknown_in_order, unknown_in_page, unknown_in_items, unknown_in_return, unknown_in_change, unknown_in_clause, unknown_in_clauses};
-ghost use Rattle.gql_scope.specs.Gives.{Gives};
+ghost use Rattle.gql_expr_checks.specs.Refusals.{refusal_of_first};
+ghost use Rattle.gql_expr_checks.specs.ExprNames.{unknown_in_expr};
+ghost use Rattle.gql_scope.specs.UnknownNames.{unknown_if, taken, unknown_in_condition, unknown_in_node, unknown_in_pattern, unknown_in_let, unknown_in_counter, unknown_in_for, unknown_in_keys, unknown_in_order, unknown_in_page, unknown_in_items, unknown_in_return, unknown_in_change, unknown_in_clause, unknown_in_clauses};
+ghost use Rattle.gql_expr_checks.specs.Gives.{Gives};
 
 use crate::behind::{keep_outputs, push_counter, push_for_item, push_let_item, push_node};
 use crate::change_names::check_change;
-use crate::columns::KnownColumns;
-use crate::fault::ScopeFault;
 use crate::insert_columns::push_change;
-use crate::names::{Sought, first_name};
 use crate::outputs::sort_scope;
 use gql_ast::{
     ChangeClause, Clause, Condition, Counting, Expr, Filler, For, GraphPattern, LetItem, MapItem,
     Page, Refusal, Return, ReturnItem, ReturnItems, SortItem, node_of_pattern,
 };
+use gql_expr_checks::{KnownColumns, ScopeFault, check_names};
 use gql_values3::Text;
 use std::alloc::Global;
-
-/// Checks the names of an expression.
-#[tactic(auto, using(crate::proofs::RefusalLemmas::known))]
-pub fn check_names(alloc: Global, scope: &KnownColumns, expr: &Expr) -> Result<(), ScopeFault>
-    ensures { Gives result (refusal_of_first Refusal.Variable (unknown_in_expr scope.now expr.now)) }
-{
-    match first_name(scope, &Sought::Unknown, expr) {
-        None => Ok(()),
-        Some(name) => Err(ScopeFault::Defect(Refusal::Variable(name.try_copy(alloc)?))),
-    }
-}
 
 /// Checks that a declared name is no column.
 fn check_free(alloc: Global, scope: &KnownColumns, name: &Text) -> Result<(), ScopeFault>
@@ -101,7 +89,7 @@ fn check_node(
 }
 
 /// Checks the names of a pattern, and adds its variables.
-#[tactic(auto, using(crate::proofs::RefusalLemmas::first_of_in_two))]
+#[tactic(auto, using(gql_expr_checks::proofs::RefusalLemmas::first_of_in_two))]
 fn check_pattern(
     alloc: Global,
     scope: &mut KnownColumns,
@@ -115,7 +103,7 @@ fn check_pattern(
 }
 
 /// Checks an item of LET, and adds its column.
-#[tactic(auto, using(crate::proofs::RefusalLemmas::first_of_in_two))]
+#[tactic(auto, using(gql_expr_checks::proofs::RefusalLemmas::first_of_in_two))]
 fn check_let_item(alloc: Global, scope: &mut KnownColumns, item: &LetItem) -> Result<(), ScopeFault>
     ensures names { Gives result (refusal_of_first Refusal.Variable (taken scope.old item.now.name ++ unknown_in_expr scope.old item.now.value)) }
     ensures columns { OnOk result (scope.new ≡ scope.old ++ (item.now.name, kind_of scope.old (tree_of item.now.value)) ∷ []) }
@@ -155,7 +143,7 @@ fn check_counter(
 }
 
 /// Checks the name of FOR's item and its list, and adds the item's column.
-#[tactic(auto, using(crate::proofs::RefusalLemmas::first_of_in_two))]
+#[tactic(auto, using(gql_expr_checks::proofs::RefusalLemmas::first_of_in_two))]
 fn check_for_item(alloc: Global, scope: &mut KnownColumns, clause: &For) -> Result<(), ScopeFault>
     ensures names { Gives result (refusal_of_first Refusal.Variable (taken scope.old clause.now.name ++ unknown_in_expr scope.old clause.now.list)) }
     ensures columns { OnOk result (scope.new ≡ scope.old ++ (clause.now.name, element_kind (kind_of scope.old (tree_of clause.now.list))) ∷ []) }
@@ -167,7 +155,7 @@ fn check_for_item(alloc: Global, scope: &mut KnownColumns, clause: &For) -> Resu
 }
 
 /// Checks FOR, and adds its columns.
-#[tactic(auto, using(crate::proofs::RefusalLemmas::first_of_in_two))]
+#[tactic(auto, using(gql_expr_checks::proofs::RefusalLemmas::first_of_in_two))]
 fn check_for(alloc: Global, scope: &mut KnownColumns, clause: &For) -> Result<(), ScopeFault>
     ensures names { Gives result (refusal_of_first Refusal.Variable (unknown_in_for scope.old clause.now)) }
     ensures columns { OnOk result (scope.new ≡ for_columns scope.old clause.now) }
@@ -177,7 +165,7 @@ fn check_for(alloc: Global, scope: &mut KnownColumns, clause: &For) -> Result<()
 }
 
 /// Checks the names of sort keys.
-#[tactic(auto, using(crate::proofs::RefusalLemmas::first_of_in_two))]
+#[tactic(auto, using(gql_expr_checks::proofs::RefusalLemmas::first_of_in_two))]
 fn check_keys(alloc: Global, scope: &KnownColumns, keys: &[SortItem]) -> Result<(), ScopeFault>
     ensures { Gives result (refusal_of_first Refusal.Variable (unknown_in_keys scope.now keys.now)) }
 {
@@ -198,7 +186,7 @@ fn check_page(alloc: Global, scope: &KnownColumns, page: &Page) -> Result<(), Sc
 }
 
 /// Checks the names of RETURN's items.
-#[tactic(auto, using(crate::proofs::RefusalLemmas::first_of_in_two))]
+#[tactic(auto, using(gql_expr_checks::proofs::RefusalLemmas::first_of_in_two))]
 fn check_listed(alloc: Global, scope: &KnownColumns, items: &[ReturnItem]) -> Result<(), ScopeFault>
     ensures { Gives result (refusal_of_first Refusal.Variable (flat_map (λ i. unknown_in_expr scope.now i.value) items.now)) }
 {
@@ -231,7 +219,7 @@ fn check_order(alloc: Global, scope: &KnownColumns, clause: &Return) -> Result<(
 }
 
 /// Checks the names of RETURN, and keeps its columns alone.
-#[tactic(auto, using(crate::proofs::RefusalLemmas::first_of_in_two))]
+#[tactic(auto, using(gql_expr_checks::proofs::RefusalLemmas::first_of_in_two))]
 fn check_return(alloc: Global, scope: &mut KnownColumns, clause: &Return) -> Result<(), ScopeFault>
     ensures names { Gives result (refusal_of_first Refusal.Variable (unknown_in_return scope.old clause.now)) }
     ensures columns { OnOk result (scope.new ≡ output_columns scope.old clause.now.items) }

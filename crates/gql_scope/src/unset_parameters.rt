@@ -3,37 +3,19 @@
 ghost use Rattle.std.specs.Prelude.{◌++◌, option_map};
 ghost use Rattle.std.specs.Option.{option_copied};
 ghost use Rattle.std.specs.List.{flat_map};
-ghost use Rattle.gql_scope.specs.StaticRefusals.{refusal_of_first};
-ghost use Rattle.gql_scope.specs.UnsetParameters.{unset, parameters_of, parameters_if, parameters_of_condition, parameters_of_node, parameters_of_pattern, parameters_of_keys, parameters_of_order, parameters_of_count, parameters_of_count_if, parameters_of_page, parameters_of_items, parameters_of_return, parameters_of_clause};
-ghost use Rattle.gql_scope.specs.Gives.{Gives};
+ghost use Rattle.gql_expr_checks.specs.Refusals.{refusal_of_first};
+ghost use Rattle.gql_expr_checks.specs.ExprParameters.{unset, parameters_of};
+ghost use Rattle.gql_scope.specs.UnsetParameters.{parameters_if, parameters_of_condition, parameters_of_node, parameters_of_pattern, parameters_of_keys, parameters_of_order, parameters_of_count, parameters_of_count_if, parameters_of_page, parameters_of_items, parameters_of_return, parameters_of_clause};
+ghost use Rattle.gql_expr_checks.specs.Gives.{Gives};
 
 use crate::change_parameters::check_change;
-use crate::fault::ScopeFault;
-use crate::parameters::{if_unset, unset_parameter};
 use gql_ast::{
     Clause, Condition, Expr, Filler, GraphPattern, LetItem, MapItem, Page, Refusal, Return,
     ReturnItem, ReturnItems, RowCount, SortItem, SortItems, node_of_pattern,
 };
+use gql_expr_checks::{ScopeFault, check_parameter, check_parameters};
 use gql_values3::{Params, Text};
 use std::alloc::Global;
-
-/// Fails a parameter that was found.
-fn refuse(alloc: Global, found: Option<&Text>) -> Result<(), ScopeFault>
-    ensures { Gives result (option_map (λ p. Refusal.Parameter p) (option_copied found.entry)) }
-{
-    match found {
-        None => Ok(()),
-        Some(name) => Err(ScopeFault::Defect(Refusal::Parameter(name.try_copy(alloc)?))),
-    }
-}
-
-/// Checks the parameters of an expression.
-#[tactic(auto, using(crate::proofs::RefusalLemmas::first_of_first))]
-pub fn check_expr(alloc: Global, params: &Params, expr: &Expr) -> Result<(), ScopeFault>
-    ensures { Gives result (refusal_of_first Refusal.Parameter (unset params.now (parameters_of expr.now))) }
-{
-    refuse(alloc, unset_parameter(params, expr))
-}
 
 /// Checks the parameters of an expression that may be there.
 fn check_if(alloc: Global, params: &Params, expr: &Option<Expr>) -> Result<(), ScopeFault>
@@ -41,7 +23,7 @@ fn check_if(alloc: Global, params: &Params, expr: &Option<Expr>) -> Result<(), S
 {
     match expr {
         None => Ok(()),
-        Some(expr) => check_expr(alloc, params, expr),
+        Some(expr) => check_parameters(alloc, params, expr),
     }
 }
 
@@ -50,7 +32,7 @@ pub fn check_map(alloc: Global, params: &Params, items: &[MapItem]) -> Result<()
     ensures { Gives result (refusal_of_first Refusal.Parameter (unset params.now (flat_map (λ i. parameters_of i.value) items.now))) }
 {
     for item in items {
-        check_expr(alloc, params, &item.value)?;
+        check_parameters(alloc, params, &item.value)?;
     }
     Ok(())
 }
@@ -66,7 +48,7 @@ fn check_condition(
     match condition {
         None => Ok(()),
         Some(Condition::Map(items)) => check_map(alloc, params, items.as_slice()),
-        Some(Condition::Where(expr)) => check_expr(alloc, params, expr),
+        Some(Condition::Where(expr)) => check_parameters(alloc, params, expr),
     }
 }
 
@@ -80,7 +62,7 @@ fn check_node(alloc: Global, params: &Params, node: Option<&Filler>) -> Result<(
 }
 
 /// Checks the parameters of a pattern.
-#[tactic(auto, using(crate::proofs::RefusalLemmas::unset_of_two))]
+#[tactic(auto, using(gql_expr_checks::proofs::RefusalLemmas::unset_of_two))]
 fn check_pattern(alloc: Global, params: &Params, pattern: &GraphPattern) -> Result<(), ScopeFault>
     ensures { Gives result (refusal_of_first Refusal.Parameter (unset params.now (parameters_of_pattern pattern.now))) }
 {
@@ -93,7 +75,7 @@ fn check_let(alloc: Global, params: &Params, items: &[LetItem]) -> Result<(), Sc
     ensures { Gives result (refusal_of_first Refusal.Parameter (unset params.now (flat_map (λ i. parameters_of i.value) items.now))) }
 {
     for item in items {
-        check_expr(alloc, params, &item.value)?;
+        check_parameters(alloc, params, &item.value)?;
     }
     Ok(())
 }
@@ -103,7 +85,7 @@ fn check_keys(alloc: Global, params: &Params, keys: &[SortItem]) -> Result<(), S
     ensures { Gives result (refusal_of_first Refusal.Parameter (unset params.now (parameters_of_keys keys.now))) }
 {
     for item in keys {
-        check_expr(alloc, params, &item.key)?;
+        check_parameters(alloc, params, &item.key)?;
     }
     Ok(())
 }
@@ -118,13 +100,13 @@ fn check_order(alloc: Global, params: &Params, order: &Option<SortItems>) -> Res
 }
 
 /// Checks the parameter of a number of rows.
-#[tactic(auto, using(crate::proofs::RefusalLemmas::first_of_first))]
+#[tactic(auto, using(gql_expr_checks::proofs::RefusalLemmas::first_of_first))]
 fn check_count(alloc: Global, params: &Params, count: &RowCount) -> Result<(), ScopeFault>
     ensures { Gives result (refusal_of_first Refusal.Parameter (unset params.now (parameters_of_count count.now))) }
 {
     match count {
         RowCount::Number(_) => Ok(()),
-        RowCount::Parameter(parameter) => refuse(alloc, if_unset(params, parameter)),
+        RowCount::Parameter(parameter) => check_parameter(alloc, params, parameter),
     }
 }
 
@@ -142,7 +124,7 @@ fn check_count_if(
 }
 
 /// Checks the parameters of sort keys, and then those of OFFSET and LIMIT.
-#[tactic(auto, using(crate::proofs::RefusalLemmas::unset_of_two))]
+#[tactic(auto, using(gql_expr_checks::proofs::RefusalLemmas::unset_of_two))]
 fn check_ordered(
     alloc: Global,
     params: &Params,
@@ -158,7 +140,7 @@ fn check_ordered(
 }
 
 /// Checks the parameters of OFFSET, and then those of LIMIT.
-#[tactic(auto, using(crate::proofs::RefusalLemmas::unset_of_two))]
+#[tactic(auto, using(gql_expr_checks::proofs::RefusalLemmas::unset_of_two))]
 fn check_skip(
     alloc: Global,
     params: &Params,
@@ -189,7 +171,7 @@ fn check_listed(alloc: Global, params: &Params, items: &[ReturnItem]) -> Result<
     ensures { Gives result (refusal_of_first Refusal.Parameter (unset params.now (flat_map (λ i. parameters_of i.value) items.now))) }
 {
     for item in items {
-        check_expr(alloc, params, &item.value)?;
+        check_parameters(alloc, params, &item.value)?;
     }
     Ok(())
 }
@@ -204,7 +186,7 @@ fn check_items(alloc: Global, params: &Params, items: &ReturnItems) -> Result<()
 }
 
 /// Checks the parameters of RETURN.
-#[tactic(auto, using(crate::proofs::RefusalLemmas::unset_of_two))]
+#[tactic(auto, using(gql_expr_checks::proofs::RefusalLemmas::unset_of_two))]
 fn check_return(alloc: Global, params: &Params, clause: &Return) -> Result<(), ScopeFault>
     ensures { Gives result (refusal_of_first Refusal.Parameter (unset params.now (parameters_of_return clause.now))) }
 {
@@ -221,8 +203,8 @@ fn check_clause(alloc: Global, params: &Params, clause: &Clause) -> Result<(), S
     match clause {
         Clause::Match(m) => check_pattern(alloc, params, &m.pattern),
         Clause::Let(items) => check_let(alloc, params, items.as_slice()),
-        Clause::Filter(condition) => check_expr(alloc, params, condition),
-        Clause::For(clause) => check_expr(alloc, params, &clause.list),
+        Clause::Filter(condition) => check_parameters(alloc, params, condition),
+        Clause::For(clause) => check_parameters(alloc, params, &clause.list),
         Clause::Page(page) => check_page(alloc, params, page),
         Clause::Return(clause) => check_return(alloc, params, clause),
         Clause::Change(change) => check_change(alloc, params, change),

@@ -3,15 +3,14 @@
 ghost use Rattle.std.specs.Prelude.{◌≡◌, [], OnOk, IsFalse};
 ghost use Rattle.std.specs.Option.{option_copied};
 ghost use Rattle.gql_ast.specs.Projections.{columns_behind};
-ghost use Rattle.gql_scope.specs.StaticRefusals.{refusal_of_first};
+ghost use Rattle.gql_expr_checks.specs.Refusals.{refusal_of_first};
 ghost use Rattle.gql_scope.specs.WrongKinds.{holds_nodes, wrong_variable, wrong_in_node, wrong_in_clause, wrong_in_clauses};
-ghost use Rattle.gql_scope.specs.Gives.{Gives};
+ghost use Rattle.gql_expr_checks.specs.Gives.{Gives};
 
 use crate::behind::step_unless_last;
 use crate::change_kinds::check_change;
-use crate::columns::KnownColumns;
-use crate::fault::ScopeFault;
 use gql_ast::{Clause, Filler, Refusal, node_of_pattern};
+use gql_expr_checks::{KnownColumns, ScopeFault};
 use gql_values3::{ColumnKind, Text};
 use std::alloc::Global;
 

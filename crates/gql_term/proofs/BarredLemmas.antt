@@ -9,8 +9,8 @@ use Rattle.std.proofs.lemmas.List.Concat.{flat_map-append}
 use Rattle.gql_values3.specs.Texts.{same_text}
 use Rattle.gql_values3.specs.declared.table.ColumnKind.{ColumnKind}
 use Rattle.gql_values3.specs.declared.table.ColumnKind.TheVariants as kind
-use Rattle.gql_scope.specs.Machinery.First.{first}
-use Rattle.gql_scope.proofs.FirstLemmas.{first_in_two, first-filter}
+use Rattle.gql_expr_checks.specs.First.{first}
+use Rattle.gql_expr_checks.proofs.FirstLemmas.{first_in_two, first-filter}
 use Rattle.gql_norm.specs.NormalPattern.{Part, Node, Edge, Concat, Union, Alt, Quant, Opt, Scope, Sides, NoSide, Side, NormalPath}
 use Rattle.gql_norm.specs.Places.{size, size_all}
 use Rattle.gql_norm.specs.PathMode.{is_number_among}

@@ -9,7 +9,7 @@ use Rattle.gql_ast.specs.declared.expr.Expr.{Expr}
 use Rattle.gql_norm.specs.NormalData.{predicate_data}
 use Rattle.gql_norm.specs.PredicateSpot.{tree_in}
 use Rattle.gql_norm.specs.declared.element.Predicate.{Predicate}
-use Rattle.gql_scope.proofs.PartLemmas.{found_in_two}
+use Rattle.gql_expr_checks.proofs.PartLemmas.{found_in_two}
 use Rattle.gql_term.specs.Machinery.OpenReferences.{Barred, names_of_condition}
 
 pub one_condition : (barred : Barred) (e : Expr) → find barred (names_of_condition (option_map tree_of (Some e))) ≡ find barred (names_in (tree_of e))

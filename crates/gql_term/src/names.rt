@@ -64,7 +64,7 @@ pub fn first_in_condition<'e, 'a>(
 
 /// The first barred name of an expression.
 #[cycle(names)]
-#[tactic(auto, using(gql_scope::proofs::PartLemmas::found_in_two))]
+#[tactic(auto, using(gql_expr_checks::proofs::PartLemmas::found_in_two))]
 fn first_in_expr<'e, 'a>(expr: &'e Expr, before: &'a Before<'a>) -> Option<&'e Text>
     ensures { option_copied result ≡ find (barred_by before.now) (names_in (tree_of expr.now)) }
 {

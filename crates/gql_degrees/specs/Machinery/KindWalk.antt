@@ -4,7 +4,7 @@ use Rattle.std.specs.List.{flat_map}
 use Rattle.gql_values3.specs.declared.table.ColumnKind.{ColumnKind}
 use Rattle.gql_values3.specs.declared.table.ColumnKind.TheVariants as kind
 use Rattle.gql_ast.specs.ClauseColumns.{ColumnList, is_column}
-use Rattle.gql_scope.specs.Machinery.Knowing.{first_kind}
+use Rattle.gql_expr_checks.specs.Machinery.Knowing.{first_kind}
 use Rattle.gql_norm.specs.NormalPattern.{NormalPath}
 use Rattle.gql_norm.specs.WrongKinds.{is_kind}
 use Rattle.gql_norm.specs.Machinery.ColumnGrowth.{declared_in}

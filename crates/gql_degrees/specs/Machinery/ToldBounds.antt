@@ -3,7 +3,7 @@ use Rattle.std.specs.Prelude.{ℕ, List, ◌++◌, Option, option_map}
 use Rattle.std.specs.List.{flat_map}
 use Rattle.gql_ast.specs.Pattern.{Patterns}
 use Rattle.gql_ast.specs.declared.path.PathPattern.{PathPattern}
-use Rattle.gql_scope.specs.Machinery.First.{first}
+use Rattle.gql_expr_checks.specs.First.{first}
 use Rattle.gql_norm.specs.Bounds.{bounds_in, bounds_in_selector}
 use Rattle.gql_norm.specs.NormalForm.{normal_path, parts_of}
 use Rattle.gql_degrees.specs.FirstFaults.{at_most_largest}

@@ -6,9 +6,10 @@ use Rattle.gql_ast.specs.ClauseColumns.{ColumnList}
 use Rattle.gql_scope.specs.ColumnFaults.{faults_in_map}
 use Rattle.gql_ast.specs.InsertColumns.{Spots, with_variable}
 use Rattle.gql_scope.specs.Misuses.{misused_map}
-use Rattle.gql_scope.specs.StaticRefusals.{refusal_of_first, misuse_if}
+use Rattle.gql_expr_checks.specs.Refusals.{refusal_of_first, misuse_if}
 use Rattle.gql_scope.specs.UnknownNames.{misplaced, unknown_in_map}
-use Rattle.gql_scope.specs.UnsetParameters.{parameters_of_map, unset}
+use Rattle.gql_scope.specs.UnsetParameters.{parameters_of_map}
+use Rattle.gql_expr_checks.specs.ExprParameters.{unset}
 use Rattle.gql_ast.specs.Endpoints.{wrong_endpoint}
 use Rattle.gql_ast.specs.declared.change.Fill.{Fill}
 use Rattle.gql_ast.specs.declared.filler.MapItem.{MapItem}

@@ -1,8 +1,9 @@
 use Rattle.std.proofs.Common.{◌<◌, ◌+◌, ◌∙◌, ap, sym, length, drop, arith}
 use Rattle.std.specs.List.{list_any}
 use Rattle.gql_scope.specs.Misuses.{misused_set}
-use Rattle.gql_scope.specs.StaticRefusals.{misuse_if}
-use Rattle.gql_scope.proofs.RefusalLemmas.{gives_fault, drop_step, stops, misuse_in_two}
+use Rattle.gql_expr_checks.specs.Refusals.{misuse_if}
+use Rattle.gql_expr_checks.proofs.RefusalLemmas.{gives_fault, stops, misuse_in_two}
+use Rattle.gql_expr_checks.proofs.DropLemmas.{drop_step}
 use Rattle.gql_scope.proofs.change_misuses.check_set.Goals as goal
 
 pub returns-in_err-check_set_item : goal.returns-in_err-check_set_item

@@ -1,7 +1,7 @@
 use Rattle.std.proofs.Common.{◌≡◌, drop}
 use Rattle.std.specs.List.{list_any}
 use Rattle.gql_scope.specs.Misuses.{misused_set}
-use Rattle.gql_scope.specs.StaticRefusals.{misuse_if}
+use Rattle.gql_expr_checks.specs.Refusals.{misuse_if}
 use Rattle.gql_scope.proofs.change_misuses.check_set.Given as goal
 
 abbrev pub invariant-loop-item : goal.invariant-loop-item

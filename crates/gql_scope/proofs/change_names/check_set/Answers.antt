@@ -1,9 +1,10 @@
 use Rattle.std.proofs.Common.{◌<◌, ◌+◌, ◌∙◌, ap, sym, length, drop, arith}
 use Rattle.std.specs.List.{flat_map}
-use Rattle.gql_scope.specs.StaticRefusals.{refusal_of_first}
+use Rattle.gql_expr_checks.specs.Refusals.{refusal_of_first}
 use Rattle.gql_scope.specs.UnknownNames.{unknown_in_set}
 use Rattle.gql_ast.specs.declared.refusal.Refusal.TheVariants as refusal
-use Rattle.gql_scope.proofs.RefusalLemmas.{gives_fault, drop_step, stops, first_of_in_two}
+use Rattle.gql_expr_checks.proofs.RefusalLemmas.{gives_fault, stops, first_of_in_two}
+use Rattle.gql_expr_checks.proofs.DropLemmas.{drop_step}
 use Rattle.gql_scope.proofs.change_names.check_set.Goals as goal
 
 pub returns-in_err-check_set_item : goal.returns-in_err-check_set_item

@@ -1,6 +1,6 @@
 use Rattle.std.proofs.Common.{◌≡◌, drop}
 use Rattle.std.specs.List.{flat_map}
-use Rattle.gql_scope.specs.StaticRefusals.{refusal_of_first}
+use Rattle.gql_expr_checks.specs.Refusals.{refusal_of_first}
 use Rattle.gql_scope.specs.UnknownNames.{unknown_in_set}
 use Rattle.gql_ast.specs.declared.refusal.Refusal.TheVariants as refusal
 use Rattle.gql_scope.proofs.change_names.check_set.Given as goal

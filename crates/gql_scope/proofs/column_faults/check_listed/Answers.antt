@@ -1,11 +1,12 @@
 use Rattle.std.proofs.Common.{◌<◌, ◌+◌, ◌∷◌, [], ◌∙◌, ap, sym, length, drop, arith}
 use Rattle.gql_scope.specs.ColumnFaults.{faults_in_item, faults_in_list}
 use Rattle.gql_ast.specs.Outputs.{item_name}
-use Rattle.gql_scope.specs.StaticRefusals.{refusal_of_first}
+use Rattle.gql_expr_checks.specs.Refusals.{refusal_of_first}
 use Rattle.gql_ast.specs.declared.refusal.Refusal.TheVariants as refusal
-use Rattle.gql_scope.specs.Machinery.Seen.{seen_names}
-use Rattle.gql_scope.proofs.RefusalLemmas.{gives_fault, drop_step, stops, goes_on}
-use Rattle.gql_scope.proofs.SeenLemmas.{item_step}
+use Rattle.gql_expr_checks.specs.Machinery.Seen.{seen_names}
+use Rattle.gql_expr_checks.proofs.RefusalLemmas.{gives_fault, stops, goes_on}
+use Rattle.gql_expr_checks.proofs.DropLemmas.{drop_step}
+use Rattle.gql_scope.proofs.ProjectionLemmas.{item_step}
 use Rattle.gql_scope.proofs.column_faults.check_listed.Goals as goal
 
 pub returns-in_err-check_item : goal.returns-in_err-check_item

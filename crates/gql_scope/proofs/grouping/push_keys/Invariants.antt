@@ -3,7 +3,7 @@ use Rattle.gql_ast.specs.Meaning.{tree_of}
 use Rattle.gql_ast.specs.Outputs.{item_name}
 use Rattle.gql_ast.specs.Projections.{is_key}
 use Rattle.gql_ast.specs.declared.projection.ReturnItem.{ReturnItem}
-use Rattle.gql_scope.specs.Machinery.Seen.{names_of}
+use Rattle.gql_expr_checks.specs.Machinery.Seen.{names_of}
 use Rattle.gql_scope.proofs.grouping.push_keys.Given as goal
 
 abbrev pub invariant-loop-item : goal.invariant-loop-item

@@ -3,7 +3,7 @@ use Rattle.std.specs.List.{flat_map}
 use Rattle.gql_ast.specs.InsertColumns.{path_spots}
 use Rattle.gql_scope.specs.Machinery.Questions.{first_in_maps}
 use Rattle.gql_scope.proofs.MapLemmas.{maps_stop, maps_go_on}
-use Rattle.gql_scope.proofs.RefusalLemmas.{gives_fault}
+use Rattle.gql_expr_checks.proofs.RefusalLemmas.{gives_fault}
 use Rattle.gql_scope.proofs.insert_maps.check_maps.Goals as goal
 
 pub returns-in_err-check_path : goal.returns-in_err-check_path

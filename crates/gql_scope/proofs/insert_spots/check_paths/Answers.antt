@@ -2,7 +2,7 @@ use Rattle.std.proofs.Common.{◌<◌, ◌++◌, length, arith}
 use Rattle.std.specs.List.{flat_map}
 use Rattle.gql_ast.specs.InsertColumns.{path_spots}
 use Rattle.gql_scope.specs.Machinery.Questions.{first_in_spots}
-use Rattle.gql_scope.proofs.RefusalLemmas.{gives_fault}
+use Rattle.gql_expr_checks.proofs.RefusalLemmas.{gives_fault}
 use Rattle.gql_scope.proofs.SpotLemmas.{spots_stop, spots_go_on}
 use Rattle.gql_scope.proofs.insert_spots.check_paths.Goals as goal
 

@@ -1,7 +1,7 @@
 use Rattle.std.proofs.Common.{◌≡◌, drop}
 use Rattle.gql_ast.specs.ClauseColumns.{let_columns}
 use Rattle.gql_scope.specs.Misuses.{misused_let}
-use Rattle.gql_scope.specs.StaticRefusals.{misuse_if}
+use Rattle.gql_expr_checks.specs.Refusals.{misuse_if}
 use Rattle.gql_scope.proofs.misused_clauses.check_let.Given as goal
 
 abbrev pub invariant-loop-item : goal.invariant-loop-item

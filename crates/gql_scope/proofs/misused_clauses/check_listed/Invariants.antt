@@ -1,7 +1,7 @@
 use Rattle.std.proofs.Common.{◌≡◌, drop}
 use Rattle.std.specs.List.{list_any}
-use Rattle.gql_scope.specs.StaticRefusals.{misuse_if}
-use Rattle.gql_scope.specs.Misuses.{misused_expr, item}
+use Rattle.gql_expr_checks.specs.Refusals.{misuse_if}
+use Rattle.gql_expr_checks.specs.ExprMisuses.{misused_expr, item}
 use Rattle.gql_ast.specs.declared.projection.ReturnItem.{ReturnItem}
 use Rattle.gql_scope.proofs.misused_clauses.check_listed.Given as goal
 

@@ -3,9 +3,9 @@ use Rattle.gql_ast.specs.ClauseColumns.{ColumnList}
 use Rattle.gql_ast.specs.Projections.{columns_behind}
 use Rattle.gql_ast.specs.declared.clause.Clause.{Clause}
 use Rattle.gql_ast.specs.declared.refusal.Refusal.{Refusal}
-use Rattle.gql_scope.specs.StaticRefusals.{misuse_if}
+use Rattle.gql_expr_checks.specs.Refusals.{misuse_if}
 use Rattle.gql_scope.specs.Misuses.{misused_clause, misused_clauses}
-use Rattle.gql_scope.proofs.RefusalLemmas.{misuse_in_two, gives_fault}
+use Rattle.gql_expr_checks.proofs.RefusalLemmas.{misuse_in_two, gives_fault}
 use Rattle.gql_scope.proofs.WalkLemmas.{Walk, walk_goes_on, walk_stops}
 use Rattle.gql_scope.proofs.misused_clauses.misused_clauses.Goals as goal
 

@@ -1,6 +1,6 @@
 use Rattle.std.proofs.Common.{◌≡◌, [], drop}
 use Rattle.gql_scope.specs.Misuses.{misused_clauses}
-use Rattle.gql_scope.specs.StaticRefusals.{misuse_if}
+use Rattle.gql_expr_checks.specs.Refusals.{misuse_if}
 use Rattle.gql_scope.proofs.misused_clauses.misused_clauses.Given as goal
 
 abbrev pub invariant-loop-i : goal.invariant-loop-i

@@ -1,7 +1,7 @@
 use Rattle.std.proofs.Common.{◌∙◌, ap, sym, not}
 use Rattle.std.specs.List.{list_any}
 use Rattle.gql_ast.specs.Projections.{is_key, output_trees}
-use Rattle.gql_scope.proofs.RefusalLemmas.{names_are_keys}
+use Rattle.gql_scope.proofs.ProjectionLemmas.{names_are_keys}
 use Rattle.gql_scope.proofs.outputs.any_aggregates.Goals as goal
 
 pub returns-in-All : goal.returns-in-All

@@ -1,10 +1,12 @@
 use Rattle.std.proofs.Common.{◌<◌, ◌+◌, ◌++◌, ◌∷◌, [], ◌∙◌, ap, sym, length, drop, arith}
 use Rattle.gql_ast.specs.Meaning.{tree_of}
 use Rattle.gql_ast.specs.Outputs.{kind_of}
-use Rattle.gql_scope.specs.StaticRefusals.{refusal_of_first}
-use Rattle.gql_scope.specs.UnknownNames.{taken, unknown_in_expr, unknown_in_let}
+use Rattle.gql_expr_checks.specs.Refusals.{refusal_of_first}
+use Rattle.gql_scope.specs.UnknownNames.{taken, unknown_in_let}
+use Rattle.gql_expr_checks.specs.ExprNames.{unknown_in_expr}
 use Rattle.gql_ast.specs.declared.refusal.Refusal.TheVariants as refusal
-use Rattle.gql_scope.proofs.RefusalLemmas.{gives_fault, drop_step, stops}
+use Rattle.gql_expr_checks.proofs.RefusalLemmas.{gives_fault, stops}
+use Rattle.gql_expr_checks.proofs.DropLemmas.{drop_step}
 use Rattle.gql_scope.proofs.LetLemmas.{unknown_in_let-item}
 use Rattle.gql_scope.proofs.unknown_names.check_let.Goals as goal
 

@@ -1,5 +1,5 @@
 use Rattle.std.proofs.Common.{◌≡◌, [], drop}
-use Rattle.gql_scope.specs.StaticRefusals.{refusal_of_first}
+use Rattle.gql_expr_checks.specs.Refusals.{refusal_of_first}
 use Rattle.gql_scope.specs.UnknownNames.{unknown_in_clauses}
 use Rattle.gql_ast.specs.declared.refusal.Refusal.TheVariants as refusal
 use Rattle.gql_scope.proofs.unknown_names.unknown_names.Given as goal

@@ -1,7 +1,7 @@
 use Rattle.std.proofs.Common.{◌≡◌, drop}
 use Rattle.std.specs.List.{flat_map}
-use Rattle.gql_scope.specs.StaticRefusals.{refusal_of_first}
-use Rattle.gql_scope.specs.UnsetParameters.{unset, parameters_of}
+use Rattle.gql_expr_checks.specs.Refusals.{refusal_of_first}
+use Rattle.gql_expr_checks.specs.ExprParameters.{unset, parameters_of}
 use Rattle.gql_ast.specs.declared.refusal.Refusal.TheVariants as refusal
 use Rattle.gql_ast.specs.declared.projection.ReturnItem.{ReturnItem}
 use Rattle.gql_scope.proofs.unset_parameters.check_listed.Given as goal

@@ -1,9 +1,11 @@
 use Rattle.std.proofs.Common.{◌<◌, ◌+◌, ◌∙◌, ap, sym, length, drop, arith}
 use Rattle.std.specs.List.{flat_map}
-use Rattle.gql_scope.specs.StaticRefusals.{refusal_of_first}
-use Rattle.gql_scope.specs.UnsetParameters.{unset, parameters_of_clause}
+use Rattle.gql_expr_checks.specs.Refusals.{refusal_of_first}
+use Rattle.gql_expr_checks.specs.ExprParameters.{unset}
+use Rattle.gql_scope.specs.UnsetParameters.{parameters_of_clause}
 use Rattle.gql_ast.specs.declared.refusal.Refusal.TheVariants as refusal
-use Rattle.gql_scope.proofs.RefusalLemmas.{gives_fault, drop_step, stops, goes_on, unset_of_two}
+use Rattle.gql_expr_checks.proofs.RefusalLemmas.{gives_fault, stops, goes_on, unset_of_two}
+use Rattle.gql_expr_checks.proofs.DropLemmas.{drop_step}
 use Rattle.gql_scope.proofs.unset_parameters.unset_parameters.Goals as goal
 
 pub returns-in_err-check_clause : goal.returns-in_err-check_clause

@@ -1,7 +1,8 @@
 use Rattle.std.proofs.Common.{◌≡◌, drop}
 use Rattle.std.specs.List.{flat_map}
-use Rattle.gql_scope.specs.StaticRefusals.{refusal_of_first}
-use Rattle.gql_scope.specs.UnsetParameters.{unset, parameters_of_clause}
+use Rattle.gql_expr_checks.specs.Refusals.{refusal_of_first}
+use Rattle.gql_expr_checks.specs.ExprParameters.{unset}
+use Rattle.gql_scope.specs.UnsetParameters.{parameters_of_clause}
 use Rattle.gql_ast.specs.declared.refusal.Refusal.TheVariants as refusal
 use Rattle.gql_scope.proofs.unset_parameters.unset_parameters.Given as goal
 

@@ -4,9 +4,9 @@ use Rattle.gql_ast.specs.Projections.{columns_behind}
 use Rattle.gql_ast.specs.declared.clause.Clause.{Clause}
 use Rattle.gql_ast.specs.declared.refusal.Refusal.{Refusal}
 use Rattle.gql_ast.specs.declared.refusal.Refusal.TheVariants as refusal
-use Rattle.gql_scope.specs.StaticRefusals.{refusal_of_first}
+use Rattle.gql_expr_checks.specs.Refusals.{refusal_of_first}
 use Rattle.gql_scope.specs.WrongKinds.{wrong_in_clause, wrong_in_clauses}
-use Rattle.gql_scope.proofs.RefusalLemmas.{first_of_in_two, gives_fault}
+use Rattle.gql_expr_checks.proofs.RefusalLemmas.{first_of_in_two, gives_fault}
 use Rattle.gql_scope.proofs.WalkLemmas.{Walk, walk_goes_on, walk_stops}
 use Rattle.gql_scope.proofs.wrong_kinds.wrong_kinds.Goals as goal
 

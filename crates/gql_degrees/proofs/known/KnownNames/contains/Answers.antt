@@ -1,6 +1,6 @@
 use Rattle.std.proofs.Common.{◌∙◌, ap, is_some}
 use Rattle.gql_ast.specs.ClauseColumns.{is_column}
-use Rattle.gql_scope.proofs.KnowingLemmas.{is_some-first_kind}
+use Rattle.gql_expr_checks.proofs.KnowingLemmas.{is_some-first_kind}
 use Rattle.gql_degrees.proofs.known.KnownNames.contains.Goals as goal
 
 pub returns : goal.returns

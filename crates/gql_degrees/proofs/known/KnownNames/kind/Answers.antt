@@ -1,6 +1,6 @@
 use Rattle.std.proofs.Common.{◌∙◌, ap, sym}
 use Rattle.std.specs.Option.{option_copied}
-use Rattle.gql_scope.specs.Machinery.Knowing.{first_kind}
+use Rattle.gql_expr_checks.specs.Machinery.Knowing.{first_kind}
 use Rattle.gql_degrees.proofs.known.KnownNames.kind.Goals as goal
 
 pub returns-in-Some : goal.returns-in-Some

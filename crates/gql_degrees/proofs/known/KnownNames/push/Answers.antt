@@ -4,7 +4,7 @@ use Rattle.std.specs.Map.{lookup}
 use Rattle.std.specs.Str.{bytes_eq}
 use Rattle.std.specs.String.{string_bytes}
 use Rattle.std.proofs.lemmas.Map.Text.{hash_map_updates_text}
-use Rattle.gql_scope.proofs.KnowingLemmas.{knows_inserted, knows_repeated}
+use Rattle.gql_expr_checks.proofs.KnowingLemmas.{knows_inserted, knows_repeated}
 use Rattle.gql_degrees.proofs.known.KnownNames.push.Goals as goal
 
 pub invariant_of-self-then-not-contains_key : goal.invariant_of-self-then-not-contains_key

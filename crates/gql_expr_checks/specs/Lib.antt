@@ -1,0 +1,9 @@
+pub mod First
+pub mod Refusals
+pub mod Gives
+pub mod ExprNames
+pub mod ExprMisuses
+pub mod NamesOutside
+pub mod Repeated
+pub mod ExprParameters
+pub mod Machinery
