@@ -13,4 +13,6 @@ pub mod StableSort
 pub mod EachSteps
 pub mod RowFits
 pub mod TurnedLemmas
+pub mod TopLemmas
+pub mod SideLemmas
 pub mod ProgramLemmas

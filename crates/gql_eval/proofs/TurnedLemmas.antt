@@ -16,3 +16,8 @@ pub turned_step : {A B : Type 0} (f : A → B) (xs : List A) (i : ℕ) (x : A) �
 turned_step f [] i x h p = absurd (omega arith)
 turned_step f (y ∷ xs) zero x h p = ap (λ z. f z ∷ []) (sym p)
 turned_step f (y ∷ xs) (suc i) x h p = ap (λ ys. ys ++ f y ∷ []) (turned_step f xs i x (omega arith) p)
+
+pub turned_more : {A B : Type 0} (f : A → B) (xs : List A) (i : ℕ) → i < length xs → (y : B) × (turned f (take (suc i) xs) ≡ y ∷ turned f (take i xs))
+turned_more f [] i h = absurd (omega arith)
+turned_more f (x ∷ xs) zero h = (f x, refl)
+turned_more f (x ∷ xs) (suc i) h = let more = turned_more f xs i (omega arith) in (more.0, ap (λ ys. ys ++ f x ∷ []) more.1)

@@ -1,11 +1,11 @@
 //! From an expression to its program.
 
-ghost use Rattle.std.specs.Prelude.{◌≡◌, ◌∷◌, ◌++◌, map, OnOk};
+ghost use Rattle.std.specs.Prelude.{◌≡◌, [], ◌∷◌, ◌++◌, map, OnOk};
 ghost use Rattle.gql_ast.specs.Tree.{links_of};
 ghost use Rattle.gql_ast.specs.Meaning.{tree_of, link_of};
 ghost use Rattle.gql_eval.specs.CowValue.{cow_datum};
 ghost use Rattle.gql_eval.specs.Machinery.Places.{place_among};
-ghost use Rattle.gql_eval.specs.Machinery.Program.{compiled, compiled_chain, of_one, of_two};
+ghost use Rattle.gql_eval.specs.Machinery.Program.{compiled, compiled_chain, compiled_all, compiled_any, any_side, is_xor, as_truth, join_any, of_one, of_two};
 ghost use Rattle.gql_eval.specs.Machinery.ScopeMeaning.{columns_of};
 ghost use Rattle.gql_eval.specs.Machinery.InstructionMeaning.{op_of, program_of};
 
@@ -13,7 +13,7 @@ use crate::cow::CowValue;
 use crate::instruction::Instruction;
 use crate::leaves::{number_within, parameter};
 use crate::scope::Header;
-use gql_ast::{Expr, Step};
+use gql_ast::{Expr, Operator, Step};
 use gql_values3::{ColumnKind, OutOfMemory, Params, Text, Value};
 
 // A program is made and kept from its last step on.
@@ -45,11 +45,10 @@ pub fn compile<'a>(
             Instruction::Property(place_in(header, name), name, key),
         ),
         Expr::Paren(part) => compile(header, params, part.expr(), program),
-        Expr::List(_)
-        | Expr::Aggregate(_, _, _)
-        | Expr::Coalesce(_, _)
-        | Expr::And(_, _)
-        | Expr::Or(_, _) => put(program, Instruction::Whole(expr)),
+        Expr::List(_) | Expr::Aggregate(_, _, _) | Expr::Coalesce(_, _) => put(
+            program,
+            Instruction::Whole(expr),
+        ),
         Expr::Call(_, part)
         | Expr::Signed(_, part)
         | Expr::Is(part, _, _)
@@ -61,6 +60,14 @@ pub fn compile<'a>(
         }
         Expr::Product(first, steps) | Expr::Sum(first, steps) => {
             chain(header, params, first.expr(), steps.as_slice(), program)
+        }
+        Expr::And(first, steps) => {
+            all_sides(header, params, steps.as_slice(), program)?;
+            put_truth(header, params, first.expr(), program)
+        }
+        Expr::Or(first, steps) => {
+            any_sides(header, params, steps.as_slice(), program)?;
+            put_truth(header, params, first.expr(), program)
         }
     }
 }
@@ -145,4 +152,89 @@ fn chain<'a>(
         compile(header, params, &step.operand, program)?;
     }
     compile(header, params, first, program)
+}
+
+/// Puts the steps of a side that is read as a truth.
+#[inline(never)]
+#[cycle(compiling)]
+fn put_truth<'a>(
+    header: Header<'a>,
+    params: &'a Params,
+    side: &'a Expr,
+    program: &mut Vec<Instruction<'a>>,
+) -> Result<(), OutOfMemory>
+    ensures { OnOk result (program_of program.new.items ≡ compiled (columns_of header.entry) params.now (tree_of side.now) ++ as_truth ∷ program_of program.old.items) }
+{
+    put(program, Instruction::AsTruth)?;
+    compile(header, params, side, program)
+}
+
+/// Puts the steps of the sides of AND behind the first.
+#[inline(never)]
+#[cycle(compiling)]
+fn all_sides<'a>(
+    header: Header<'a>,
+    params: &'a Params,
+    steps: &'a [Step],
+    program: &mut Vec<Instruction<'a>>,
+) -> Result<(), OutOfMemory>
+    ensures { OnOk result (program_of program.new.items ≡ compiled_all (columns_of header.entry) params.now (links_of (map link_of steps.now)) ++ program_of program.old.items) }
+{
+    let behind = program.len();
+    for i in (0..steps.len()).rev() {
+        let step = &steps[i];
+        put(program, Instruction::JoinAll)?;
+        compile(header, params, &step.operand, program)?;
+        let count = program.len() - behind;
+        put(program, Instruction::SkipIf(false, count))?;
+    }
+    Ok(())
+}
+
+/// Puts the steps of the sides of OR and XOR behind the first.
+#[inline(never)]
+#[cycle(compiling)]
+fn any_sides<'a>(
+    header: Header<'a>,
+    params: &'a Params,
+    steps: &'a [Step],
+    program: &mut Vec<Instruction<'a>>,
+) -> Result<(), OutOfMemory>
+    ensures { OnOk result (program_of program.new.items ≡ compiled_any (columns_of header.entry) params.now (links_of (map link_of steps.now)) ++ program_of program.old.items) }
+{
+    for i in (0..steps.len()).rev() {
+        let step = &steps[i];
+        put_any_side(header, params, step.operator, &step.operand, program)?;
+    }
+    Ok(())
+}
+
+/// Puts the steps of a side of OR or XOR.
+#[inline(never)]
+#[cycle(compiling)]
+fn put_any_side<'a>(
+    header: Header<'a>,
+    params: &'a Params,
+    operator: Operator,
+    side: &'a Expr,
+    program: &mut Vec<Instruction<'a>>,
+) -> Result<(), OutOfMemory>
+    ensures { OnOk result (program_of program.new.items ≡ any_side operator (compiled (columns_of header.entry) params.now (tree_of side.now) ++ join_any operator ∷ []) ++ program_of program.old.items) }
+{
+    let behind = program.len();
+    put(program, Instruction::JoinAny(operator))?;
+    compile(header, params, side, program)?;
+    if is_xor(operator) {
+        return Ok(());
+    }
+    let count = program.len() - behind;
+    put(program, Instruction::SkipIf(true, count))?;
+    Ok(())
+}
+
+/// Whether the operator is XOR, which skips no side.
+fn is_xor(operator: Operator) -> bool
+    ensures { result ≡ is_xor operator }
+{
+    operator == Operator::Xor
 }

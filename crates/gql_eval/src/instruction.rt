@@ -19,6 +19,14 @@ pub enum Instruction<'a> {
     OfTwo(&'a Expr),
     /// Joins the two on top by the operator of a sum or a product.
     JoinSide(Operator),
+    /// Reads the top as a truth.
+    AsTruth,
+    /// Joins the two on top by AND.
+    JoinAll,
+    /// Joins the two on top by OR or XOR.
+    JoinAny(Operator),
+    /// Skips so many of the steps behind it where the boolean stands on top.
+    SkipIf(bool, usize),
     /// Puts the value of the expression.
     Whole(&'a Expr),
 }

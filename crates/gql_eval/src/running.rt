@@ -2,16 +2,18 @@
 
 ghost use Rattle.std.specs.Prelude.{◌≡◌, ◌∷◌, [], Ok};
 ghost use Rattle.gql_values3.specs.Meaning.{datum_of};
+ghost use Rattle.gql_values3.specs.Truth.{both};
 ghost use Rattle.gql_ast.specs.Meaning.{tree_of};
 ghost use Rattle.gql_ast.specs.Evaluation.{value_of};
 ghost use Rattle.gql_ast.specs.ElementTests.{property_value};
 ghost use Rattle.gql_ast.specs.Operators.{operated};
 ghost use Rattle.gql_eval.specs.CowValue.{cow_datum};
 ghost use Rattle.gql_eval.specs.Gives.{Gives};
+ghost use Rattle.gql_eval.specs.Machinery.JoinedTruth.{joined_truth};
 ghost use Rattle.gql_eval.specs.Machinery.InstructionMeaning.{op_of, program_of};
 ghost use Rattle.gql_eval.specs.Machinery.Next.{next};
 ghost use Rattle.gql_eval.specs.Machinery.Operations.{of_operand, of_operands};
-ghost use Rattle.gql_eval.specs.Machinery.Program.{acted, compiled, ran, top_of, pushed, on_one, on_two, held_at};
+ghost use Rattle.gql_eval.specs.Machinery.Program.{acted, compiled, ran, top_of, pushed, on_one, on_two, read_truth, join_by, skipped, held_at};
 ghost use Rattle.gql_eval.specs.Machinery.ScopeMeaning.{columns_of, scope_of};
 
 use crate::cow::CowValue;
@@ -23,8 +25,9 @@ use crate::operations::{binary_value, operation_value};
 use crate::operators::operate;
 use crate::scope::{Scope, held_at};
 use crate::stack::{Held, Stack};
+use crate::truths::{join_truths, truth_of_value, truth_value};
 use gql_ast::{DataFault, Expr, Operator};
-use gql_values3::{Params, Text, View};
+use gql_values3::{Params, Text, View, and3};
 use std::alloc::Global;
 
 /// The value of the expression that a program was made of, or its first fault.
@@ -123,11 +126,25 @@ fn run_on<'r, V: View>(
 ) -> Result<(), EvalError>
     ensures { Gives (λ _. stack.new) result (ran (V.graph view.now) params.now scope.now (program_of program.now) stack.old) }
 {
-    for i in (0..program.len()).rev() {
-        let instruction = &program[i];
+    let mut left = program.len();
+    while left > 0 {
+        let at = left - 1;
+        let instruction = &program[at];
+        let count = skipped(instruction, stack);
         act(alloc, view, scope, params, instruction, stack)?;
+        left = at.saturating_sub(count);
     }
     Ok(())
+}
+
+/// How many steps behind this one are skipped.
+fn skipped(instruction: &Instruction, stack: &Stack) -> usize
+    ensures { result ≡ skipped (op_of instruction.now) stack.now }
+{
+    match instruction {
+        Instruction::SkipIf(wanted, count) => { if stack.has_on_top(*wanted) { *count } else { 0 } }
+        _ => 0,
+    }
 }
 
 /// Does one step.
@@ -150,6 +167,10 @@ fn act<'r, V: View>(
         Instruction::OfOne(expr) => on_top(alloc, view, scope, *expr, stack),
         Instruction::OfTwo(expr) => on_both(*expr, stack),
         Instruction::JoinSide(operator) => join_side(alloc, *operator, stack),
+        Instruction::AsTruth => read_top(stack),
+        Instruction::JoinAll => join_all(stack),
+        Instruction::JoinAny(operator) => join_any(*operator, stack),
+        Instruction::SkipIf(_, _) => Ok(()),
         Instruction::Whole(expr) => put_whole(alloc, view, scope, params, *expr, stack),
     }
 }
@@ -253,4 +274,48 @@ fn join_side<'r>(alloc: Global, operator: Operator, stack: &mut Stack<'r>) -> Re
     let (a, is_within) = a.into_parts();
     let value = operate(alloc, operator, a, is_within, b.value())?;
     Ok(stack.push(Held::within(value, operator == Operator::Concatenate))?)
+}
+
+/// Reads the top as a truth.
+fn read_top<'r>(stack: &mut Stack<'r>) -> Result<(), EvalError>
+    ensures { Gives (λ _. stack.new) result (on_one stack.old read_truth) }
+{
+    let Some(value) = stack.pop() else {
+        return Err(EvalError::Fault(DataFault::WrongKind));
+    };
+    let truth = truth_of_value(value.value())?;
+    put(stack, CowValue::Owned(truth_value(truth)))
+}
+
+/// Joins the two on top by AND.
+fn join_all<'r>(stack: &mut Stack<'r>) -> Result<(), EvalError>
+    ensures { Gives (λ _. stack.new) result (on_two stack.old (join_by both)) }
+{
+    let Some(b) = stack.pop() else {
+        return Err(EvalError::Fault(DataFault::WrongKind));
+    };
+    let Some(a) = stack.pop() else {
+        return Err(EvalError::Fault(DataFault::WrongKind));
+    };
+    let truth = truth_of_value(a.value())?;
+    let side = truth_of_value(b.value())?;
+    put(stack, CowValue::Owned(truth_value(and3(truth, side))))
+}
+
+/// Joins the two on top by OR or XOR.
+fn join_any<'r>(operator: Operator, stack: &mut Stack<'r>) -> Result<(), EvalError>
+    ensures { Gives (λ _. stack.new) result (on_two stack.old (join_by (joined_truth operator))) }
+{
+    let Some(b) = stack.pop() else {
+        return Err(EvalError::Fault(DataFault::WrongKind));
+    };
+    let Some(a) = stack.pop() else {
+        return Err(EvalError::Fault(DataFault::WrongKind));
+    };
+    let truth = truth_of_value(a.value())?;
+    let side = truth_of_value(b.value())?;
+    put(
+        stack,
+        CowValue::Owned(truth_value(join_truths(operator, truth, side))),
+    )
 }

@@ -4,6 +4,7 @@ ghost use Rattle.std.specs.Prelude.{◌≡◌, [], ◌∷◌, true, nat_le, OnOk
 ghost use Rattle.gql_values3.specs.Nesting.{depth};
 ghost use Rattle.gql_values3.specs.Meaning.{datum_of};
 ghost use Rattle.gql_eval.specs.CowValue.{cow_datum};
+ghost use Rattle.gql_eval.specs.Machinery.Program.{is_boolean, has_on_top};
 
 use crate::cow::CowValue;
 use gql_values3::{OutOfMemory, Value};
@@ -115,5 +116,27 @@ impl<'a> Stack<'a> {
         ensures { MatchOption result (self.old ≡ []) (λ held. self.old ≡ held ∷ self.new) }
     {
         self.items.pop()
+    }
+
+    /// Whether the boolean stands on top.
+    #[tactic(auto, using(crate::proofs::TurnedLemmas::turned_last))]
+    pub fn has_on_top(&self, wanted: bool) -> bool
+        ensures { result ≡ has_on_top wanted self.now }
+    {
+        match self.items.last() {
+            Some(held) => is_boolean(held.value(), wanted),
+            None => false,
+        }
+    }
+}
+
+/// Whether the value is this boolean.
+fn is_boolean(value: &Value, wanted: bool) -> bool
+    ensures { result ≡ is_boolean wanted (datum_of value.now) }
+{
+    match (value, wanted) {
+        (Value::Bool(true), true) => true,
+        (Value::Bool(false), false) => true,
+        _ => false,
     }
 }

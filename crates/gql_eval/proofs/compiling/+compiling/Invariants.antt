@@ -2,7 +2,7 @@ use Rattle.std.proofs.Common.{◌≡◌, ◌++◌, ◌+◌, ◌*◌, max, map}
 use Rattle.gql_ast.specs.Meaning.{tree_of, link_of}
 use Rattle.gql_ast.specs.Machinery.Height.{height_of, highest_link}
 use Rattle.gql_eval.specs.Machinery.InstructionMeaning.{program_of}
-use Rattle.gql_eval.specs.Machinery.Program.{compiled_chain}
+use Rattle.gql_eval.specs.Machinery.Program.{compiled_chain, compiled_all, compiled_any}
 use Rattle.gql_eval.specs.Machinery.ScopeMeaning.{columns_of}
 use Rattle.gql_eval.proofs.PartLemmas.{sides_from}
 use Rattle.gql_eval.proofs.compiling.+compiling.Given as goal
@@ -19,5 +19,23 @@ decreases-binary l = 4 * max (height_of (tree_of l.a.now)) (height_of (tree_of l
 abbrev pub decreases-chain : goal.decreases-chain
 decreases-chain l = 4 * max (height_of (tree_of l.first.now)) (highest_link (map link_of l.steps.now)) + 1
 
+abbrev pub decreases-put_truth : goal.decreases-put_truth
+decreases-put_truth l = 4 * height_of (tree_of l.side.now) + 1
+
+abbrev pub decreases-all_sides : goal.decreases-all_sides
+decreases-all_sides l = 4 * highest_link (map link_of l.steps.now) + 1
+
+abbrev pub decreases-any_sides : goal.decreases-any_sides
+decreases-any_sides l = 4 * highest_link (map link_of l.steps.now) + 1
+
+abbrev pub decreases-put_any_side : goal.decreases-put_any_side
+decreases-put_any_side l = 4 * height_of (tree_of l.side.now) + 1
+
 abbrev pub invariant-chain-loop-i : goal.invariant-chain-loop-i
 invariant-chain-loop-i l = program_of l.program.items ≡ compiled_chain (columns_of l.fn.header) l.params (sides_from l.steps l.i) ++ program_of l.fn.program.items
+
+abbrev pub invariant-all_sides-loop-i : goal.invariant-all_sides-loop-i
+invariant-all_sides-loop-i l = program_of l.program.items ≡ compiled_all (columns_of l.fn.header) l.params (sides_from l.steps l.i) ++ program_of l.fn.program.items
+
+abbrev pub invariant-any_sides-loop-i : goal.invariant-any_sides-loop-i
+invariant-any_sides-loop-i l = program_of l.program.items ≡ compiled_any (columns_of l.fn.header) l.params (sides_from l.steps l.i) ++ program_of l.fn.program.items
