@@ -10,6 +10,7 @@ pub mod FillingLemmas
 pub mod StoringLemmas
 pub mod GraphGrowth
 pub mod NamedPlaces
+pub mod InRowLemmas
 pub mod InsertLemmas
 pub mod InsertSteps
 pub mod InsertValues

@@ -4,10 +4,13 @@ pub mod Building
 pub mod BuildingState
 pub mod DeletionSteps
 pub mod Endpoints
+pub mod InRow
 pub mod InsertByPlaces
 pub mod Makes
 pub mod Noting
 pub mod Places
+pub mod PreparedItems
+pub mod PreparedSpots
 pub mod Rising
 pub mod Roles
 pub mod Swaps

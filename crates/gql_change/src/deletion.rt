@@ -5,30 +5,29 @@ ghost use Rattle.gql_change.specs.Changing.{changed_by_deletion};
 ghost use Rattle.gql_change.specs.Machinery.DeletionSteps.{Deletes, outs, edge_out, node_out};
 ghost use Rattle.gql_change.specs.Plans.{Plans};
 
+use crate::basis::Basis;
 use crate::deleted_numbers::{deleted_edges, deleted_nodes};
 use crate::fault::ChangeFault;
 use crate::leftover::refusal_of;
 use crate::naming::named_elements;
 use gql_ast::Detachment;
 use gql_graph::{Change, Changes};
-use gql_values3::{Columns, EdgeId, Elem, NodeId, OutOfMemory, Rows, Text, View};
+use gql_values3::{EdgeId, Elem, NodeId, OutOfMemory, Rows, Text, View};
 use std::alloc::Global;
 
 /// The changes of a deletion: the named nodes and edges of all rows go together, with DETACH also the edges that touch
 /// these nodes. NULL and what was deleted before is skipped. E20 where an edge that stays touches a node that goes: it
 /// names the least such node, and the least such edge on it.
 pub fn plan_delete<V: View>(
-    alloc: Global,
-    view: &V,
-    columns: &Columns,
+    basis: &Basis<V>,
     rows: &Rows,
     detachment: Detachment,
     names: &[Text],
 ) -> Result<Changes, ChangeFault>
-    ensures { Plans (λ c. (c, rows.now)) (V.graph view.now) result (changed_by_deletion (V.graph view.now) [] columns.now rows.now detachment names.now) }
+    ensures { Plans (λ c. (c, rows.now)) (V.graph basis.now.view.now) result (changed_by_deletion (V.graph basis.now.view.now) [] basis.now.columns.now rows.now detachment names.now) }
 {
-    let named = named_elements(alloc, columns, rows, names)?;
-    plan_of_named(alloc, view, named.as_slice(), detachment)
+    let named = named_elements(basis.alloc, basis.columns, rows, names)?;
+    plan_of_named(basis.alloc, basis.view, named.as_slice(), detachment)
 }
 
 fn plan_of_named<V: View>(

@@ -39,7 +39,7 @@ fn column_places(
 }
 
 /// The place of the first column of a name, from 0.
-fn column_place(columns: &[(Text, ColumnKind)], name: &str) -> Option<usize>
+pub fn column_place(columns: &[(Text, ColumnKind)], name: &str) -> Option<usize>
     ensures { result ≡ column_place columns.now name.now }
 {
     columns.iter().position(|c| name == c.0.as_str())

@@ -10,6 +10,7 @@ ghost use Rattle.gql_change.specs.Changing.{change_of, changed_by_insert, has_en
 ghost use Rattle.gql_change.specs.Machinery.Roles.{question_of, questions};
 ghost use Rattle.gql_change.specs.Plans.{Plans};
 
+use crate::basis::Basis;
 use crate::columns::copy_columns;
 use crate::deletion::plan_delete;
 use crate::fault::ChangeFault;
@@ -49,22 +50,25 @@ pub fn plan<V: View>(
     ensures columns { IfOk result (λ p. p.columns ≡ change_columns columns.now clause.now) }
     ensures fit { IsTrue (rows_fit columns.now rows) → IfOk result (λ p. IsTrue (rows_fit p.columns p.rows)) }
 {
-    plan_clause(alloc, view, columns, rows, params, clause)
+    let basis = Basis {
+        alloc,
+        view,
+        columns,
+        params,
+    };
+    plan_clause(&basis, rows, clause)
 }
 
-fn plan_clause<V: View>(
-    alloc: Global,
-    view: &V,
-    columns: &Columns,
+fn plan_clause<'a, V: View>(
+    basis: &Basis<'a, V>,
     rows: Rows,
-    params: &Params,
-    clause: &ChangeClause,
+    clause: &'a ChangeClause,
 ) -> Result<Planned, ChangeFault>
-    ensures change { Plans (λ p. (p.list, p.rows)) (V.graph view.now) result (change_of (V.graph view.now) params.now columns.now rows clause.now) }
-    ensures columns { IfOk result (λ p. p.columns ≡ change_columns columns.now clause.now) }
+    ensures change { Plans (λ p. (p.list, p.rows)) (V.graph basis.now.view.now) result (change_of (V.graph basis.now.view.now) basis.now.params.now basis.now.columns.now rows clause.now) }
+    ensures columns { IfOk result (λ p. p.columns ≡ change_columns basis.now.columns.now clause.now) }
 {
-    let (changes, wider, rows) = changes_of(alloc, view, columns, rows, params, clause)?;
-    let list = ChangeList::of(alloc, changes)?;
+    let (changes, wider, rows) = changes_of(basis, rows, clause)?;
+    let list = ChangeList::of(basis.alloc, changes)?;
     Ok(Planned {
         list,
         columns: wider,
@@ -73,34 +77,29 @@ fn plan_clause<V: View>(
 }
 
 /// The changes of a clause, and the columns and rows behind it.
-fn changes_of<V: View>(
-    alloc: Global,
-    view: &V,
-    columns: &Columns,
+fn changes_of<'a, V: View>(
+    basis: &Basis<'a, V>,
     rows: Rows,
-    params: &Params,
-    clause: &ChangeClause,
+    clause: &'a ChangeClause,
 ) -> Result<(Changes, Columns, Rows), ChangeFault>
-    ensures change { Plans (λ p. (p.0, p.2)) (V.graph view.now) result (change_of (V.graph view.now) params.now columns.now rows clause.now) }
-    ensures columns { IfOk result (λ p. p.1 ≡ change_columns columns.now clause.now) }
+    ensures change { Plans (λ p. (p.0, p.2)) (V.graph basis.now.view.now) result (change_of (V.graph basis.now.view.now) basis.now.params.now basis.now.columns.now rows clause.now) }
+    ensures columns { IfOk result (λ p. p.1 ≡ change_columns basis.now.columns.now clause.now) }
 {
     match clause {
-        ChangeClause::Insert(paths) => {
-            insert(alloc, view, columns, rows, params, paths.as_slice())
-        }
+        ChangeClause::Insert(paths) => { insert(basis, rows, paths.as_slice()) }
         ChangeClause::Set(items) => {
-            let changes = plan_set(alloc, view, columns, &rows, params, items.as_slice())?;
-            let same = copy_columns(alloc, columns)?;
+            let changes = plan_set(basis, &rows, items.as_slice())?;
+            let same = copy_columns(basis.alloc, basis.columns)?;
             Ok((changes, same, rows))
         }
         ChangeClause::Remove(items) => {
-            let changes = plan_remove(alloc, view, columns, &rows, params, items.as_slice())?;
-            let same = copy_columns(alloc, columns)?;
+            let changes = plan_remove(basis, &rows, items.as_slice())?;
+            let same = copy_columns(basis.alloc, basis.columns)?;
             Ok((changes, same, rows))
         }
         ChangeClause::Delete(detachment, names) => {
-            let changes = plan_delete(alloc, view, columns, &rows, *detachment, names.as_slice())?;
-            let same = copy_columns(alloc, columns)?;
+            let changes = plan_delete(basis, &rows, *detachment, names.as_slice())?;
+            let same = copy_columns(basis.alloc, basis.columns)?;
             Ok((changes, same, rows))
         }
     }
@@ -108,51 +107,36 @@ fn changes_of<V: View>(
 
 /// The changes of an INSERT, its columns and its rows. Rows that aren't as wide as their columns, or an endpoint that is a
 /// column of another kind than a node's, are a wrong kind; no statement without a static refusal has them.
-fn insert<V: View>(
-    alloc: Global,
-    view: &V,
-    columns: &Columns,
+fn insert<'a, V: View>(
+    basis: &Basis<'a, V>,
     rows: Rows,
-    params: &Params,
-    paths: &[InsertPath],
+    paths: &'a [InsertPath],
 ) -> Result<(Changes, Columns, Rows), ChangeFault>
-    ensures change { Plans (λ p. (p.0, p.2)) (V.graph view.now) result (change_of (V.graph view.now) params.now columns.now rows (insert_clause paths.now)) }
-    ensures columns { IfOk result (λ p. p.1 ≡ change_columns columns.now (insert_clause paths.now)) }
+    ensures change { Plans (λ p. (p.0, p.2)) (V.graph basis.now.view.now) result (change_of (V.graph basis.now.view.now) basis.now.params.now basis.now.columns.now rows (insert_clause paths.now)) }
+    ensures columns { IfOk result (λ p. p.1 ≡ change_columns basis.now.columns.now (insert_clause paths.now)) }
 {
-    let Outline { names, fits, asked } = outline_of(alloc, columns, paths)?;
-    if have_endpoints(columns, rows.as_slice(), paths, fits) {
-        insert_outlined(
-            alloc,
-            view,
-            columns,
-            rows,
-            params,
-            paths,
-            names,
-            asked.as_slice(),
-        )
+    let Outline { names, fits, asked } = outline_of(basis.alloc, basis.columns, paths)?;
+    if have_endpoints(basis.columns, rows.as_slice(), paths, fits) {
+        insert_outlined(basis, rows, paths, names, asked.as_slice())
     } else {
         Err(ChangeFault::Refused(Refusal::Fault(DataFault::WrongKind)))
     }
 }
 
 /// The same where the guard of INSERT holds, with what its names tell.
-fn insert_outlined<V: View>(
-    alloc: Global,
-    view: &V,
-    columns: &Columns,
+fn insert_outlined<'a, V: View>(
+    basis: &Basis<'a, V>,
     rows: Rows,
-    params: &Params,
     paths: &[InsertPath],
     names: Names,
-    asked: &[SpotQuestion],
+    asked: &[SpotQuestion<'a>],
 ) -> Result<(Changes, Columns, Rows), ChangeFault>
-    requires guard { IsTrue (has_endpoints columns.now rows paths.now) }
-    requires asked { map question_of asked.now ≡ questions columns.now (insert_spots paths.now) }
-    ensures change { Plans (λ p. (p.0, p.2)) (V.graph view.now) result (changed_by_insert (V.graph view.now) params.now columns.now rows paths.now) }
+    requires guard { IsTrue (has_endpoints basis.now.columns.now rows paths.now) }
+    requires asked { map question_of asked.now ≡ questions basis.now.columns.now (insert_spots paths.now) }
+    ensures change { Plans (λ p. (p.0, p.2)) (V.graph basis.now.view.now) result (changed_by_insert (V.graph basis.now.view.now) basis.now.params.now basis.now.columns.now rows paths.now) }
     ensures columns { IfOk result (λ p. p.1 ≡ names) }
 {
-    let (changes, rows) = plan_insert(alloc, view, columns, rows, params, paths, asked)?;
+    let (changes, rows) = plan_insert(basis, rows, paths, asked)?;
     let wider = names.into_columns();
     Ok((changes, wider, rows))
 }

@@ -12,42 +12,37 @@ ghost use Rattle.gql_change.specs.Machinery.Swaps.{all_fit};
 use crate::assigned::assigned_changes;
 use crate::assigning::{remove_assignments, set_assignments};
 use crate::assignment::Assignment;
+use crate::basis::Basis;
 use crate::conflict::conflict_among;
 use crate::fault::ChangeFault;
 use gql_ast::{RemoveItem, SetItem};
 use gql_graph::Changes;
-use gql_values3::{Columns, Params, Rows, View};
+use gql_values3::{Rows, View};
 use std::alloc::Global;
 
 /// The changes of SET. All expressions are evaluated on the graph as it is, rows in order and items in the order of the
 /// text, and their first fault comes before a conflict. The rows stay.
 pub fn plan_set<V: View>(
-    alloc: Global,
-    view: &V,
-    columns: &Columns,
+    basis: &Basis<V>,
     rows: &Rows,
-    params: &Params,
     items: &[SetItem],
 ) -> Result<Changes, ChangeFault>
-    ensures { Plans (λ c. (c, rows.now)) (V.graph view.now) result (changed_by_assignments (V.graph view.now) params.now columns.now rows.now (set_assignments (V.graph view.now) params.now columns.now items.now rows.now)) }
+    ensures { Plans (λ c. (c, rows.now)) (V.graph basis.now.view.now) result (changed_by_assignments (V.graph basis.now.view.now) basis.now.params.now basis.now.columns.now rows.now (set_assignments (V.graph basis.now.view.now) basis.now.params.now basis.now.columns.now items.now rows.now)) }
 {
-    let assignments = set_assignments(alloc, view, columns, rows, params, items)?;
-    plan_assignments(alloc, view, assignments.into_vec())
+    let assignments = set_assignments(basis, rows, items)?;
+    plan_assignments(basis.alloc, basis.view, assignments.into_vec())
 }
 
 /// The changes of REMOVE, by the same rules.
 pub fn plan_remove<V: View>(
-    alloc: Global,
-    view: &V,
-    columns: &Columns,
+    basis: &Basis<V>,
     rows: &Rows,
-    params: &Params,
     items: &[RemoveItem],
 ) -> Result<Changes, ChangeFault>
-    ensures { Plans (λ c. (c, rows.now)) (V.graph view.now) result (changed_by_assignments (V.graph view.now) params.now columns.now rows.now (remove_assignments (V.graph view.now) params.now columns.now items.now rows.now)) }
+    ensures { Plans (λ c. (c, rows.now)) (V.graph basis.now.view.now) result (changed_by_assignments (V.graph basis.now.view.now) basis.now.params.now basis.now.columns.now rows.now (remove_assignments (V.graph basis.now.view.now) basis.now.params.now basis.now.columns.now items.now rows.now)) }
 {
-    let assignments = remove_assignments(alloc, view, columns, rows, params, items)?;
-    plan_assignments(alloc, view, assignments.into_vec())
+    let assignments = remove_assignments(basis, rows, items)?;
+    plan_assignments(basis.alloc, basis.view, assignments.into_vec())
 }
 
 /// The changes that make the assignments, unless two of them are in conflict. Whatever the rows are, they stay.

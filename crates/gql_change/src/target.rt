@@ -1,33 +1,28 @@
-//! The element under a name.
+//! The element at a place of a row.
 
 ghost use Rattle.gql_values3.specs.Meaning.{datum_of};
 ghost use Rattle.gql_ast.specs.ElementTests.{element_in};
-ghost use Rattle.gql_ast.specs.Scope.{row_scope, datum_of_name};
 ghost use Rattle.gql_eval.specs.Gives.{Gives};
+ghost use Rattle.gql_change.specs.Machinery.DeletionSteps.{value_at};
 
-use gql_eval::{EvalError, Header, Scope, element_in, look_up};
-use gql_values3::{Columns, Elem, Row, Text, Value, View};
-use std::alloc::Global;
+use gql_eval::{EvalError, element_in};
+use gql_values3::{Elem, Row, Value, View};
 
-/// The element that a name of a row stands for, or its fault: it is no element, or was deleted. None is NULL.
-#[tactic(auto, using(gql_eval::proofs::ScopeLemmas::append_none), unfolding(gql_eval::specs::Machinery::ScopeMeaning::scope_of, gql_eval::specs::Machinery::ScopeMeaning::rest_of))]
-pub fn target_in<V: View>(
-    alloc: Global,
+/// The element that a row has at a place, or its fault: it is no element, or was deleted. None is NULL, as at no place.
+pub fn target_at<V: View>(
     view: &V,
-    columns: &Columns,
     row: &Row,
-    name: &Text,
+    place: Option<usize>,
 ) -> Result<Option<Elem>, EvalError>
-    ensures { Gives (λ e. e) result (element_in (V.graph view.now) (datum_of_name (row_scope columns.now row.now) name.now)) }
+    ensures { Gives (λ e. e) result (element_in (V.graph view.now) (value_at row.now place)) }
 {
-    let scope = Scope {
-        front: &[],
-        header: Header::Listed(columns.as_slice()),
-        row: row.as_slice(),
-        bound: &[],
+    let Some(place) = place else {
+        return Ok(None);
     };
-    let held = look_up(alloc, &scope, name)?;
-    element_of(view, held.value())
+    match row.as_slice().get(place) {
+        None => Ok(None),
+        Some(value) => element_of(view, value),
+    }
 }
 
 /// The element that a value is. None is NULL.

@@ -7,11 +7,7 @@ use Rattle.gql_values3.specs.Meaning.{datum_of}
 use Rattle.gql_values3.specs.declared.value.Value.{Value}
 use Rattle.gql_values3.specs.PropertyGraph.{PropertyGraph}
 use Rattle.gql_values3.specs.declared.table.ColumnKind.TheVariants as kind
-use Rattle.gql_ast.specs.Scope.{row_scope}
-use Rattle.gql_ast.specs.Faults.{each}
-use Rattle.gql_ast.specs.Evaluation.{value_of}
 use Rattle.gql_ast.specs.Aggregates.{considered, aggregated}
-use Rattle.gql_ast.specs.ClauseColumns.{ColumnList}
 use Rattle.gql_ast.specs.Projections.{has_none}
 use Rattle.gql_ast.specs.RowAggregates.{RowAggregate, result_name}
 use Rattle.gql_ast.specs.declared.fault.DataFault.{DataFault}
@@ -22,7 +18,8 @@ use Rattle.gql_eval.specs.declared.error.EvalError.TheVariants as error
 use Rattle.gql_eval.specs.RowLists.{RowList}
 use Rattle.gql_table.specs.Sorting.{first_key, later_keys}
 use Rattle.gql_table.specs.Grouping.{results}
-use Rattle.gql_table.specs.Machinery.GroupPlan.{ItemPlan, Kept, names_from, kept_behind, rows_kept_behind, results_behind, values_in_group}
+use Rattle.gql_table.specs.Machinery.Preparations.{prepared_value}
+use Rattle.gql_table.specs.Machinery.GroupPlan.{PreparedPlan, Kept, names_from, note_in, kept_behind, rows_kept_behind, results_behind, values_in_group}
 use Rattle.gql_eval.proofs.EachSteps.{fails_first, each_cons}
 use Rattle.gql_table.proofs.KeyLemmas.{later_drop}
 
@@ -68,100 +65,95 @@ module _ (rows : RowList) where
   results_fail done left more a e then p q = rw p (fails_first e _ then (fails_first e _ _ q))
 
   -- the results of one item more
-  pub behind_step : (done after : List Datum) (left more : List ItemPlan) (p : ItemPlan) → left ≡ p ∷ more → next (results (length done) p.aggregates rows) (λ ds. Ok (done ++ ds)) ≡ Ok after
+  pub behind_step : (done after : List Datum) (left more : List PreparedPlan) (p : PreparedPlan) → left ≡ p ∷ more → next (results (length done) p.aggregates rows) (λ ds. Ok (done ++ ds)) ≡ Ok after
       → results_behind done left rows ≡ results_behind after more rows
   behind_step done after left more p q given =
       let by = joined_by (results (length done) p.aggregates rows) done after given in
       ap (λ l. results_behind done l rows) q ∙ ap (λ (r : Result (List Datum) DataFault). next r (λ ds. results_behind (done ++ ds) more rows)) by.1 ∙ ap (λ ds. results_behind ds more rows) by.2
 
-  pub behind_fails : (done : List Datum) (left more : List ItemPlan) (p : ItemPlan) (e : EvalError) → left ≡ p ∷ more → Fails e (next (results (length done) p.aggregates rows) (λ ds. Ok (done ++ ds)))
+  pub behind_fails : (done : List Datum) (left more : List PreparedPlan) (p : PreparedPlan) (e : EvalError) → left ≡ p ∷ more → Fails e (next (results (length done) p.aggregates rows) (λ ds. Ok (done ++ ds)))
       → Fails e (results_behind done left rows)
   behind_fails done left more p e q given = rw q (fails_joined e (results (length done) p.aggregates rows) done (λ ds. results_behind (done ++ ds) more rows) given)
 
-module _ (g : PropertyGraph) (params : List (List ℕ × Datum)) (columns : ColumnList) (row : List Datum) where
+module _ (g : PropertyGraph) (row : List Datum) where
   -- a key more is kept
-  pub key_step : (keys arguments : List Datum) (left more : List ItemPlan) (p : ItemPlan) (d : Datum) → left ≡ p ∷ more → has_none p.aggregates ≡ true
-      → value_of g params (row_scope columns row) p.tree ≡ Ok d → kept_behind g params columns (keys, arguments) left row ≡ kept_behind g params columns (keys ++ d ∷ [], arguments) more row
-  key_step keys arguments left more p d q k given =
-      ap (λ l. kept_behind g params columns (keys, arguments) l row) q
-      ∙ ap (λ b. next (cond b (next (value_of g params (row_scope columns row) p.tree) (λ x. Ok (x ∷ []))) (each (λ (a : RowAggregate). value_of g params (row_scope columns row) a.argument) p.aggregates))
-      (λ note. kept_behind g params columns (cond b (keys ++ note, arguments) (keys, arguments ++ note)) more row)) k
-      ∙ ap (λ (r : Result Datum DataFault). next (next r (λ x. Ok (x ∷ []))) (λ note. kept_behind g params columns (keys ++ note, arguments) more row)) given
-
-  pub key_fails : (keys arguments : List Datum) (left more : List ItemPlan) (p : ItemPlan) (e : EvalError) → left ≡ p ∷ more → has_none p.aggregates ≡ true
-      → Fails e (value_of g params (row_scope columns row) p.tree) → Fails e (kept_behind g params columns (keys, arguments) left row)
-  key_fails keys arguments left more p e q k given = rw (q, k) (fails_first e _ _ (fails_first e _ _ given))
+  pub key_step : (keys after arguments : List Datum) (left more : List PreparedPlan) (p : PreparedPlan) → left ≡ p ∷ more → has_none p.aggregates ≡ true
+      → next (note_in g p row) (λ ds. Ok (keys ++ ds)) ≡ Ok after → kept_behind g (keys, arguments) left row ≡ kept_behind g (after, arguments) more row
+  key_step keys after arguments left more p q k given =
+      let by = joined_by (note_in g p row) keys after given in
+      ap (λ l. kept_behind g (keys, arguments) l row) q
+      ∙ ap (λ b. next (note_in g p row) (λ note. kept_behind g (cond b (keys ++ note, arguments) (keys, arguments ++ note)) more row)) k
+      ∙ ap (λ (r : Result (List Datum) DataFault). next r (λ note. kept_behind g (keys ++ note, arguments) more row)) by.1
+      ∙ ap (λ ds. kept_behind g (ds, arguments) more row) by.2
 
   -- the arguments of an item more
-  pub arguments_step : (keys before after : List Datum) (left more : List ItemPlan) (p : ItemPlan) → left ≡ p ∷ more → has_none p.aggregates ≡ false
-      → next (each (λ (a : RowAggregate). value_of g params (row_scope columns row) a.argument) p.aggregates) (λ ds. Ok (before ++ ds)) ≡ Ok after
-      → kept_behind g params columns (keys, before) left row ≡ kept_behind g params columns (keys, after) more row
+  pub arguments_step : (keys before after : List Datum) (left more : List PreparedPlan) (p : PreparedPlan) → left ≡ p ∷ more → has_none p.aggregates ≡ false
+      → next (note_in g p row) (λ ds. Ok (before ++ ds)) ≡ Ok after → kept_behind g (keys, before) left row ≡ kept_behind g (keys, after) more row
   arguments_step keys before after left more p q k given =
-      let by = joined_by (each (λ (a : RowAggregate). value_of g params (row_scope columns row) a.argument) p.aggregates) before after given in
-      ap (λ l. kept_behind g params columns (keys, before) l row) q
-      ∙ ap (λ b. next (cond b (next (value_of g params (row_scope columns row) p.tree) (λ x. Ok (x ∷ []))) (each (λ (a : RowAggregate). value_of g params (row_scope columns row) a.argument) p.aggregates))
-      (λ note. kept_behind g params columns (cond b (keys ++ note, before) (keys, before ++ note)) more row)) k
-      ∙ ap (λ (r : Result (List Datum) DataFault). next r (λ note. kept_behind g params columns (keys, before ++ note) more row)) by.1
-      ∙ ap (λ ds. kept_behind g params columns (keys, ds) more row) by.2
+      let by = joined_by (note_in g p row) before after given in
+      ap (λ l. kept_behind g (keys, before) l row) q
+      ∙ ap (λ b. next (note_in g p row) (λ note. kept_behind g (cond b (keys ++ note, before) (keys, before ++ note)) more row)) k
+      ∙ ap (λ (r : Result (List Datum) DataFault). next r (λ note. kept_behind g (keys, before ++ note) more row)) by.1
+      ∙ ap (λ ds. kept_behind g (keys, ds) more row) by.2
 
-  pub arguments_fail : (keys before : List Datum) (left more : List ItemPlan) (p : ItemPlan) (e : EvalError) → left ≡ p ∷ more → has_none p.aggregates ≡ false
-      → Fails e (next (each (λ (a : RowAggregate). value_of g params (row_scope columns row) a.argument) p.aggregates) (λ ds. Ok (before ++ ds))) → Fails e (kept_behind g params columns (keys, before) left row)
-  arguments_fail keys before left more p e q k given =
-      rw (q, k) (fails_joined e (each (λ (a : RowAggregate). value_of g params (row_scope columns row) a.argument) p.aggregates) before _ given)
+  -- an item whose key or arguments fail
+  pub note_fails : (kept : Kept) (before : List Datum) (left more : List PreparedPlan) (p : PreparedPlan) (e : EvalError) → left ≡ p ∷ more
+      → Fails e (next (note_in g p row) (λ ds. Ok (before ++ ds))) → Fails e (kept_behind g kept left row)
+  note_fails kept before left more p e q given = rw q (fails_joined e (note_in g p row) before _ given)
 
-module _ (g : PropertyGraph) (params : List (List ℕ × Datum)) (columns : ColumnList) (plan : List ItemPlan) where
+module _ (g : PropertyGraph) (plan : List PreparedPlan) where
   -- one row more is noted
-  pub row_step : (keys arguments left rest : RowList) (row k a : List Datum) → left ≡ row ∷ rest → kept_behind g params columns ([], []) plan row ≡ Ok (k, a)
-      → rows_kept_behind g params columns keys arguments plan left ≡ rows_kept_behind g params columns (keys ++ k ∷ []) (arguments ++ a ∷ []) plan rest
+  pub row_step : (keys arguments left rest : RowList) (row k a : List Datum) → left ≡ row ∷ rest → kept_behind g ([], []) plan row ≡ Ok (k, a)
+      → rows_kept_behind g keys arguments plan left ≡ rows_kept_behind g (keys ++ k ∷ []) (arguments ++ a ∷ []) plan rest
   row_step keys arguments left rest row k a q given =
-      ap (rows_kept_behind g params columns keys arguments plan) q
-      ∙ ap (λ (r : Result Kept DataFault). next r (λ kept. rows_kept_behind g params columns (keys ++ kept.0 ∷ []) (arguments ++ kept.1 ∷ []) plan rest)) given
+      ap (rows_kept_behind g keys arguments plan) q
+      ∙ ap (λ (r : Result Kept DataFault). next r (λ kept. rows_kept_behind g (keys ++ kept.0 ∷ []) (arguments ++ kept.1 ∷ []) plan rest)) given
 
-  pub row_fails : (keys arguments left rest : RowList) (row : List Datum) (e : EvalError) → left ≡ row ∷ rest → Fails e (kept_behind g params columns ([], []) plan row)
-      → Fails e (rows_kept_behind g params columns keys arguments plan left)
+  pub row_fails : (keys arguments left rest : RowList) (row : List Datum) (e : EvalError) → left ≡ row ∷ rest → Fails e (kept_behind g ([], []) plan row)
+      → Fails e (rows_kept_behind g keys arguments plan left)
   row_fails keys arguments left rest row e q given = rw q (fails_first e _ _ given)
 
-module _ (g : PropertyGraph) (params : List (List ℕ × Datum)) (keys done : List Datum) where
+module _ (g : PropertyGraph) (keys done : List Datum) where
   -- the value of a key more
-  pub key_value_step : (key from : ℕ) (values : List Datum) (left more : List ItemPlan) (p : ItemPlan) (d : Datum) → left ≡ p ∷ more → has_none p.aggregates ≡ true → d ≡ first_key (drop key keys)
-      → next (values_in_group g params left (drop key keys) (drop from done)) (λ ds. Ok (values ++ ds)) ≡ next (values_in_group g params more (drop (key + 1) keys) (drop from done)) (λ ds. Ok ((values ++ d ∷ []) ++ ds))
+  pub key_value_step : (key from : ℕ) (values : List Datum) (left more : List PreparedPlan) (p : PreparedPlan) (d : Datum) → left ≡ p ∷ more → has_none p.aggregates ≡ true → d ≡ first_key (drop key keys)
+      → next (values_in_group g left (drop key keys) (drop from done)) (λ ds. Ok (values ++ ds)) ≡ next (values_in_group g more (drop (key + 1) keys) (drop from done)) (λ ds. Ok ((values ++ d ∷ []) ++ ds))
   key_value_step key from values left more p d q k here =
-      let rest : List Datum → List Datum → Result (List Datum) DataFault = values_in_group g params more in
-      ap (λ l. next (values_in_group g params l (drop key keys) (drop from done)) (λ ds. Ok (values ++ ds))) q
-      ∙ ap (λ b. next (next (cond b (Ok (first_key (drop key keys))) (value_of g params (row_scope p.names (take (length p.aggregates) (drop from done))) p.whole))
+      let rest : List Datum → List Datum → Result (List Datum) DataFault = values_in_group g more in
+      ap (λ l. next (values_in_group g l (drop key keys) (drop from done)) (λ ds. Ok (values ++ ds))) q
+      ∙ ap (λ b. next (next (cond b (Ok (first_key (drop key keys))) (prepared_value g p.whole (take (length p.aggregates) (drop from done))))
       (λ x. next (rest (cond b (later_keys (drop key keys)) (drop key keys)) (drop (length p.aggregates) (drop from done))) (λ ds. Ok (x ∷ ds)))) (λ ds. Ok (values ++ ds))) k
       ∙ ap (λ x. next (next (rest (later_keys (drop key keys)) (drop (length p.aggregates) (drop from done))) (λ ds. Ok (x ∷ ds))) (λ ds. Ok (values ++ ds))) (sym here)
       ∙ each_cons (λ (x : Datum). Ok x) (rest (later_keys (drop key keys)) (drop (length p.aggregates) (drop from done))) values d
       ∙ (λ i. next (rest ((later_drop key keys ∙ ap (λ n. drop n keys) (sym (add-one key))) i) (drop (none_left p.aggregates k i) (drop from done))) (λ ds. Ok ((values ++ d ∷ []) ++ ds)))
 
   -- the expression around the results of an item more
-  pub whole_step : (key from past : ℕ) (values : List Datum) (left more : List ItemPlan) (p : ItemPlan) (d : Datum) → left ≡ p ∷ more → has_none p.aggregates ≡ false → past ≡ from + length p.aggregates
-      → value_of g params (row_scope p.names (take (length p.aggregates) (drop from done))) p.whole ≡ Ok d
-      → next (values_in_group g params left (drop key keys) (drop from done)) (λ ds. Ok (values ++ ds)) ≡ next (values_in_group g params more (drop key keys) (drop past done)) (λ ds. Ok ((values ++ d ∷ []) ++ ds))
+  pub whole_step : (key from past : ℕ) (values : List Datum) (left more : List PreparedPlan) (p : PreparedPlan) (d : Datum) → left ≡ p ∷ more → has_none p.aggregates ≡ false → past ≡ from + length p.aggregates
+      → prepared_value g p.whole (take (length p.aggregates) (drop from done)) ≡ Ok d
+      → next (values_in_group g left (drop key keys) (drop from done)) (λ ds. Ok (values ++ ds)) ≡ next (values_in_group g more (drop key keys) (drop past done)) (λ ds. Ok ((values ++ d ∷ []) ++ ds))
   whole_step key from past values left more p d q k end given =
-      let rest : List Datum → List Datum → Result (List Datum) DataFault = values_in_group g params more in
-      ap (λ l. next (values_in_group g params l (drop key keys) (drop from done)) (λ ds. Ok (values ++ ds))) q
-      ∙ ap (λ b. next (next (cond b (Ok (first_key (drop key keys))) (value_of g params (row_scope p.names (take (length p.aggregates) (drop from done))) p.whole))
+      let rest : List Datum → List Datum → Result (List Datum) DataFault = values_in_group g more in
+      ap (λ l. next (values_in_group g l (drop key keys) (drop from done)) (λ ds. Ok (values ++ ds))) q
+      ∙ ap (λ b. next (next (cond b (Ok (first_key (drop key keys))) (prepared_value g p.whole (take (length p.aggregates) (drop from done))))
       (λ x. next (rest (cond b (later_keys (drop key keys)) (drop key keys)) (drop (length p.aggregates) (drop from done))) (λ ds. Ok (x ∷ ds)))) (λ ds. Ok (values ++ ds))) k
       ∙ ap (λ (r : Result Datum DataFault). next (next r (λ x. next (rest (drop key keys) (drop (length p.aggregates) (drop from done))) (λ ds. Ok (x ∷ ds)))) (λ ds. Ok (values ++ ds))) given
       ∙ each_cons (λ (x : Datum). Ok x) (rest (drop key keys) (drop (length p.aggregates) (drop from done))) values d
       ∙ ap (λ (l : List Datum). next (rest (drop key keys) l) (λ ds. Ok ((values ++ d ∷ []) ++ ds))) (drop-drop (length p.aggregates) from done ∙ ap (λ n. drop n done) (sym end))
 
-  pub whole_fails : {B : Type 0} (key from : ℕ) (left more : List ItemPlan) (p : ItemPlan) (e : EvalError) (then : List Datum → Result B DataFault) → left ≡ p ∷ more → has_none p.aggregates ≡ false
-      → Fails e (value_of g params (row_scope p.names (take (length p.aggregates) (drop from done))) p.whole)
-      → Fails e (next (values_in_group g params left (drop key keys) (drop from done)) then)
+  pub whole_fails : {B : Type 0} (key from : ℕ) (left more : List PreparedPlan) (p : PreparedPlan) (e : EvalError) (then : List Datum → Result B DataFault) → left ≡ p ∷ more → has_none p.aggregates ≡ false
+      → Fails e (prepared_value g p.whole (take (length p.aggregates) (drop from done)))
+      → Fails e (next (values_in_group g left (drop key keys) (drop from done)) then)
   whole_fails key from left more p e then q k given = rw (q, k) (fails_first e _ then (fails_first e _ _ given))
 
 -- as many keys as rows of arguments
-module _ (g : PropertyGraph) (params : List (List ℕ × Datum)) (columns : ColumnList) (plan : List ItemPlan) where
+module _ (g : PropertyGraph) (plan : List PreparedPlan) where
   both_case : (rows keys arguments K A : RowList) (r : Result Kept DataFault) → length keys ≡ length arguments
-      → ((k a : RowList) → length k ≡ length a → rows_kept_behind g params columns k a plan rows ≡ Ok (K, A) → length K ≡ length A)
-      → next r (λ kept. rows_kept_behind g params columns (keys ++ kept.0 ∷ []) (arguments ++ kept.1 ∷ []) plan rows) ≡ Ok (K, A) → length K ≡ length A
+      → ((k a : RowList) → length k ≡ length a → rows_kept_behind g k a plan rows ≡ Ok (K, A) → length K ≡ length A)
+      → next r (λ kept. rows_kept_behind g (keys ++ kept.0 ∷ []) (arguments ++ kept.1 ∷ []) plan rows) ≡ Ok (K, A) → length K ≡ length A
   both_case rows keys arguments K A (Err f) same more given = absurd (cc)
   both_case rows keys arguments K A (Ok kept) same more given =
       more (keys ++ kept.0 ∷ []) (arguments ++ kept.1 ∷ []) (omega (arith, same, length-append keys (kept.0 ∷ []), length-append arguments (kept.1 ∷ []))) given
 
-  pub both_long : (rows keys arguments K A : RowList) → length keys ≡ length arguments → rows_kept_behind g params columns keys arguments plan rows ≡ Ok (K, A) → length K ≡ length A
+  pub both_long : (rows keys arguments K A : RowList) → length keys ≡ length arguments → rows_kept_behind g keys arguments plan rows ≡ Ok (K, A) → length K ≡ length A
   both_long [] keys arguments K A same given =
       let it = inside given in
       sym (ap (λ (t : RowList × RowList). length t.0) it) ∙ same ∙ ap (λ (t : RowList × RowList). length t.1) it
@@ -169,7 +161,7 @@ module _ (g : PropertyGraph) (params : List (List ℕ × Datum)) (columns : Colu
       inside : {x y : RowList × RowList} → ◌≡◌ {A = Result (RowList × RowList) DataFault} (Ok x) (Ok y) → x ≡ y
       inside q = cc
   both_long (row ∷ rows) keys arguments K A same given =
-      both_case rows keys arguments K A (kept_behind g params columns ([], []) plan row) same (λ k a p q. both_long rows k a K A p q) given
+      both_case rows keys arguments K A (kept_behind g ([], []) plan row) same (λ k a p q. both_long rows k a K A p q) given
 
 -- a part of the results
 pub part_is : (results : List Value) (from m k : ℕ) → m ≡ k → map datum_of (take m (drop from results)) ≡ take k (drop from (map datum_of results))

@@ -77,9 +77,9 @@ each_same P f h F H same [] all = refl
 each_same P f h F H same (z ∷ zs) all =
     λ i. next (same z all.0 i) (λ y. next (each_same P f h F H same zs all.1 i) (λ ys. Ok (y ∷ ys)))
 
-any_planned : (columns : ColumnList) (es : List Tree) → has_key (plans columns es) ≡ list_any (is_key columns) es
-any_planned columns [] = refl
-any_planned columns (e ∷ es) = ap (λ b. is_key columns e || b) (any_planned columns es)
+any_planned : (params : List (List ℕ × Datum)) (columns : ColumnList) (es : List Tree) → has_key (plans params columns es) ≡ list_any (is_key columns) es
+any_planned params columns [] = refl
+any_planned params columns (e ∷ es) = ap (λ b. is_key columns e || b) (any_planned params columns es)
 
 all_pass : (f : Note → List Datum) (notes : List Note) → ((n : Note) → f n ≡ []) → filter (λ n. same_row [] (f n)) notes ≡ notes
 all_pass f [] none = refl
@@ -90,59 +90,59 @@ module _ (g : PropertyGraph) (params : List (List ℕ × Datum)) (columns : Colu
   -- a group's row, where its key is known
   group_is : (key : List Datum) (group : List Note) → AllByRecursion (Shaped columns es) group → (list_any (is_key columns) es ≡ true → 0 < length group)
       → ((parts : Note) → parts_from g params columns es group ≡ Ok parts → key_in columns es parts ≡ key)
-      → row_of_group g params (plans columns es) (key, map (arguments_in columns es) group) ≡ group_row g params columns es group
+      → row_of_group g (plans params columns es) (key, map (arguments_in columns es) group) ≡ group_row g params columns es group
   group_is key group shaped some keys =
       let rows : RowList = map (arguments_in columns es) group in
       let parts = parts_from g params columns es group in
-      ap (λ (r : Result (List Datum) DataFault). next r (values_in_group g params (plans columns es) key)) (behind_is g params columns es [] rows group shaped (none_dropped rows))
-      ∙ next_next parts (λ ps. arguments_in columns es ps) (values_in_group g params (plans columns es) key)
-      ∙ next_same parts (λ ps. values_in_group g params (plans columns es) key (arguments_in columns es ps)) (item_values g params columns es)
-      (λ ps p. ap (λ (k : List Datum). values_in_group g params (plans columns es) k (arguments_in columns es ps)) (sym (keys ps p))
+      ap (λ (r : Result (List Datum) DataFault). next r (values_in_group g (plans params columns es) key)) (behind_is g params columns es [] rows group shaped (none_dropped rows))
+      ∙ next_next parts (λ ps. arguments_in columns es ps) (values_in_group g (plans params columns es) key)
+      ∙ next_same parts (λ ps. values_in_group g (plans params columns es) key (arguments_in columns es ps)) (item_values g params columns es)
+      (λ ps p. ap (λ (k : List Datum). values_in_group g (plans params columns es) k (arguments_in columns es ps)) (sym (keys ps p))
       ∙ values_are g params columns es ps (parts_shaped g params columns es group ps some shaped p))
       ∙ ap (λ (r : Result (List (List Datum)) DataFault). next r (item_values g params columns es)) (sym (parts_are g params columns 0 es group ∙ ap (parts_from g params columns es) (none_dropped group)))
 
   -- a group of rows of which one at least is there
   first_group : (key : List Datum) (group : List Note) → First (key_in columns es) key group → AllByRecursion (Shaped columns es) group
-      → row_of_group g params (plans columns es) (key, map (arguments_in columns es) group) ≡ group_row g params columns es group
+      → row_of_group g (plans params columns es) (key, map (arguments_in columns es) group) ≡ group_row g params columns es group
   first_group key [] first shaped = absurd (cc)
   first_group key (m ∷ ms) first shaped =
       let same : m ≡ first.0 = cc in
       group_is key (m ∷ ms) shaped (λ q. omega arith) (λ ps p. parts_keys g params columns es m ms ps shaped.0 p ∙ ap (key_in columns es) same ∙ sym first.3)
 
   key_group : (notes : List Note) (key : List Datum) → AllByRecursion (Shaped columns es) notes → among (map (key_in columns es) notes) key ≡ true
-      → row_of_group g params (plans columns es) (whole_group (map (key_in columns es) notes) (map (arguments_in columns es) notes) key)
+      → row_of_group g (plans params columns es) (whole_group (map (key_in columns es) notes) (map (arguments_in columns es) notes) key)
       ≡ group_row g params columns es (group_with columns es notes key)
   key_group notes key shaped there =
-      ap (λ (rows : RowList). row_of_group g params (plans columns es) (key, rows)) (with_key_is (key_in columns es) (arguments_in columns es) key notes)
+      ap (λ (rows : RowList). row_of_group g (plans params columns es) (key, rows)) (with_key_is (key_in columns es) (arguments_in columns es) key notes)
       ∙ first_group key (group_with columns es notes key) (first_of (key_in columns es) key notes there) (filter_keeps (Shaped columns es) (λ n. same_row key (key_in columns es n)) notes shaped)
 
   one_group : (notes : List Note) → AllByRecursion (Shaped columns es) notes → list_any (is_key columns) es ≡ false
-      → row_of_group g params (plans columns es) ([], map (arguments_in columns es) notes) ≡ group_row g params columns es (group_with columns es notes [])
+      → row_of_group g (plans params columns es) ([], map (arguments_in columns es) notes) ≡ group_row g params columns es (group_with columns es notes [])
   one_group notes shaped none =
       group_is [] notes shaped (λ q. absurd (cc)) (λ ps p. no_keys columns es ps none)
       ∙ ap (group_row g params columns es) (sym (all_pass (key_in columns es) notes (λ n. no_keys columns es n none)))
 
   all_case : (b : Bool) (notes : List Note) → list_any (is_key columns) es ≡ b → AllByRecursion (Shaped columns es) notes
-      → each (row_of_group g params (plans columns es)) (all_groups b (map (key_in columns es) notes) (map (arguments_in columns es) notes))
+      → each (row_of_group g (plans params columns es)) (all_groups b (map (key_in columns es) notes) (map (arguments_in columns es) notes))
       ≡ each (group_row g params columns es) (map (group_with columns es notes) (cond b (distinct_rows (map (key_in columns es) notes)) ([] ∷ [])))
   all_case true notes q shaped =
       let keys : RowList = map (key_in columns es) notes in
       let rows : RowList = map (arguments_in columns es) notes in
       let long : length keys ≡ length rows = map_long (key_in columns es) notes ∙ sym (map_long (arguments_in columns es) notes) in
-      ap (each (row_of_group g params (plans columns es))) (gathered_all keys rows long)
-      ∙ each_same (λ key. among keys key ≡ true) (row_of_group g params (plans columns es)) (group_row g params columns es) (whole_group keys rows) (group_with columns es notes) (λ key there. key_group notes key shaped there) (distinct_rows keys) (distinct_among keys)
+      ap (each (row_of_group g (plans params columns es))) (gathered_all keys rows long)
+      ∙ each_same (λ key. among keys key ≡ true) (row_of_group g (plans params columns es)) (group_row g params columns es) (whole_group keys rows) (group_with columns es notes) (λ key there. key_group notes key shaped there) (distinct_rows keys) (distinct_among keys)
   all_case false notes q shaped = ap (λ (r : Result (List Datum) DataFault). next r (λ y. Ok (y ∷ []))) (one_group notes shaped q)
 
   all_are : (rows : RowList) (notes : List Note) → each (note_row g params columns es) rows ≡ Ok notes
-      → rows_of_groups g params (plans columns es) (map (key_in columns es) notes, map (arguments_in columns es) notes) ≡ each (group_row g params columns es) (groups_of columns es notes)
+      → rows_of_groups g (plans params columns es) (map (key_in columns es) notes, map (arguments_in columns es) notes) ≡ each (group_row g params columns es) (groups_of columns es notes)
   all_are rows notes given =
-      ap (λ b. each (row_of_group g params (plans columns es)) (all_groups b (map (key_in columns es) notes) (map (arguments_in columns es) notes))) (any_planned columns es)
+      ap (λ b. each (row_of_group g (plans params columns es)) (all_groups b (map (key_in columns es) notes) (map (arguments_in columns es) notes))) (any_planned params columns es)
       ∙ all_case (list_any (is_key columns) es) notes refl (each_all (note_row g params columns es) (Shaped columns es) (λ row n p. note_shaped g params columns es row n p) rows notes given)
 
   -- all rows
-  pub grouped_is : (rows : RowList) → next (rows_kept_behind g params columns [] [] (plans columns es) rows) (rows_of_groups g params (plans columns es)) ≡ grouped_rows g params columns es rows
+  pub grouped_is : (rows : RowList) → next (rows_kept_behind g [] [] (plans params columns es) rows) (rows_of_groups g (plans params columns es)) ≡ grouped_rows g params columns es rows
   grouped_is rows =
       let notes = each (note_row g params columns es) rows in
-      ap (λ (r : Result (RowList × RowList) DataFault). next r (rows_of_groups g params (plans columns es))) (rows_kept_is g params columns es [] [] rows)
-      ∙ next_next notes (λ ns. (map (key_in columns es) ns, map (arguments_in columns es) ns)) (rows_of_groups g params (plans columns es))
-      ∙ next_same notes (λ ns. rows_of_groups g params (plans columns es) (map (key_in columns es) ns, map (arguments_in columns es) ns)) (λ ns. each (group_row g params columns es) (groups_of columns es ns)) (λ ns p. all_are rows ns p)
+      ap (λ (r : Result (RowList × RowList) DataFault). next r (rows_of_groups g (plans params columns es))) (rows_kept_is g params columns es [] [] rows)
+      ∙ next_next notes (λ ns. (map (key_in columns es) ns, map (arguments_in columns es) ns)) (rows_of_groups g (plans params columns es))
+      ∙ next_same notes (λ ns. rows_of_groups g (plans params columns es) (map (key_in columns es) ns, map (arguments_in columns es) ns)) (λ ns. each (group_row g params columns es) (groups_of columns es ns)) (λ ns p. all_are rows ns p)

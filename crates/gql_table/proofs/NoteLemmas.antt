@@ -13,15 +13,25 @@ use Rattle.gql_ast.specs.Projections.{has_none, is_key}
 use Rattle.gql_ast.specs.RowAggregates.{RowAggregate, row_aggregates}
 use Rattle.gql_ast.specs.declared.fault.DataFault.{DataFault}
 use Rattle.gql_eval.specs.Machinery.Next.{next}
+use Rattle.gql_eval.specs.Preparation.{Preparation}
 use Rattle.gql_eval.specs.RowLists.{RowList}
 use Rattle.gql_table.specs.Grouping.{Note, key_in, note_of, note_row}
-use Rattle.gql_table.specs.Machinery.GroupPlan.{ItemPlan, Kept, planned, kept_with, kept_behind, rows_kept_behind}
+use Rattle.gql_table.specs.Machinery.Preparations.{prepared_under, prepared_value}
+use Rattle.gql_table.specs.Machinery.GroupPlan.{PreparedPlan, Kept, planned, prepared_plan, kept_with, note_in, kept_behind, rows_kept_behind}
 use Rattle.gql_table.proofs.ReturnLemmas.{next_next, each_length}
 
-module _ (columns : ColumnList) where
-  abbrev pub plans : List Tree → List ItemPlan
-  plans es = map (planned columns) es
+-- what is prepared of the items
+abbrev pub plan_of : List (List ℕ × Datum) → ColumnList → Tree → PreparedPlan
+plan_of params columns e = prepared_plan columns params (planned columns e)
 
+abbrev pub plans : List (List ℕ × Datum) → ColumnList → List Tree → List PreparedPlan
+plans params columns es = map (plan_of params columns) es
+
+pub plans_are : (params : List (List ℕ × Datum)) (columns : ColumnList) (es : List Tree) → map (prepared_plan columns params) (map (planned columns) es) ≡ plans params columns es
+plans_are params columns [] = refl
+plans_are params columns (e ∷ es) = ap (λ l. plan_of params columns e ∷ l) (plans_are params columns es)
+
+module _ (columns : ColumnList) where
   -- the arguments among what is noted
   abbrev pub arguments_in : List Tree → Note → List Datum
   arguments_in (e ∷ es) (n ∷ ns) = cond (is_key columns e) (arguments_in es ns) (n ++ arguments_in es ns)
@@ -34,26 +44,45 @@ kept_case true kept n K A = λ i. (append_assoc kept.0 n K i, kept.1 ++ A)
 kept_case false kept n K A = λ i. (kept.0 ++ K, append_assoc kept.1 n A i)
 
 module _ (g : PropertyGraph) (params : List (List ℕ × Datum)) (columns : ColumnList) where
+  -- what is noted for an item
+  arguments_are : (made : List RowAggregate) (row : List Datum)
+      → each (λ (q : Preparation). prepared_value g q row) (map (prepared_under columns params) (map (λ (a : RowAggregate). a.argument) made))
+      ≡ each (λ (a : RowAggregate). value_of g params (row_scope columns row) a.argument) made
+  arguments_are [] row = refl
+  arguments_are (a ∷ made) row =
+      ap (λ (r : Result (List Datum) DataFault). next (value_of g params (row_scope columns row) a.argument) (λ d. next r (λ ds. Ok (d ∷ ds)))) (arguments_are made row)
+
+  noted_case : (made : List RowAggregate) (e : Tree) (row : List Datum)
+      → each (λ (q : Preparation). prepared_value g q row) (map (prepared_under columns params) (cond (has_none made) (e ∷ []) (map (λ (a : RowAggregate). a.argument) made)))
+      ≡ cond (has_none made) (next (value_of g params (row_scope columns row) e) (λ d. Ok (d ∷ []))) (each (λ (a : RowAggregate). value_of g params (row_scope columns row) a.argument) made)
+  noted_case [] e row = refl
+  noted_case (a ∷ made) e row = arguments_are (a ∷ made) row
+
+  note_is : (e : Tree) (row : List Datum) → note_in g (plan_of params columns e) row ≡ note_of g params columns e row
+  note_is e row = noted_case (row_aggregates columns e) e row
+
   kept_step : (e : Tree) (es : List Tree) (kept : Kept) (row : List Datum) (r : Result (List Datum) DataFault)
-      → ((k : Kept) → kept_behind g params columns k (plans columns es) row ≡ next (note_row g params columns es row) (λ n. Ok (k.0 ++ key_in columns es n, k.1 ++ arguments_in columns es n)))
-      → next r (λ n. kept_behind g params columns (kept_with (planned columns e) kept n) (plans columns es) row)
+      → ((k : Kept) → kept_behind g k (plans params columns es) row ≡ next (note_row g params columns es row) (λ n. Ok (k.0 ++ key_in columns es n, k.1 ++ arguments_in columns es n)))
+      → next r (λ n. kept_behind g (kept_with (plan_of params columns e) kept n) (plans params columns es) row)
       ≡ next (next r (λ n. next (note_row g params columns es row) (λ ns. Ok (n ∷ ns)))) (λ n. Ok (kept.0 ++ key_in columns (e ∷ es) n, kept.1 ++ arguments_in columns (e ∷ es) n))
   kept_step e es kept row (Err f) more = refl
   kept_step e es kept row (Ok n) more =
-      more (kept_with (planned columns e) kept n)
+      more (kept_with (plan_of params columns e) kept n)
       ∙ ap (λ (k : Note → Result Kept DataFault). next (note_row g params columns es row) k) (λ i ns. Ok (kept_case (is_key columns e) kept n (key_in columns es ns) (arguments_in columns es ns) i))
       ∙ sym (next_next (note_row g params columns es row) (λ ns. n ∷ ns) (λ m. Ok (kept.0 ++ key_in columns (e ∷ es) m, kept.1 ++ arguments_in columns (e ∷ es) m)))
 
   -- what is kept of a row
   kept_is : (es : List Tree) (kept : Kept) (row : List Datum)
-      → kept_behind g params columns kept (plans columns es) row ≡ next (note_row g params columns es row) (λ n. Ok (kept.0 ++ key_in columns es n, kept.1 ++ arguments_in columns es n))
+      → kept_behind g kept (plans params columns es) row ≡ next (note_row g params columns es row) (λ n. Ok (kept.0 ++ key_in columns es n, kept.1 ++ arguments_in columns es n))
   kept_is [] kept row = λ i. Ok (sym (append-nil kept.0) i, sym (append-nil kept.1) i)
-  kept_is (e ∷ es) kept row = kept_step e es kept row (note_of g params columns e row) (λ k. kept_is es k row)
+  kept_is (e ∷ es) kept row =
+      ap (λ (r : Result (List Datum) DataFault). next r (λ n. kept_behind g (kept_with (plan_of params columns e) kept n) (plans params columns es) row)) (note_is e row)
+      ∙ kept_step e es kept row (note_of g params columns e row) (λ k. kept_is es k row)
 
   rows_step : (es : List Tree) (keys arguments rows : RowList) (r : Result Note DataFault)
-      → ((ks made : RowList) → rows_kept_behind g params columns ks made (plans columns es) rows
+      → ((ks made : RowList) → rows_kept_behind g ks made (plans params columns es) rows
       ≡ next (each (note_row g params columns es) rows) (λ notes. Ok (ks ++ map (key_in columns es) notes, made ++ map (arguments_in columns es) notes)))
-      → next (next r (λ n. Ok (key_in columns es n, arguments_in columns es n))) (λ (kept : Kept). rows_kept_behind g params columns (keys ++ kept.0 ∷ []) (arguments ++ kept.1 ∷ []) (plans columns es) rows)
+      → next (next r (λ n. Ok (key_in columns es n, arguments_in columns es n))) (λ (kept : Kept). rows_kept_behind g (keys ++ kept.0 ∷ []) (arguments ++ kept.1 ∷ []) (plans params columns es) rows)
       ≡ next (next r (λ n. next (each (note_row g params columns es) rows) (λ ns. Ok (n ∷ ns)))) (λ notes. Ok (keys ++ map (key_in columns es) notes, arguments ++ map (arguments_in columns es) notes))
   rows_step es keys arguments rows (Err f) more = refl
   rows_step es keys arguments rows (Ok n) more =
@@ -64,11 +93,11 @@ module _ (g : PropertyGraph) (params : List (List ℕ × Datum)) (columns : Colu
 
   -- what is kept of all rows
   pub rows_kept_is : (es : List Tree) (keys arguments rows : RowList)
-      → rows_kept_behind g params columns keys arguments (plans columns es) rows
+      → rows_kept_behind g keys arguments (plans params columns es) rows
       ≡ next (each (note_row g params columns es) rows) (λ notes. Ok (keys ++ map (key_in columns es) notes, arguments ++ map (arguments_in columns es) notes))
   rows_kept_is es keys arguments [] = λ i. Ok (sym (append-nil keys) i, sym (append-nil arguments) i)
   rows_kept_is es keys arguments (row ∷ rows) =
-      ap (λ (r : Result Kept DataFault). next r (λ kept. rows_kept_behind g params columns (keys ++ kept.0 ∷ []) (arguments ++ kept.1 ∷ []) (plans columns es) rows)) (kept_is es ([], []) row)
+      ap (λ (r : Result Kept DataFault). next r (λ kept. rows_kept_behind g (keys ++ kept.0 ∷ []) (arguments ++ kept.1 ∷ []) (plans params columns es) rows)) (kept_is es ([], []) row)
       ∙ rows_step es keys arguments rows (note_row g params columns es row) (λ ks made. rows_kept_is es ks made rows)
 
 -- how many values are noted for an item

@@ -22,9 +22,9 @@ use Rattle.gql_eval.specs.Machinery.Next.{next}
 use Rattle.gql_eval.specs.RowLists.{RowList}
 use Rattle.gql_table.specs.Sorting.{first_key, later_keys}
 use Rattle.gql_table.specs.Grouping.{Note, key_in, notes_at, results, result_columns, group_part, group_parts, item_value, item_values}
-use Rattle.gql_table.specs.Machinery.GroupPlan.{ItemPlan, planned, names_from, results_behind, value_in_group, values_in_group, keys_behind, result_count}
+use Rattle.gql_table.specs.Machinery.GroupPlan.{PreparedPlan, names_from, results_behind, value_in_group, values_in_group, keys_behind, result_count}
 use Rattle.gql_table.proofs.ReturnLemmas.{next_next, each_length_cons}
-use Rattle.gql_table.proofs.NoteLemmas.{plans, arguments_in, Shaped, width_of, both_ok}
+use Rattle.gql_table.proofs.NoteLemmas.{plan_of, plans, arguments_in, Shaped, width_of, both_ok}
 
 -- the note of the first item, and those of the later ones
 abbrev pub first_note : Note → List Datum
@@ -186,13 +186,13 @@ module _ (g : PropertyGraph) (params : List (List ℕ × Datum)) (columns : Colu
 
   -- what the results of items come to
   abbrev Behind : List Tree → List Datum → RowList → List Note → Type 0
-  Behind es done rows G = results_behind done (plans columns es) rows ≡ next (parts_from es G) (λ parts. Ok (done ++ arguments_in columns es parts))
+  Behind es done rows G = results_behind done (plans params columns es) rows ≡ next (parts_from es G) (λ parts. Ok (done ++ arguments_in columns es parts))
 
   behind_key : (e : Tree) (es : List Tree) (done : List Datum) (rows : RowList) (G : List Note) → is_key columns e ≡ true
       → Behind es done rows (map later_notes G) → Behind (e ∷ es) done rows G
   behind_key e es done rows G k more =
-      ap (λ made. next (results (length done) made rows) (λ ds. results_behind (done ++ ds) (plans columns es) rows)) (none_empty (row_aggregates columns e) k)
-      ∙ ap (λ d. results_behind d (plans columns es) rows) (append-nil done)
+      ap (λ made. next (results (length done) made rows) (λ ds. results_behind (done ++ ds) (plans params columns es) rows)) (none_empty (row_aggregates columns e) k)
+      ∙ ap (λ d. results_behind d (plans params columns es) rows) (append-nil done)
       ∙ more
       ∙ ap (λ (f : Note → Result (List Datum) DataFault). next (parts_from es (map later_notes G)) f)
       (λ i ps. Ok (done ++ cond (sym k i) (arguments_in columns es ps) (head_note (map first_note G) ++ arguments_in columns es ps)))
@@ -202,7 +202,7 @@ module _ (g : PropertyGraph) (params : List (List ℕ × Datum)) (columns : Colu
 
   behind_case : (e : Tree) (es : List Tree) (done : List Datum) (rows : RowList) (G : List Note) (r : Result (List Datum) DataFault) → is_key columns e ≡ false
       → ((ds : List Datum) → r ≡ Ok ds → Behind es (done ++ ds) rows (map later_notes G))
-      → next r (λ ds. results_behind (done ++ ds) (plans columns es) rows)
+      → next r (λ ds. results_behind (done ++ ds) (plans params columns es) rows)
       ≡ next (next r (λ p. next (parts_from es (map later_notes G)) (λ ps. Ok (p ∷ ps)))) (λ parts. Ok (done ++ arguments_in columns (e ∷ es) parts))
   behind_case e es done rows G (Err f) k more = refl
   behind_case e es done rows G (Ok ds) k more =
@@ -239,7 +239,7 @@ module _ (g : PropertyGraph) (params : List (List ℕ × Datum)) (columns : Colu
   -- the results of all items
   pub behind_is : (es : List Tree) (done : List Datum) (rows : RowList) (G : List Note) → AllByRecursion (Shaped columns es) G
       → map (drop (length done)) rows ≡ map (arguments_in columns es) G
-      → results_behind done (plans columns es) rows ≡ next (parts_from es G) (λ parts. Ok (done ++ arguments_in columns es parts))
+      → results_behind done (plans params columns es) rows ≡ next (parts_from es G) (λ parts. Ok (done ++ arguments_in columns es parts))
   behind_is [] done rows G shaped h = ap Ok (sym (append-nil done))
   behind_is (e ∷ es) done rows G shaped h =
       behind_either e es done rows G (is_key columns e) refl shaped h (λ d. behind_is es d rows (map later_notes G) (later_shaped e es G shaped))
@@ -311,8 +311,8 @@ module _ (g : PropertyGraph) (params : List (List ℕ × Datum)) (columns : Colu
   -- the first item's value, and what is left for the others
   abbrev One : Tree → List Datum → List Datum → List Datum → List Datum → List Datum → Type 0
   One e p K A keys done =
-      (value_in_group g params (planned columns e) keys (take (length (row_aggregates columns e)) done) ≡ item_value g params columns e p)
-      × (keys_behind (planned columns e) keys ≡ K) × (drop (length (row_aggregates columns e)) done ≡ A)
+      (value_in_group g (plan_of params columns e) keys (take (length (row_aggregates columns e)) done) ≡ item_value g params columns e p)
+      × (keys_behind (plan_of params columns e) keys ≡ K) × (drop (length (row_aggregates columns e)) done ≡ A)
 
   one_key : (e : Tree) (p K A : List Datum) → is_key columns e ≡ true → length p ≡ 1 → One e p K A (p ++ K) A
   one_key e [] K A k long = absurd (omega (arith, long))
@@ -343,14 +343,14 @@ module _ (g : PropertyGraph) (params : List (List ℕ × Datum)) (columns : Colu
 
   -- the items around the parts
   pub values_are : (es : List Tree) (parts : Note) → Shaped columns es parts
-      → values_in_group g params (plans columns es) (key_in columns es parts) (arguments_in columns es parts) ≡ item_values g params columns es parts
+      → values_in_group g (plans params columns es) (key_in columns es parts) (arguments_in columns es parts) ≡ item_values g params columns es parts
   values_are [] [] shaped = refl
   values_are [] (p ∷ ps) shaped = absurd shaped
   values_are (e ∷ es) [] shaped = absurd shaped
   values_are (e ∷ es) (p ∷ ps) shaped =
       let one = one_case (is_key columns e) e p (key_in columns es ps) (arguments_in columns es ps) refl shaped.0 in
       let rest = values_are es ps shaped.1 in
-      (λ i. next (one.0 i) (λ d. next (values_in_group g params (plans columns es) (one.1 i) (one.2 i)) (λ ds. Ok (d ∷ ds))))
+      (λ i. next (one.0 i) (λ d. next (values_in_group g (plans params columns es) (one.1 i) (one.2 i)) (λ ds. Ok (d ∷ ds))))
       ∙ ap (λ (r : Result (List Datum) DataFault). next (item_value g params columns e p) (λ d. next r (λ ds. Ok (d ∷ ds)))) rest
 
 -- aggregates look at no NULL
@@ -359,14 +359,14 @@ considered_same quantifier.All ds es p = p
 considered_same quantifier.Distinct ds es p = ap distinct p
 
 -- as many results as the items have
-long_case : (rows : RowList) (done : List Datum) (p : ItemPlan) (ps : List ItemPlan) (ds : List Datum) (r : Result (List Datum) DataFault)
+long_case : (rows : RowList) (done : List Datum) (p : PreparedPlan) (ps : List PreparedPlan) (ds : List Datum) (r : Result (List Datum) DataFault)
     → ((es : List Datum) → r ≡ Ok es → length es ≡ length p.aggregates)
     → ((d : List Datum) → results_behind d ps rows ≡ Ok ds → length ds ≡ length d + result_count ps)
     → next r (λ es. results_behind (done ++ es) ps rows) ≡ Ok ds → length ds ≡ length done + (length p.aggregates + result_count ps)
 long_case rows done p ps ds (Err f) long more given = absurd (cc)
 long_case rows done p ps ds (Ok es) long more given = omega (arith, long es refl, more (done ++ es) given, length-append done es)
 
-pub behind_long : (rows : RowList) (done : List Datum) (ps : List ItemPlan) (ds : List Datum) → results_behind done ps rows ≡ Ok ds → length ds ≡ length done + result_count ps
+pub behind_long : (rows : RowList) (done : List Datum) (ps : List PreparedPlan) (ds : List Datum) → results_behind done ps rows ≡ Ok ds → length ds ≡ length done + result_count ps
 behind_long rows done [] ds given = sym (ap length (inside given)) ∙ sym (add-zero (length done))
   where
     inside : {x y : List Datum} → ◌≡◌ {A = Result (List Datum) DataFault} (Ok x) (Ok y) → x ≡ y

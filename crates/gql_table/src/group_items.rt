@@ -3,7 +3,7 @@
 ghost use Rattle.std.specs.Prelude.{◌≡◌, length, map, IfOk};
 ghost use Rattle.gql_ast.specs.Meaning.{tree_of};
 ghost use Rattle.gql_ast.specs.Projections.{has_none};
-ghost use Rattle.gql_table.specs.Machinery.GroupPlan.{names_from, planned, has_key};
+ghost use Rattle.gql_table.specs.Machinery.GroupPlan.{names_from, planned};
 ghost use Rattle.gql_table.specs.Machinery.GroupMeaning.{item_meant};
 
 use crate::around::around;
@@ -86,16 +86,4 @@ fn result_names(alloc: Global, count: usize) -> Result<Columns, OutOfMemory>
         names.push((name, ColumnKind::Plain))?;
     }
     Ok(names)
-}
-
-/// Whether one of the items is a key.
-pub fn any_key(items: &[GroupItem]) -> bool
-    ensures { result ≡ has_key (map item_meant items.now) }
-{
-    for i in 0..items.len() {
-        if items[i].is_key() {
-            return true;
-        }
-    }
-    false
 }

@@ -9,22 +9,21 @@ ghost use Rattle.gql_eval.specs.Machinery.Next.{next};
 ghost use Rattle.gql_table.specs.Machinery.AggregateMeaning.{aggregate_meant};
 ghost use Rattle.gql_table.specs.Grouping.{results};
 ghost use Rattle.gql_table.specs.Machinery.GroupPlan.{results_behind};
-ghost use Rattle.gql_table.specs.Machinery.GroupMeaning.{item_meant};
 
-use crate::group_items::GroupItem;
+use crate::prepared_items::PreparedItem;
 use crate::row_aggregates::AggregateRef;
 use gql_eval::{EvalError, aggregate_of};
 use gql_values3::{OutOfMemory, Row, Value};
 use std::alloc::Global;
 
 /// The results of all items' aggregates over rows of which the arguments are given.
-pub fn group_results(alloc: Global, items: &[GroupItem], rows: &[&Row]) -> Result<Row, EvalError>
-    ensures { Gives (λ r. r) result (results_behind [] (map item_meant items.now) (map (λ r. r.now) rows.now)) }
+pub fn group_results(alloc: Global, items: &[PreparedItem], rows: &[&Row]) -> Result<Row, EvalError>
+    ensures { Gives (λ r. r) result (results_behind [] items.now (map (λ r. r.now) rows.now)) }
 {
     let mut done = Row::new(alloc);
     for i in 0..items.len() {
         let item = &items[i];
-        add_results(alloc, item.aggregates.as_slice(), rows, &mut done)?;
+        add_results(alloc, item.aggregates(), rows, &mut done)?;
     }
     Ok(done)
 }

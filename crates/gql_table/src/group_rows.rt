@@ -6,79 +6,59 @@ ghost use Rattle.gql_ast.specs.Faults.{each};
 ghost use Rattle.gql_eval.specs.Gives.{Gives};
 ghost use Rattle.gql_table.specs.Sorting.{first_key};
 ghost use Rattle.gql_table.specs.Machinery.GroupPlan.{row_of_group, values_in_group, result_count};
-ghost use Rattle.gql_table.specs.Machinery.GroupMeaning.{item_meant, group_meant};
+ghost use Rattle.gql_table.specs.Machinery.GroupMeaning.{group_meant};
 
-use crate::cells::cell;
-use crate::group_items::GroupItem;
 use crate::group_results::group_results;
+use crate::grouping::Grouping;
 use crate::groups::Group;
+use crate::prepared::prepared_cell;
+use crate::room::empty_row;
 use crate::sorting::value_at;
 use gql_eval::EvalError;
-use gql_values3::{OutOfMemory, Params, Row, Rows, Value, View};
+use gql_values3::{OutOfMemory, Row, Rows, Value, View};
 use std::alloc::Global;
 
 /// The row of each group.
-pub fn group_rows<V: View>(
-    alloc: Global,
-    view: &V,
-    params: &Params,
-    items: &[GroupItem],
-    groups: &[Group],
-) -> Result<Rows, EvalError>
-    ensures { Gives (λ r. r) result (each (row_of_group (V.graph view.now) params.now (map item_meant items.now)) (map group_meant groups.now)) }
+pub fn group_rows<V: View>(grouping: &Grouping<V>, groups: &[Group]) -> Result<Rows, EvalError>
+    ensures { Gives (λ r. r) result (each (row_of_group (V.graph grouping.now.view.now) grouping.now.items.now) (map group_meant groups.now)) }
 {
-    let mut done = Rows::new(alloc);
+    let mut done = Rows::new(grouping.alloc);
     for i in 0..groups.len() {
-        done.push(group_row(alloc, view, params, items, &groups[i])?)?;
+        done.push(group_row(grouping, &groups[i])?)?;
     }
     Ok(done)
 }
 
 /// All results come before the items around them.
-fn group_row<V: View>(
-    alloc: Global,
-    view: &V,
-    params: &Params,
-    items: &[GroupItem],
-    group: &Group,
-) -> Result<Row, EvalError>
-    ensures { Gives (λ r. r) result (row_of_group (V.graph view.now) params.now (map item_meant items.now) (group_meant group.now)) }
+fn group_row<V: View>(grouping: &Grouping<V>, group: &Group) -> Result<Row, EvalError>
+    ensures { Gives (λ r. r) result (row_of_group (V.graph grouping.now.view.now) grouping.now.items.now (group_meant group.now)) }
 {
-    let results = group_results(alloc, items, group.rows.as_slice())?;
-    item_values(alloc, view, params, items, group.key, results.as_slice())
+    let results = group_results(grouping.alloc, grouping.items, group.rows.as_slice())?;
+    item_values(grouping, group.key, results.as_slice())
 }
 
 /// The values of the items, of a group's key and its results.
 fn item_values<V: View>(
-    alloc: Global,
-    view: &V,
-    params: &Params,
-    items: &[GroupItem],
+    grouping: &Grouping<V>,
     keys: &[Value],
     results: &[Value],
 ) -> Result<Row, EvalError>
-    requires { length results.now ≡ result_count (map item_meant items.now) }
-    ensures { Gives (λ r. r) result (values_in_group (V.graph view.now) params.now (map item_meant items.now) (map datum_of keys.now) (map datum_of results.now)) }
+    requires { length results.now ≡ result_count grouping.now.items.now }
+    ensures { Gives (λ r. r) result (values_in_group (V.graph grouping.now.view.now) grouping.now.items.now (map datum_of keys.now) (map datum_of results.now)) }
 {
-    let mut values = Row::new(alloc);
+    let items = grouping.items;
+    let mut values = empty_row(grouping.alloc, items.len())?;
     let mut key = 0;
     let mut from = 0;
     for i in 0..items.len() {
         let item = &items[i];
         if item.is_key() {
-            values.push(key_value(alloc, keys, key)?)?;
+            values.push(key_value(grouping.alloc, keys, key)?)?;
             key += 1;
         } else {
-            let past = from + item.aggregates.len();
+            let past = from + item.width();
             let part = &results[from..past];
-            values.push(cell(
-                alloc,
-                view,
-                item.names.as_slice(),
-                part,
-                params,
-                &item.whole,
-            )?)?;
+            values.push(prepared_cell(grouping.alloc, grouping.view, item.whole(), part)?)?;
             from = past;
         }
     }

@@ -1,43 +1,18 @@
-use Rattle.std.proofs.Common.{◌≡◌, ◌<◌, ◌+◌, ◌∙◌, List, [], length, drop, sym, arith, rules, Result, Ok, ◌++◌}
-use Rattle.std.proofs.lemmas.List.{drop_all}
-use Rattle.gql_values3.specs.Datum.{Datum}
-use Rattle.gql_ast.specs.Scope.{row_scope}
+use Rattle.std.proofs.Common.{◌≡◌, ◌∙◌, List, map, ap, subst, Result}
 use Rattle.gql_ast.specs.declared.fault.DataFault.{DataFault}
-use Rattle.gql_eval.specs.Gives.{Fails}
+use Rattle.gql_eval.specs.Gives.{Gives}
 use Rattle.gql_eval.specs.RowLists.{each_some}
-use Rattle.gql_change.specs.Assignments.{removed_by}
+use Rattle.gql_change.specs.Assignments.{remove_assignments}
+use Rattle.gql_change.specs.Machinery.PreparedItems.{all_in, item_in}
 use Rattle.gql_change.specs.declared.assignment.Assignment.{Assignment}
-use Rattle.gql_eval.proofs.EachSteps.{drop_here}
-use Rattle.gql_eval.proofs.EachSteps.{some_step, some_fails, some_end}
+use Rattle.gql_change.proofs.InRowLemmas.{removed_rows}
 use Rattle.gql_change.proofs.assigning.remove_assignments.Goals as goal
-
-pub loop-i-preserved : goal.loop-i-preserved
-loop-i-preserved g c =
-    let f : List Datum → Result (List Assignment) DataFault = λ (row : List Datum). each_some (removed_by (g.V.View.graph c.args.view.now) c.args.params.now (row_scope c.args.columns.now row)) c.args.items.now in
-    let xs = c.as_slice-rows.result.now in
-    let i = c.loop-i.i in
-    let x = c.index-rows-i.result in
-    let below : i < length xs = omega arith in
-    let left = drop_here xs i x below c.index-rows-i.is in
-    let here : f x ≡ Ok c.in_ok-more.more = c.in_ok-more.ensures in
-    rw c.in_ok-extend.ensures.ok (sym (some_step f (drop i xs) x (drop (i + 1) xs) c.loop-i.done c.in_ok-more.more left here) ∙ c.loop-i.invariant)
 
 pub returns : goal.returns
 returns g c =
-    let f : List Datum → Result (List Assignment) DataFault = λ (row : List Datum). each_some (removed_by (g.V.View.graph c.args.view.now) c.args.params.now (row_scope c.args.columns.now row)) c.args.items.now in
-    let xs = c.as_slice-rows.result.now in
-    let none : drop c.loop-i.i xs ≡ [] = drop_all c.loop-i.i xs (omega arith) in
-    sym c.loop-i.invariant ∙ some_end f (drop c.loop-i.i xs) c.loop-i.done none
-
-pub returns-in_err-more : goal.returns-in_err-more
-returns-in_err-more g c =
-    let f : List Datum → Result (List Assignment) DataFault = λ (row : List Datum). each_some (removed_by (g.V.View.graph c.args.view.now) c.args.params.now (row_scope c.args.columns.now row)) c.args.items.now in
-    let xs = c.as_slice-rows.result.now in
-    let i = c.loop-i.i in
-    let x = c.index-rows-i.result in
-    let below : i < length xs = omega arith in
-    let left = drop_here xs i x below c.index-rows-i.is in
-    let here : Fails c.in_err-more.field-0.0 (f x) = c.in_err-more.ensures in
-    let whole : Fails c.in_err-more.field-0.0 (each_some f c.args.rows.now) =
-    rw (← c.loop-i.invariant) (some_fails f (drop i xs) x (drop (i + 1) xs) c.in_err-more.field-0.0 (λ ys. Ok (c.loop-i.done ++ ys)) left here) in
-    search rules
+    let b = c.args.basis.now in
+    let graph = g.V.View.graph b.view.now in
+    let items = c.as_slice.result.now in
+    let whole : each_some (all_in items graph) c.args.rows.now ≡ remove_assignments graph b.params.now b.columns.now c.args.items.now c.args.rows.now =
+    removed_rows b.columns.now b.params.now c.args.items.now items (ap (map item_in) c.as_slice.ensures.value ∙ c.in_ok-prepared.ensures) graph c.args.rows.now in
+    subst (λ (r : Result (List Assignment) DataFault). Gives (λ (a : List Assignment). a) c.assignments_of.result r) whole c.assignments_of.ensures

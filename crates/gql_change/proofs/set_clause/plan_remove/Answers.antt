@@ -5,6 +5,6 @@ use Rattle.gql_change.proofs.set_clause.plan_remove.Goals as goal
 
 pub plan_assignments-requires-after_bounds : goal.plan_assignments-requires-after_bounds
 plan_assignments-requires-after_bounds g c κs within =
-    let fit : all_fit (g.V.View.graph c.args.view.now) c.in_ok-assignments.assignments ≡ true =
-    removed_fits (g.V.View.graph c.args.view.now) c.args.params.now c.args.columns.now c.args.items.now c.args.rows.now c.in_ok-assignments.assignments c.in_ok-assignments.ensures in
+    let fit : all_fit (g.V.View.graph c.args.basis.now.view.now) c.in_ok-assignments.assignments ≡ true =
+    removed_fits (g.V.View.graph c.args.basis.now.view.now) c.args.basis.now.params.now c.args.basis.now.columns.now c.args.items.now c.args.rows.now c.in_ok-assignments.assignments c.in_ok-assignments.ensures in
     rw c.into_vec.ensures fit

@@ -1,0 +1,12 @@
+use Rattle.std.proofs.Common.{◌≡◌, ◌++◌, map, drop, Ok}
+use Rattle.gql_values3.specs.Meaning.{datum_of}
+use Rattle.gql_ast.specs.Faults.{each}
+use Rattle.gql_eval.specs.Machinery.Next.{next}
+use Rattle.gql_eval.specs.Preparation.{Preparation}
+use Rattle.gql_table.specs.Machinery.Preparations.{prepared_value}
+use Rattle.gql_table.proofs.notes.add_values.Given as goal
+
+abbrev pub invariant-loop-i : goal.invariant-loop-i
+invariant-loop-i g l =
+    next (each (λ (p : Preparation). prepared_value (g.V.View.graph l.grouping.view.now) p (map datum_of l.row)) (drop l.i l.prepared)) (λ ds. Ok (l.values ++ ds))
+    ≡ next (each (λ (p : Preparation). prepared_value (g.V.View.graph l.grouping.view.now) p (map datum_of l.row)) l.prepared) (λ ds. Ok (l.fn.values ++ ds))
