@@ -39,5 +39,5 @@ pub mod NameKinds
 pub mod GroupNames
 pub mod RowProperties
 pub mod CellKinds
-mod OneTable
+pub mod OneTable
 pub mod StartLemmas

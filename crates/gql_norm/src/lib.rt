@@ -25,14 +25,14 @@ mod selectors;
 mod sizes;
 mod starts;
 
-pub use copies::{copied_condition, copied_element};
+pub use copies::{copied_condition, copied_element, copied_labels, copied_name};
 pub use declaration::{Declarations, Declared, visible};
 pub use element::{ElementPattern, Predicate, Predicates};
 pub use item::Item;
 pub use laws::{
     acyclic_is_simple, acyclic_is_trail, acyclic_matches_stay, bindings_are_finite,
-    cells_fit_columns, match_tables_grow, members_are_paths, modes_admit_beginnings,
-    row_order_has_no_duplicates, row_order_is_total, rows_fit_columns,
+    cells_fit_columns, match_tables_are_one, match_tables_grow, members_are_paths,
+    modes_admit_beginnings, row_order_has_no_duplicates, row_order_is_total, rows_fit_columns,
 };
 pub use matcher::{MatchFault, Matcher};
 pub use new_columns::columns_after;
