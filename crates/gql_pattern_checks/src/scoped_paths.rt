@@ -1,0 +1,78 @@
+//! A question under what may be named, asked of a whole pattern: of its path names, its path patterns, and the final WHERE.
+
+ghost use Rattle.std.specs.Prelude.{◌≡◌, [], map, OnOk, Some};
+ghost use Rattle.gql_expr_checks.specs.Gives.{Gives};
+ghost use Rattle.gql_norm.specs.NormalData.{path_data, pattern_data};
+ghost use Rattle.gql_pattern_checks.specs.Machinery.ScopeWalk.{refused_in_paths, refused_name, refused_path, refused_path_name, refused_pattern, with_name_of};
+
+use crate::name_list::NameList;
+use crate::scope::Names;
+use crate::scope_walk::check_part;
+use crate::scoped::{ScopeQuestion, Walk, ask_condition};
+use crate::variables::names_of_paths;
+use gql_ast::Refusal;
+use gql_expr_checks::ScopeFault;
+use gql_norm::{NormalPath, NormalPattern};
+use gql_values3::Text;
+
+/// Asks of a pattern. The final WHERE sees all that the pattern names.
+pub fn check_pattern(walk: &Walk, pattern: &NormalPattern) -> Result<(), ScopeFault>
+    ensures { Gives result (refused_pattern walk.now.question walk.now.columns.now (pattern_data pattern.now)) }
+{
+    let names = names_of_paths(walk.alloc, pattern.paths.as_slice())?;
+    check_paths(walk, &names, pattern.paths.as_slice())?;
+    ask_condition(walk, &names, &pattern.condition)
+}
+
+fn check_paths(walk: &Walk, names: &Names, paths: &[NormalPath]) -> Result<(), ScopeFault>
+    ensures { Gives result (refused_in_paths walk.now.question walk.now.columns.now [] names.now.variables (map path_data paths.now)) }
+{
+    let mut before = NameList::new(walk.alloc);
+    for path in paths {
+        check_path(walk, names, &mut before, path)?;
+    }
+    Ok(())
+}
+
+/// Asks of a path pattern, and adds its path name to those before.
+fn check_path(
+    walk: &Walk,
+    names: &Names,
+    before: &mut NameList,
+    path: &NormalPath,
+) -> Result<(), ScopeFault>
+    ensures faults { Gives result (refused_path walk.now.question walk.now.columns.now before.old names.now.variables (path_data path.now)) }
+    ensures added { OnOk result (before.new ≡ with_name_of before.old (path_data path.now).name) }
+{
+    check_path_name(walk, names, before, &path.name)?;
+    check_part(walk, &mut Names::new(walk.alloc), &path.body)?;
+    if let Some(name) = &path.name {
+        before.add(walk.alloc, name)?;
+    }
+    Ok(())
+}
+
+/// Asks of a path name: only its own name matters.
+fn check_path_name(
+    walk: &Walk,
+    names: &Names,
+    before: &NameList,
+    name: &Option<Text>,
+) -> Result<(), ScopeFault>
+    ensures { Gives result (refused_path_name walk.now.question walk.now.columns.now before.now names.now.variables name.now) }
+{
+    match (walk.question, name) {
+        (ScopeQuestion::Names, Some(name)) => check_free(walk, names, before, name),
+        _ => Ok(()),
+    }
+}
+
+/// Checks that a path name stands for nothing else.
+fn check_free(walk: &Walk, names: &Names, before: &NameList, name: &Text) -> Result<(), ScopeFault>
+    ensures { Gives result (refused_name walk.now.columns.now before.now names.now.variables (Some name.now)) }
+{
+    if walk.columns.contains(name) || before.contains(name) || names.variables.contains(name) {
+        return Err(ScopeFault::Defect(Refusal::Variable(name.try_copy(walk.alloc)?)));
+    }
+    Ok(())
+}
