@@ -7,16 +7,11 @@
 
 mod kept;
 
-use gql_fan::Serial;
-use gql_match::PathMatcher;
 use gql_ports::{FileSource, MemKeeper, Records, StdoutSink};
 use gql_session::{Status, code, run};
 use gql_values3::{Numbers, OutOfMemory};
 use kept::kept_records;
 use std::alloc::{AllocError, Global};
-use std::marker::Sync;
-use std::rt::Files;
-use std::thread::Threads;
 use std::{env, io};
 
 fn main(rt: HostRuntime) -> io::Result<()> {
@@ -34,7 +29,7 @@ fn main(rt: HostRuntime) -> io::Result<()> {
 }
 
 /// Runs the session of that name.
-fn run_named<R: Files + Print + AllocGlobal + Threads + Sync>(rt: &R, name: &str) -> Status {
+fn run_named(rt: &HostRuntime, name: &str) -> Status {
     let Ok(words) = command(rt.alloc(), name) else {
         return Status::NoMemory;
     };
@@ -50,15 +45,7 @@ fn run_named<R: Files + Print + AllocGlobal + Threads + Sync>(rt: &R, name: &str
     };
     let mut source = FileSource::new(rt);
     let mut sink = StdoutSink::new(rt);
-    let matcher = PathMatcher::new(Serial::<R>::new());
-    run(
-        rt.alloc(),
-        &matcher,
-        &words,
-        &mut source,
-        &mut sink,
-        &mut keeper,
-    )
+    run(rt.alloc(), &words, &mut source, &mut sink, &mut keeper)
 }
 
 /// The words of the command line that runs the session.

@@ -2,10 +2,3 @@ mod DigitLemmas
 mod BoundLemmas
 mod DeclaredLemmas
 mod KindLemmas
-mod PlaceLemmas
-mod NamedLemmas
-mod RowLemmas
-mod WalkLemmas
-mod OnceLemmas
-mod BestLemmas
-mod JoinLemmas

@@ -2,5 +2,3 @@
 pub mod ToldBounds
 pub mod KindWalk
 pub mod SeenData
-pub mod JoinWalk
-pub mod JoinData

@@ -1,6 +1,4 @@
-mod ChangeLeads
-mod ClauseSteps
-mod FaultSteps
-mod MatchLeads
-mod MatchSteps
-pub mod OneWayLemmas
+pub mod BoundLemmas
+pub mod CandidateLemmas
+pub mod Examples
+pub mod PreparedLemmas

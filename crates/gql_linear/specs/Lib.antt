@@ -1,6 +1,5 @@
+pub mod NodeMatch
 pub mod QueryRun
-pub mod SoundQuery
-pub mod OneWay
 pub mod Gives
 pub mod Runs
 pub mod Causes

@@ -1,7 +1,6 @@
 pub mod StaticRefusals
 pub mod StatementBounds
 pub mod WholePatterns
-pub mod SoundMatches
 pub mod UnknownNames
 pub mod WrongKinds
 pub mod Misuses

@@ -24,7 +24,6 @@ mod statement;
 mod status;
 #[cfg(test)]
 mod tests;
-mod tools;
 mod top_call;
 mod words;
 
