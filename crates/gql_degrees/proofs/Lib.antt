@@ -2,3 +2,10 @@ mod DigitLemmas
 mod BoundLemmas
 mod DeclaredLemmas
 mod KindLemmas
+mod PlaceLemmas
+mod NamedLemmas
+mod RowLemmas
+mod WalkLemmas
+mod OnceLemmas
+mod BestLemmas
+mod JoinLemmas

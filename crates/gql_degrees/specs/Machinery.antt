@@ -2,3 +2,5 @@
 pub mod ToldBounds
 pub mod KindWalk
 pub mod SeenData
+pub mod JoinWalk
+pub mod JoinData

@@ -41,6 +41,13 @@ impl KnownNames {
         }
     }
 
+    /// The entries in order.
+    pub fn as_slice(&self) -> &[(Text, ColumnKind)]
+        ensures { result.now ≡ self.now }
+    {
+        self.names.as_slice()
+    }
+
     /// Whether the name is there.
     pub fn contains(&self, name: &Text) -> bool
         ensures { result ≡ is_column self.now name.now }
