@@ -1,13 +1,18 @@
-//! The program `gql`: its words, the session's file, standard output, and a store in memory.
+//! The program `gql`: its words, the session's file, standard output, a store in memory, and a matcher of path patterns.
 //!
-//! It makes the ports, calls `gql_session::run`, whose contract is the product's promise, says on standard error how a
+//! It makes the ports and the matcher, calls `gql_session::run`, whose contract is the product's promise, says on standard error how a
 //! run failed, and ends with the status's number.
 #![tactic(auto)]
 
+use gql_fan::Serial;
+use gql_match::PathMatcher;
 use gql_ports::{FileSource, MemKeeper, Records, StdoutSink};
 use gql_session::{Status, code, run};
 use gql_values3::Numbers;
+use std::marker::Sync;
 use std::process::ExitCode;
+use std::rt::{Env, Files};
+use std::thread::Threads;
 use std::{env, io};
 
 fn main(rt: HostRuntime) -> ExitCode {
@@ -17,8 +22,8 @@ fn main(rt: HostRuntime) -> ExitCode {
     ExitCode::from(code(&status))
 }
 
-/// Runs the command line.
-fn run_words(rt: &HostRuntime) -> Status {
+/// Runs the command line. Path patterns are searched on this thread alone.
+fn run_words<R: Env + Files + Print + AllocGlobal + Threads + Sync>(rt: &R) -> Status {
     // A word that is no UTF-8 is no word of a command.
     let Ok(words) = env::args(rt) else {
         return Status::Usage;
@@ -35,7 +40,15 @@ fn run_words(rt: &HostRuntime) -> Status {
     };
     let mut source = FileSource::new(rt);
     let mut sink = StdoutSink::new(rt);
-    run(rt.alloc(), &words, &mut source, &mut sink, &mut keeper)
+    let matcher = PathMatcher::new(Serial::<R>::new());
+    run(
+        rt.alloc(),
+        &matcher,
+        &words,
+        &mut source,
+        &mut sink,
+        &mut keeper,
+    )
 }
 
 /// Says on standard error how the run failed, where it did.

@@ -7,11 +7,16 @@
 
 mod kept;
 
+use gql_fan::Serial;
+use gql_match::PathMatcher;
 use gql_ports::{FileSource, MemKeeper, Records, StdoutSink};
 use gql_session::{Status, code, run};
 use gql_values3::{Numbers, OutOfMemory};
 use kept::kept_records;
 use std::alloc::{AllocError, Global};
+use std::marker::Sync;
+use std::rt::Files;
+use std::thread::Threads;
 use std::{env, io};
 
 fn main(rt: HostRuntime) -> io::Result<()> {
@@ -29,7 +34,7 @@ fn main(rt: HostRuntime) -> io::Result<()> {
 }
 
 /// Runs the session of that name.
-fn run_named(rt: &HostRuntime, name: &str) -> Status {
+fn run_named<R: Files + Print + AllocGlobal + Threads + Sync>(rt: &R, name: &str) -> Status {
     let Ok(words) = command(rt.alloc(), name) else {
         return Status::NoMemory;
     };
@@ -45,7 +50,15 @@ fn run_named(rt: &HostRuntime, name: &str) -> Status {
     };
     let mut source = FileSource::new(rt);
     let mut sink = StdoutSink::new(rt);
-    run(rt.alloc(), &words, &mut source, &mut sink, &mut keeper)
+    let matcher = PathMatcher::new(Serial::<R>::new());
+    run(
+        rt.alloc(),
+        &matcher,
+        &words,
+        &mut source,
+        &mut sink,
+        &mut keeper,
+    )
 }
 
 /// The words of the command line that runs the session.

@@ -1,4 +1,6 @@
-pub mod BoundLemmas
-pub mod CandidateLemmas
-pub mod Examples
-pub mod PreparedLemmas
+mod ChangeLeads
+mod ClauseSteps
+mod FaultSteps
+mod MatchLeads
+mod MatchSteps
+pub mod OneWayLemmas

@@ -2,6 +2,8 @@
 use Rattle.gql_ast.specs.declared.refusal.Refusal.TheVariants as refusal
 use Rattle.gql_eval.specs.declared.error.EvalError.{EvalError}
 use Rattle.gql_eval.specs.declared.error.EvalError.TheVariants as error
+use Rattle.gql_norm.specs.declared.matcher.MatchFault.{MatchFault}
+use Rattle.gql_norm.specs.declared.matcher.MatchFault.TheVariants as match
 use Rattle.gql_change.specs.declared.fault.ChangeFault.{ChangeFault}
 use Rattle.gql_change.specs.declared.fault.ChangeFault.TheVariants as change
 use Rattle.gql_linear.specs.declared.answer.RunFault.{RunFault}
@@ -11,6 +13,11 @@ use Rattle.gql_linear.specs.declared.answer.RunFault.TheVariants as fault
 abbrev pub run_fault : EvalError → RunFault
 run_fault error.OutOfMemory = fault.OutOfMemory
 run_fault (error.Fault f) = fault.Refused (refusal.Fault f)
+
+-- so is that of a final WHERE, wherever it stands
+abbrev pub match_fault : MatchFault → RunFault
+match_fault match.OutOfMemory = fault.OutOfMemory
+match_fault (match.Final at f) = fault.Refused (refusal.Fault f)
 
 -- the refusal of a change is one of the query
 abbrev pub refused_change : ChangeFault → RunFault

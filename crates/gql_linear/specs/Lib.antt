@@ -1,5 +1,6 @@
-pub mod NodeMatch
 pub mod QueryRun
+pub mod SoundQuery
+pub mod OneWay
 pub mod Gives
 pub mod Runs
 pub mod Causes

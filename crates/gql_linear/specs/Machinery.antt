@@ -1,4 +1,2 @@
--- What mirrors the code for its proofs. A reader of the promises may skip it.
-pub mod AskedProperties
-pub mod PreparedConditions
-pub mod RowNode
+-- What mirrors the code for its proofs: which clauses act over tables alone. A reader of the promises may skip it.
+pub mod TableClauses

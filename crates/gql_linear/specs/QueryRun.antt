@@ -1,25 +1,28 @@
 -- A query: its clauses act one after the other, each on the graph and the table that the one before left. The first
--- refusal ends it.
-use Rattle.std.specs.Prelude.{ℕ, Bool, List, [], ◌∷◌, map, Option, Some, None, Result, Ok, Err, if◌then◌else◌}
+-- refusal ends it. A selector may leave MATCH a choice, so a query may run in more than one way.
+use Rattle.std.specs.Prelude.{◌≡◌, ℕ, Bool, List, [], ◌∷◌, map, Option, Some, None, Result, Ok, Err, if◌then◌else◌}
 use Rattle.std.specs.List.{list_any}
 use Rattle.gql_values3.specs.Datum.{Datum}
 use Rattle.gql_values3.specs.PropertyGraph.{PropertyGraph}
 use Rattle.gql_values3.specs.declared.table.ColumnKind.{ColumnKind}
 use Rattle.gql_values3.specs.declared.table.Table.{Table}
 use Rattle.gql_ast.specs.Faults.{◌>>=◌}
-use Rattle.gql_ast.specs.ClauseColumns.{ColumnList, match_columns}
+use Rattle.gql_ast.specs.ClauseColumns.{ColumnList}
 use Rattle.gql_ast.specs.InsertColumns.{change_columns}
 use Rattle.gql_ast.specs.LastClause.{is_change, ends_in_change}
 use Rattle.gql_ast.specs.declared.clause.Clause.{Clause}
 use Rattle.gql_ast.specs.declared.clause.Clause.TheVariants as clause
+use Rattle.gql_ast.specs.declared.clause.Match.{Match}
 use Rattle.gql_ast.specs.declared.clause.Query.{Query}
 use Rattle.gql_ast.specs.declared.fault.DataFault.{DataFault}
 use Rattle.gql_ast.specs.declared.refusal.Refusal.{Refusal}
 use Rattle.gql_ast.specs.declared.refusal.Refusal.TheVariants as refusal
 use Rattle.gql_eval.specs.RowLists.{RowList}
+use Rattle.gql_norm.specs.MatchTable.{IsMatchTable}
+use Rattle.gql_norm.specs.NewColumns.{columns_after}
+use Rattle.gql_norm.specs.NormalForm.{normal_form}
 use Rattle.gql_table.specs.Clauses.{table_after}
 use Rattle.gql_change.specs.Changing.{Changed, change_of}
-use Rattle.gql_linear.specs.NodeMatch.{match_rows}
 
 -- columns and rows between clauses
 abbrev pub WorkingTable : Type 0
@@ -32,9 +35,6 @@ pub record Working : Type 0 where
   pub rows : RowList
 
 -- a query begins with one row without columns
-abbrev pub unit_table : WorkingTable
-unit_table = ([], [] ∷ [])
-
 abbrev pub beginning : PropertyGraph → Working
 beginning g = record { graph = g; columns = []; rows = [] ∷ [] }
 
@@ -52,28 +52,35 @@ abbrev pub with_change : ColumnList → Result Changed Refusal → Result Workin
 with_change columns (Ok c) = Ok (record { graph = c.0; columns = columns; rows = c.1 })
 with_change columns (Err r) = Err r
 
--- one step after another; the first refusal ends them
-abbrev pub unless_refused : {A B : Type 0} → Result A Refusal → (A → Result B Refusal) → Result B Refusal
-unless_refused (Ok x) f = f x
-unless_refused (Err r) f = Err r
+-- the rows under their columns, or the fault
+abbrev pub under_columns : ColumnList → Result RowList DataFault → Result WorkingTable DataFault
+under_columns columns rows = rows >>= λ rs. Ok (columns, rs)
+
+-- what MATCH may give behind a table: some match table of its pattern's normal form, under the columns behind it
+abbrev pub MatchesTo : PropertyGraph → List (List ℕ × Datum) → WorkingTable → Match → Result WorkingTable DataFault → Type 0
+MatchesTo g params t m result =
+    (rows : Result RowList DataFault) × IsMatchTable g params t.0 (normal_form m.pattern) m.optional t.1 rows × (result ≡ under_columns (columns_after t.0 (normal_form m.pattern)) rows)
+
+-- a refusal is the result; behind a clause that is answered come the others
+abbrev pub ThenRest : (Working → Type 0) → Result Working Refusal → Result Working Refusal → Type 0
+ThenRest Rest result (Ok u) = Rest u
+ThenRest Rest result (Err r) = result ≡ Err r
 
 module _ (params : List (List ℕ × Datum)) where
-  -- the table behind a clause that reads
-  abbrev pub read_clause : PropertyGraph → WorkingTable → Clause → Result WorkingTable DataFault
-  read_clause g t (clause.Match m) = match_rows g params t.0 m.pattern t.1 >>= λ rs. Ok (match_columns t.0 m.pattern, rs)
-  read_clause g t c = table_after g params t.0 c t.1
+  -- what one clause may lead to; all but MATCH lead to one result
+  abbrev pub MayLeadTo : Working → Clause → Result Working Refusal → Type 0
+  MayLeadTo t (clause.Match m) result = (table : Result WorkingTable DataFault) × MatchesTo t.graph params (t.columns, t.rows) m table × (result ≡ with_table t.graph table)
+  MayLeadTo t (clause.Change c) result = result ≡ with_change (change_columns t.columns c) (change_of t.graph params t.columns t.rows c)
+  MayLeadTo t c result = result ≡ with_table t.graph (table_after t.graph params t.columns c t.rows)
 
-  abbrev pub behind_clause : Working → Clause → Result Working Refusal
-  behind_clause t (clause.Change c) = with_change (change_columns t.columns c) (change_of t.graph params t.columns t.rows c)
-  behind_clause t c = with_table t.graph (read_clause t.graph (t.columns, t.rows) c)
+  -- what clauses may lead to, one after the other
+  abbrev pub MayRun : Working → List Clause → Result Working Refusal → Type 0
+  MayRun t [] result = result ≡ Ok t
+  MayRun t (c ∷ cs) result = (behind : Result Working Refusal) × MayLeadTo t c behind × ThenRest (λ u. MayRun u cs result) result behind
 
-  abbrev pub behind_clauses : Working → List Clause → Result Working Refusal
-  behind_clauses t [] = Ok t
-  behind_clauses t (c ∷ cs) = unless_refused (behind_clause t c) (λ u. behind_clauses u cs)
-
--- the graph and the table behind a query that begins on this graph, or its first refusal
-abbrev pub query_run : PropertyGraph → List (List ℕ × Datum) → Query → Result Working Refusal
-query_run g params q = behind_clauses params (beginning g) q.clauses
+-- the graph and the table to which a query may lead that begins on this graph, or a refusal in which it may end
+abbrev pub QueryMayRun : PropertyGraph → List (List ℕ × Datum) → Query → Result Working Refusal → Type 0
+QueryMayRun g params q result = MayRun params (beginning g) q.clauses result
 
 -- some clause of the query changes data
 abbrev pub changes_data : Query → Bool

@@ -3,6 +3,7 @@
 use gql_ast::Refusal;
 use gql_change::ChangeFault;
 use gql_eval::EvalError;
+use gql_norm::MatchFault;
 use gql_values3::{OutOfMemory, Table};
 
 /// What a query is answered with.
@@ -31,6 +32,20 @@ impl From<EvalError> for RunFault {
         match error {
             EvalError::Fault(fault) => RunFault::Refused(Refusal::Fault(fault)),
             EvalError::OutOfMemory => RunFault::OutOfMemory,
+        }
+    }
+}
+
+impl From<MatchFault> for RunFault {
+    ghost use Rattle.std.specs.Prelude.{◌≡◌};
+    ghost use Rattle.gql_linear.specs.Causes.{match_fault};
+
+    ghost from_gives = { λ error fault. fault ≡ match_fault error };
+
+    fn from(error: MatchFault) -> RunFault {
+        match error {
+            MatchFault::Final { fault, .. } => RunFault::Refused(Refusal::Fault(fault)),
+            MatchFault::OutOfMemory => RunFault::OutOfMemory,
         }
     }
 }

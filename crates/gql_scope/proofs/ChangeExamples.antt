@@ -3,7 +3,11 @@ use Rattle.std.proofs.Common.{◌≡◌, ℕ, false, List, [], ◌∷◌, codes,
 use Rattle.gql_expr_checks.specs.ExprMisuses.{misused}
 use Rattle.gql_ast.specs.ExprText.{expr_text}
 use Rattle.gql_ast.specs.RowAggregates.{row_aggregates}
-use Rattle.gql_scope.specs.StaticRefusals.{static_refusal}
+use Rattle.gql_norm.specs.Places.{size}
+use Rattle.gql_norm.specs.Declaration.{visible}
+use Rattle.gql_norm.specs.PredicateSpot.{predicates_in}
+use Rattle.gql_norm.specs.Termination.{least_length, has_empty_loop, unprotected}
+use Rattle.gql_scope.specs.WholePatterns.{whole_refusal}
 use Rattle.gql_ast.specs.declared.change.Arrow.TheVariants as arrow
 use Rattle.gql_ast.specs.declared.change.ChangeClause.TheVariants as change
 use Rattle.gql_ast.specs.declared.change.Detachment.TheVariants as detachment
@@ -72,74 +76,74 @@ return x = clause.Return (record { quantifier = quantifier.All; items = items.Li
 
 -- the refusal of a query where no parameter is set
 abbrev refused : List Clause → Option Refusal
-refused cs = static_refusal [] (statement.Query (record { clauses = cs }))
+refused cs = whole_refusal [] (statement.Query (record { clauses = cs }))
 
 -- INSERT (a)-[e]->(b) RETURN e
 an_insert_gives_its_variables : refused (insert (to (codes "a") (codes "e") (codes "b") ∷ []) ∷ return (codes "e") ∷ []) ≡ None
-unfolding misused row_aggregates expr_text
+unfolding size visible predicates_in least_length has_empty_loop unprotected misused row_aggregates expr_text
 an_insert_gives_its_variables = refl
 
 -- INSERT (b)-[b]->(c)
 an_edge_takes_a_name : refused (insert (to (codes "b") (codes "b") (codes "c") ∷ []) ∷ []) ≡ Some (refusal.Variable (codes "b"))
-unfolding misused row_aggregates expr_text
+unfolding size visible predicates_in least_length has_empty_loop unprotected misused row_aggregates expr_text
 an_edge_takes_a_name = refl
 
 -- INSERT (a)-[e]->(b), (e)
 an_edge_is_no_endpoint : refused (insert (to (codes "a") (codes "e") (codes "b") ∷ lone (bare (codes "e")) ∷ []) ∷ []) ≡ Some (refusal.Kind (codes "e"))
-unfolding misused row_aggregates expr_text
+unfolding size visible predicates_in least_length has_empty_loop unprotected misused row_aggregates expr_text
 an_edge_is_no_endpoint = refl
 
 -- LET a = 1 INSERT (a)
 a_plain_endpoint : refused (give (codes "a") ∷ insert (lone (bare (codes "a")) ∷ []) ∷ []) ≡ Some (refusal.Kind (codes "a"))
-unfolding misused row_aggregates expr_text
+unfolding size visible predicates_in least_length has_empty_loop unprotected misused row_aggregates expr_text
 a_plain_endpoint = refl
 
 -- MATCH (a) INSERT (a)-[e]->(b)
 a_column_is_an_endpoint : refused (match (codes "a") ∷ insert (to (codes "a") (codes "e") (codes "b") ∷ []) ∷ []) ≡ None
-unfolding misused row_aggregates expr_text
+unfolding size visible predicates_in least_length has_empty_loop unprotected misused row_aggregates expr_text
 a_column_is_an_endpoint = refl
 
 -- INSERT (a), (a:B)
 a_reference_with_a_label : refused (insert (lone (bare (codes "a")) ∷ lone (labelled (codes "a") (codes "B")) ∷ []) ∷ []) ≡ Some (refusal.Variable (codes "a"))
-unfolding misused row_aggregates expr_text
+unfolding size visible predicates_in least_length has_empty_loop unprotected misused row_aggregates expr_text
 a_reference_with_a_label = refl
 
 -- INSERT (a), (a {})
 a_reference_with_an_empty_map : refused (insert (lone (bare (codes "a")) ∷ lone (mapped (codes "a") []) ∷ []) ∷ []) ≡ Some (refusal.Variable (codes "a"))
-unfolding misused row_aggregates expr_text
+unfolding size visible predicates_in least_length has_empty_loop unprotected misused row_aggregates expr_text
 a_reference_with_an_empty_map = refl
 
 -- INSERT (a {n: 1}), (b {n: a.n})
 a_map_sees_no_new_variable : refused (insert (lone (mapped (codes "a") (has (codes "n") one ∷ [])) ∷ lone (mapped (codes "b") (has (codes "n") (of (codes "a") (codes "n")) ∷ [])) ∷ []) ∷ []) ≡ Some (refusal.Variable (codes "a"))
-unfolding misused row_aggregates expr_text
+unfolding size visible predicates_in least_length has_empty_loop unprotected misused row_aggregates expr_text
 a_map_sees_no_new_variable = refl
 
 -- INSERT (a {n: 1, n: 1})
 a_property_twice : refused (insert (lone (mapped (codes "a") (has (codes "n") one ∷ has (codes "n") one ∷ [])) ∷ []) ∷ []) ≡ Some (refusal.Column (column.Property (codes "n")))
-unfolding misused row_aggregates expr_text
+unfolding size visible predicates_in least_length has_empty_loop unprotected misused row_aggregates expr_text
 a_property_twice = refl
 
 -- INSERT (a {n: COUNT(*)})
 an_aggregate_in_a_map : refused (insert (lone (mapped (codes "a") (has (codes "n") expr.CountAll ∷ [])) ∷ []) ∷ []) ≡ Some refusal.Misuse
-unfolding misused row_aggregates expr_text
+unfolding size visible predicates_in least_length has_empty_loop unprotected misused row_aggregates expr_text
 an_aggregate_in_a_map = refl
 
 -- INSERT (a {n: $p})
 a_parameter_in_a_map : refused (insert (lone (mapped (codes "a") (has (codes "n") (expr.Parameter (codes "p")) ∷ [])) ∷ []) ∷ []) ≡ Some (refusal.Parameter (codes "p"))
-unfolding misused row_aggregates expr_text
+unfolding size visible predicates_in least_length has_empty_loop unprotected misused row_aggregates expr_text
 a_parameter_in_a_map = refl
 
 -- MATCH (x) SET y.n = 1
 an_unknown_target : refused (match (codes "x") ∷ clause.Change (change.Set (set_item.Property (codes "y") (codes "n") one ∷ [])) ∷ []) ≡ Some (refusal.Variable (codes "y"))
-unfolding misused row_aggregates expr_text
+unfolding size visible predicates_in least_length has_empty_loop unprotected misused row_aggregates expr_text
 an_unknown_target = refl
 
 -- LET y = 1 REMOVE y:B
 a_plain_target : refused (give (codes "y") ∷ clause.Change (change.Remove (remove_item.Label (codes "y") (codes "B") ∷ [])) ∷ []) ≡ Some (refusal.Kind (codes "y"))
-unfolding misused row_aggregates expr_text
+unfolding size visible predicates_in least_length has_empty_loop unprotected misused row_aggregates expr_text
 a_plain_target = refl
 
 -- MATCH (x) DELETE x, z
 an_unknown_name_in_delete : refused (match (codes "x") ∷ clause.Change (change.Delete detachment.NoDetach (codes "x" ∷ codes "z" ∷ [])) ∷ []) ≡ Some (refusal.Variable (codes "z"))
-unfolding misused row_aggregates expr_text
+unfolding size visible predicates_in least_length has_empty_loop unprotected misused row_aggregates expr_text
 an_unknown_name_in_delete = refl

@@ -3,6 +3,10 @@ pub mod LetLemmas
 pub mod SpotLemmas
 pub mod MapLemmas
 pub mod WalkLemmas
+pub mod FormLemmas
+pub mod JoinLemmas
+pub mod GatheringLemmas
+pub mod SoundLemmas
 pub mod EndpointLemmas
 mod RefusalExamples
 mod ChangeExamples

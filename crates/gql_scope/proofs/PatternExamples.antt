@@ -27,16 +27,12 @@ use Rattle.gql_norm.specs.Places.{size}
 use Rattle.gql_norm.specs.Declaration.{visible}
 use Rattle.gql_norm.specs.PredicateSpot.{predicates_in}
 use Rattle.gql_norm.specs.Termination.{least_length, has_empty_loop, unprotected}
-use Rattle.gql_scope.specs.StaticRefusals.{static_refusal}
 use Rattle.gql_scope.specs.StatementBounds.{first_bound}
 use Rattle.gql_scope.specs.WholePatterns.{whole_refusal}
 
--- the refusal of a query where the parameter p alone is set; and what is refused of it over one node
+-- the refusal of a query where the parameter p alone is set
 abbrev refused : List Clause → Option Refusal
 refused cs = whole_refusal ((codes "p", integer (pos 1)) ∷ []) (statement.Query (record { clauses = cs }))
-
-abbrev refused_so_far : List Clause → Option Refusal
-refused_so_far cs = static_refusal ((codes "p", integer (pos 1)) ∷ []) (statement.Query (record { clauses = cs }))
 
 abbrev one : Expr
 one = expr.Number (codes "1")
@@ -133,35 +129,32 @@ a_parameter_at_an_edge : refused (match (step_from (called (codes "x")) (with_n 
 unfolding size visible predicates_in least_length has_empty_loop unprotected misused row_aggregates expr_text
 a_parameter_at_an_edge = refl
 
--- over one node nothing changes
-abbrev same : List Clause → Type 0
-same cs = refused cs ≡ refused_so_far cs
-
+-- a node by itself
 abbrev alone : Expr → Clause
 alone e = match (path.Node (record { variable = Some (codes "x"); labels = None; condition = Some (condition.Map (record { name = codes "n"; value = e } ∷ [])) }))
 
 -- MATCH (x {n: x.n}) RETURN x
-a_node_sees_itself : same (alone (expr.Property (codes "x") (codes "n")) ∷ give_back (expr.Name (codes "x")) ∷ [])
+a_node_sees_itself : refused (alone (expr.Property (codes "x") (codes "n")) ∷ give_back (expr.Name (codes "x")) ∷ []) ≡ None
 unfolding size visible predicates_in least_length has_empty_loop unprotected misused row_aggregates expr_text
 a_node_sees_itself = refl
 
 -- MATCH (x {n: z}) RETURN x
-a_node_sees_no_other : same (alone (expr.Name (codes "z")) ∷ give_back (expr.Name (codes "x")) ∷ [])
+a_node_sees_no_other : refused (alone (expr.Name (codes "z")) ∷ give_back (expr.Name (codes "x")) ∷ []) ≡ Some (refusal.Variable (codes "z"))
 unfolding size visible predicates_in least_length has_empty_loop unprotected misused row_aggregates expr_text
 a_node_sees_no_other = refl
 
 -- MATCH (x {n: COUNT(*)}) RETURN x
-no_aggregate_in_a_node : same (alone expr.CountAll ∷ give_back (expr.Name (codes "x")) ∷ [])
+no_aggregate_in_a_node : refused (alone expr.CountAll ∷ give_back (expr.Name (codes "x")) ∷ []) ≡ Some refusal.Misuse
 unfolding size visible predicates_in least_length has_empty_loop unprotected misused row_aggregates expr_text
 no_aggregate_in_a_node = refl
 
 -- MATCH (x {n: $q}) RETURN x
-a_parameter_in_a_node : same (alone (expr.Parameter (codes "q")) ∷ give_back (expr.Name (codes "x")) ∷ [])
+a_parameter_in_a_node : refused (alone (expr.Parameter (codes "q")) ∷ give_back (expr.Name (codes "x")) ∷ []) ≡ Some (refusal.Parameter (codes "q"))
 unfolding size visible predicates_in least_length has_empty_loop unprotected misused row_aggregates expr_text
 a_parameter_in_a_node = refl
 
 -- LET x = 1 MATCH (x {n: 1}) RETURN x
-a_plain_column_is_no_node : same (clause.Let (record { name = codes "x"; value = one } ∷ []) ∷ alone one ∷ give_back (expr.Name (codes "x")) ∷ [])
+a_plain_column_is_no_node : refused (clause.Let (record { name = codes "x"; value = one } ∷ []) ∷ alone one ∷ give_back (expr.Name (codes "x")) ∷ []) ≡ Some (refusal.Kind (codes "x"))
 unfolding size visible predicates_in least_length has_empty_loop unprotected misused row_aggregates expr_text
 a_plain_column_is_no_node = refl
 

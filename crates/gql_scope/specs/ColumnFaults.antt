@@ -7,17 +7,14 @@ use Rattle.gql_values3.specs.declared.table.ColumnKind.{ColumnKind}
 use Rattle.gql_ast.specs.Tree.{Tree}
 use Rattle.gql_ast.specs.Meaning.{tree_of}
 use Rattle.gql_ast.specs.Outputs.{item_name}
-use Rattle.gql_ast.specs.ClauseColumns.{ColumnList, node_of_pattern}
+use Rattle.gql_ast.specs.ClauseColumns.{ColumnList}
 use Rattle.gql_ast.specs.InsertColumns.{insert_spots}
-use Rattle.gql_ast.specs.Projections.{is_key, columns_behind}
+use Rattle.gql_ast.specs.Projections.{is_key}
 use Rattle.gql_ast.specs.declared.change.ChangeClause.{ChangeClause}
 use Rattle.gql_ast.specs.declared.change.ChangeClause.TheVariants as change
 use Rattle.gql_ast.specs.declared.change.Fill.{Fill}
 use Rattle.gql_ast.specs.declared.clause.Clause.{Clause}
 use Rattle.gql_ast.specs.declared.clause.Clause.TheVariants as clause
-use Rattle.gql_ast.specs.declared.filler.Condition.{Condition}
-use Rattle.gql_ast.specs.declared.filler.Condition.TheVariants as condition
-use Rattle.gql_ast.specs.declared.filler.Filler.{Filler}
 use Rattle.gql_ast.specs.declared.filler.MapItem.{MapItem}
 use Rattle.gql_ast.specs.declared.projection.Return.{Return}
 use Rattle.gql_ast.specs.declared.projection.ReturnItem.{ReturnItem}
@@ -27,14 +24,6 @@ use Rattle.gql_ast.specs.declared.refusal.ColumnRef.{ColumnRef}
 use Rattle.gql_ast.specs.declared.refusal.ColumnRef.TheVariants as column
 use Rattle.gql_expr_checks.specs.NamesOutside.{names_outside}
 use Rattle.gql_expr_checks.specs.Repeated.{is_among, repeated}
-
-abbrev pub faults_in_condition : Option Condition → List ColumnRef
-faults_in_condition (Some (condition.Map is)) = map column.Property (repeated [] (map (λ (i : MapItem). i.name) is))
-faults_in_condition _ = []
-
-abbrev pub faults_in_node : Option Filler → List ColumnRef
-faults_in_node None = []
-faults_in_node (Some f) = faults_in_condition f.condition
 
 module _ (columns : ColumnList) where
   -- an item with an aggregate over rows may name no column outside it
@@ -94,12 +83,8 @@ abbrev pub faults_in_change : ChangeClause → List ColumnRef
 faults_in_change (change.Insert ps) = flat_map (λ (s : ColumnKind × Fill). faults_in_map s.1.map) (insert_spots ps)
 faults_in_change _ = []
 
+-- of a clause that is no MATCH
 abbrev pub faults_in_clause : ColumnList → Clause → List ColumnRef
-faults_in_clause columns (clause.Match m) = faults_in_node (node_of_pattern m.pattern)
 faults_in_clause columns (clause.Return r) = faults_in_return columns r
 faults_in_clause columns (clause.Change c) = faults_in_change c
 faults_in_clause columns _ = []
-
-abbrev pub faults_in_clauses : ColumnList → List Clause → List ColumnRef
-faults_in_clauses columns [] = []
-faults_in_clauses columns (c ∷ cs) = faults_in_clause columns c ++ faults_in_clauses (columns_behind columns c) cs

@@ -1,6 +1,7 @@
 pub mod StaticRefusals
 pub mod StatementBounds
 pub mod WholePatterns
+pub mod SoundMatches
 pub mod UnknownNames
 pub mod WrongKinds
 pub mod Misuses

@@ -1,3 +1,8 @@
--- What mirrors the code for its proofs: what an INSERT is asked. A reader of the promises may skip it.
+-- What mirrors the code for its proofs: what an INSERT is asked, and how the names of a pattern are gathered. A reader of the
+-- promises may skip it.
 pub mod NodesAlone
 pub mod Questions
+pub mod Forms
+pub mod Gathering
+pub mod GatheredData
+pub mod Joins

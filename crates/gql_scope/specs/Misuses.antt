@@ -5,9 +5,9 @@ use Rattle.std.specs.List.{list_any}
 use Rattle.gql_values3.specs.declared.table.ColumnKind.{ColumnKind}
 use Rattle.gql_ast.specs.Meaning.{tree_of}
 use Rattle.gql_ast.specs.Outputs.{kind_of}
-use Rattle.gql_ast.specs.ClauseColumns.{ColumnList, node_of_pattern, match_columns, with_filler}
+use Rattle.gql_ast.specs.ClauseColumns.{ColumnList}
 use Rattle.gql_ast.specs.InsertColumns.{insert_spots}
-use Rattle.gql_ast.specs.Projections.{sort_columns, columns_behind}
+use Rattle.gql_ast.specs.Projections.{sort_columns}
 use Rattle.gql_ast.specs.declared.change.ChangeClause.{ChangeClause}
 use Rattle.gql_ast.specs.declared.change.ChangeClause.TheVariants as change
 use Rattle.gql_ast.specs.declared.change.Fill.{Fill}
@@ -16,35 +16,14 @@ use Rattle.gql_ast.specs.declared.change.SetItem.TheVariants as set_item
 use Rattle.gql_ast.specs.declared.clause.Clause.{Clause}
 use Rattle.gql_ast.specs.declared.clause.Clause.TheVariants as clause
 use Rattle.gql_ast.specs.declared.clause.LetItem.{LetItem}
-use Rattle.gql_ast.specs.declared.expr.Expr.{Expr}
-use Rattle.gql_ast.specs.declared.filler.Condition.{Condition}
-use Rattle.gql_ast.specs.declared.filler.Condition.TheVariants as condition
-use Rattle.gql_ast.specs.declared.filler.Filler.{Filler}
 use Rattle.gql_ast.specs.declared.filler.MapItem.{MapItem}
 use Rattle.gql_ast.specs.declared.page.Page.{Page}
 use Rattle.gql_ast.specs.declared.page.Page.TheVariants as page
 use Rattle.gql_ast.specs.declared.page.SortItem.{SortItem}
-use Rattle.gql_ast.specs.declared.path.GraphPattern.{GraphPattern}
 use Rattle.gql_ast.specs.declared.projection.ReturnItem.{ReturnItem}
 use Rattle.gql_ast.specs.declared.projection.ReturnItems.{ReturnItems}
 use Rattle.gql_ast.specs.declared.projection.ReturnItems.TheVariants as items
 use Rattle.gql_expr_checks.specs.ExprMisuses.{misused_expr, elsewhere, item}
-
-abbrev pub misused_if : ColumnList → Option Expr → Bool
-misused_if columns None = false
-misused_if columns (Some e) = misused_expr columns elsewhere e
-
-abbrev pub misused_condition : ColumnList → Option Condition → Bool
-misused_condition columns None = false
-misused_condition columns (Some (condition.Map is)) = list_any (λ (i : MapItem). misused_expr columns elsewhere i.value) is
-misused_condition columns (Some (condition.Where e)) = misused_expr columns elsewhere e
-
-abbrev pub misused_node : ColumnList → Option Filler → Bool
-misused_node columns None = false
-misused_node columns (Some f) = misused_condition (with_filler columns (Some f)) f.condition
-
-abbrev pub misused_pattern : ColumnList → GraphPattern → Bool
-misused_pattern columns g = misused_node columns (node_of_pattern g) || misused_if (match_columns columns g) g.condition
 
 abbrev pub misused_let : ColumnList → List LetItem → Bool
 misused_let columns [] = false
@@ -78,15 +57,12 @@ misused_change columns (change.Insert ps) = list_any (λ (s : ColumnKind × Fill
 misused_change columns (change.Set is) = list_any (misused_set columns) is
 misused_change columns _ = false
 
+-- of a clause that is no MATCH; of a MATCH `WholePatterns` says what its pattern does wrong
 abbrev pub misused_clause : ColumnList → Clause → Bool
-misused_clause columns (clause.Match m) = misused_pattern columns m.pattern
+misused_clause columns (clause.Match m) = false
 misused_clause columns (clause.Let is) = misused_let columns is
 misused_clause columns (clause.Filter e) = misused_expr columns elsewhere e
 misused_clause columns (clause.For f) = misused_expr columns elsewhere f.list
 misused_clause columns (clause.Page p) = misused_page columns p
 misused_clause columns (clause.Return r) = misused_items columns r.items || misused_order (sort_columns columns r) r.order
 misused_clause columns (clause.Change c) = misused_change columns c
-
-abbrev pub misused_clauses : ColumnList → List Clause → Bool
-misused_clauses columns [] = false
-misused_clauses columns (c ∷ cs) = misused_clause columns c || misused_clauses (columns_behind columns c) cs

@@ -7,9 +7,9 @@ use Rattle.gql_values3.specs.declared.table.ColumnKind.{ColumnKind}
 use Rattle.gql_values3.specs.declared.table.ColumnKind.TheVariants as kind
 use Rattle.gql_ast.specs.Meaning.{tree_of}
 use Rattle.gql_ast.specs.Outputs.{kind_of}
-use Rattle.gql_ast.specs.ClauseColumns.{ColumnList, is_column, node_of_pattern, match_columns, with_filler}
+use Rattle.gql_ast.specs.ClauseColumns.{ColumnList, is_column}
 use Rattle.gql_ast.specs.InsertColumns.{Spots, insert_spots, with_variable}
-use Rattle.gql_ast.specs.Projections.{sort_columns, columns_behind}
+use Rattle.gql_ast.specs.Projections.{sort_columns}
 use Rattle.gql_ast.specs.declared.change.ChangeClause.{ChangeClause}
 use Rattle.gql_ast.specs.declared.change.ChangeClause.TheVariants as change
 use Rattle.gql_ast.specs.declared.change.Fill.{Fill}
@@ -22,41 +22,19 @@ use Rattle.gql_ast.specs.declared.clause.Clause.TheVariants as clause
 use Rattle.gql_ast.specs.declared.clause.Counting.{Counting}
 use Rattle.gql_ast.specs.declared.clause.For.{For}
 use Rattle.gql_ast.specs.declared.clause.LetItem.{LetItem}
-use Rattle.gql_ast.specs.declared.expr.Expr.{Expr}
-use Rattle.gql_ast.specs.declared.filler.Condition.{Condition}
-use Rattle.gql_ast.specs.declared.filler.Condition.TheVariants as condition
-use Rattle.gql_ast.specs.declared.filler.Filler.{Filler}
 use Rattle.gql_ast.specs.declared.filler.MapItem.{MapItem}
 use Rattle.gql_ast.specs.declared.page.Page.{Page}
 use Rattle.gql_ast.specs.declared.page.Page.TheVariants as page
 use Rattle.gql_ast.specs.declared.page.SortItem.{SortItem}
-use Rattle.gql_ast.specs.declared.path.GraphPattern.{GraphPattern}
 use Rattle.gql_ast.specs.declared.projection.Return.{Return}
 use Rattle.gql_ast.specs.declared.projection.ReturnItem.{ReturnItem}
 use Rattle.gql_ast.specs.declared.projection.ReturnItems.{ReturnItems}
 use Rattle.gql_ast.specs.declared.projection.ReturnItems.TheVariants as items
 use Rattle.gql_expr_checks.specs.ExprNames.{unknown_in_expr}
 
-abbrev pub unknown_if : ColumnList → Option Expr → List (List ℕ)
-unknown_if columns None = []
-unknown_if columns (Some e) = unknown_in_expr columns e
-
 -- a declared name that is a column already
 abbrev pub taken : ColumnList → List ℕ → List (List ℕ)
 taken columns x = if is_column columns x then x ∷ [] else []
-
-abbrev pub unknown_in_condition : ColumnList → Option Condition → List (List ℕ)
-unknown_in_condition columns None = []
-unknown_in_condition columns (Some (condition.Map is)) = flat_map (λ (i : MapItem). unknown_in_expr columns i.value) is
-unknown_in_condition columns (Some (condition.Where e)) = unknown_in_expr columns e
-
--- the conditions of a node see its own variable
-abbrev pub unknown_in_node : ColumnList → Option Filler → List (List ℕ)
-unknown_in_node columns None = []
-unknown_in_node columns (Some f) = unknown_in_condition (with_filler columns (Some f)) f.condition
-
-abbrev pub unknown_in_pattern : ColumnList → GraphPattern → List (List ℕ)
-unknown_in_pattern columns g = unknown_in_node columns (node_of_pattern g) ++ unknown_if (match_columns columns g) g.condition
 
 -- a LET's name stands before its expression, and later items see it
 abbrev pub unknown_in_let : ColumnList → List LetItem → List (List ℕ)
@@ -129,16 +107,12 @@ unknown_in_change columns (change.Set is) = flat_map (unknown_in_set columns) is
 unknown_in_change columns (change.Remove is) = flat_map (unknown_in_remove columns) is
 unknown_in_change columns (change.Delete d xs) = flat_map (missing columns) xs
 
+-- of a clause that is no MATCH; of a MATCH `WholePatterns` says what its pattern does wrong
 abbrev pub unknown_in_clause : ColumnList → Clause → List (List ℕ)
-unknown_in_clause columns (clause.Match m) = unknown_in_pattern columns m.pattern
+unknown_in_clause columns (clause.Match m) = []
 unknown_in_clause columns (clause.Let is) = unknown_in_let columns is
 unknown_in_clause columns (clause.Filter e) = unknown_in_expr columns e
 unknown_in_clause columns (clause.For f) = unknown_in_for columns f
 unknown_in_clause columns (clause.Page p) = unknown_in_page columns p
 unknown_in_clause columns (clause.Return r) = unknown_in_return columns r
 unknown_in_clause columns (clause.Change c) = unknown_in_change columns c
-
--- of a query's clauses, each under the columns behind the one before
-abbrev pub unknown_in_clauses : ColumnList → List Clause → List (List ℕ)
-unknown_in_clauses columns [] = []
-unknown_in_clauses columns (c ∷ cs) = unknown_in_clause columns c ++ unknown_in_clauses (columns_behind columns c) cs

@@ -2,7 +2,6 @@
 use Rattle.std.specs.Prelude.{ℕ, List, [], ◌∷◌, ◌++◌, Option, Some, None}
 use Rattle.std.specs.List.{flat_map}
 use Rattle.gql_values3.specs.declared.table.ColumnKind.{ColumnKind}
-use Rattle.gql_ast.specs.ClauseColumns.{node_of_pattern}
 use Rattle.gql_ast.specs.InsertColumns.{insert_spots}
 use Rattle.gql_ast.specs.declared.change.ChangeClause.{ChangeClause}
 use Rattle.gql_ast.specs.declared.change.ChangeClause.TheVariants as change
@@ -12,38 +11,17 @@ use Rattle.gql_ast.specs.declared.change.SetItem.TheVariants as set_item
 use Rattle.gql_ast.specs.declared.clause.Clause.{Clause}
 use Rattle.gql_ast.specs.declared.clause.Clause.TheVariants as clause
 use Rattle.gql_ast.specs.declared.clause.LetItem.{LetItem}
-use Rattle.gql_ast.specs.declared.expr.Expr.{Expr}
-use Rattle.gql_ast.specs.declared.filler.Condition.{Condition}
-use Rattle.gql_ast.specs.declared.filler.Condition.TheVariants as condition
-use Rattle.gql_ast.specs.declared.filler.Filler.{Filler}
 use Rattle.gql_ast.specs.declared.filler.MapItem.{MapItem}
 use Rattle.gql_ast.specs.declared.page.Page.{Page}
 use Rattle.gql_ast.specs.declared.page.Page.TheVariants as page
 use Rattle.gql_ast.specs.declared.page.RowCount.{RowCount}
 use Rattle.gql_ast.specs.declared.page.RowCount.TheVariants as rows
 use Rattle.gql_ast.specs.declared.page.SortItem.{SortItem}
-use Rattle.gql_ast.specs.declared.path.GraphPattern.{GraphPattern}
 use Rattle.gql_ast.specs.declared.projection.Return.{Return}
 use Rattle.gql_ast.specs.declared.projection.ReturnItem.{ReturnItem}
 use Rattle.gql_ast.specs.declared.projection.ReturnItems.{ReturnItems}
 use Rattle.gql_ast.specs.declared.projection.ReturnItems.TheVariants as items
 use Rattle.gql_expr_checks.specs.ExprParameters.{parameters_of}
-
-abbrev pub parameters_if : Option Expr → List (List ℕ)
-parameters_if None = []
-parameters_if (Some e) = parameters_of e
-
-abbrev pub parameters_of_condition : Option Condition → List (List ℕ)
-parameters_of_condition None = []
-parameters_of_condition (Some (condition.Map is)) = flat_map (λ (i : MapItem). parameters_of i.value) is
-parameters_of_condition (Some (condition.Where e)) = parameters_of e
-
-abbrev pub parameters_of_node : Option Filler → List (List ℕ)
-parameters_of_node None = []
-parameters_of_node (Some f) = parameters_of_condition f.condition
-
-abbrev pub parameters_of_pattern : GraphPattern → List (List ℕ)
-parameters_of_pattern g = parameters_of_node (node_of_pattern g) ++ parameters_if g.condition
 
 abbrev pub parameters_of_keys : List SortItem → List (List ℕ)
 parameters_of_keys is = flat_map (λ (i : SortItem). parameters_of i.key) is
@@ -85,8 +63,9 @@ parameters_of_change (change.Insert ps) = flat_map (λ (s : ColumnKind × Fill).
 parameters_of_change (change.Set is) = flat_map parameters_of_set is
 parameters_of_change _ = []
 
+-- of a clause that is no MATCH; those of a MATCH stand in `WholePatterns`
 abbrev pub parameters_of_clause : Clause → List (List ℕ)
-parameters_of_clause (clause.Match m) = parameters_of_pattern m.pattern
+parameters_of_clause (clause.Match m) = []
 parameters_of_clause (clause.Let is) = flat_map (λ (i : LetItem). parameters_of i.value) is
 parameters_of_clause (clause.Filter e) = parameters_of e
 parameters_of_clause (clause.For f) = parameters_of f.list

@@ -1,6 +1,6 @@
--- Static refusals where a MATCH has a whole graph pattern: the first in the order of the codes E08 to E16 and E23, and within
--- one code the first in the order of the text. A pattern is refused as its normal form is; each other clause as in
--- `StaticRefusals`. E05 stands before them all, in `StatementBounds`.
+-- Static refusals: the first in the order of the codes E08 to E16 and E23, and within one code the first in the order of the
+-- text. A MATCH is refused as the normal form of its pattern is; each other clause as the page of the code says. E05 stands
+-- before them all, in `StatementBounds`.
 use Rattle.std.specs.Prelude.{ℕ, Bool, false, ◌||◌, List, [], ◌∷◌, ◌++◌, map, Option, Some, None}
 use Rattle.std.specs.List.{list_any, flat_map}
 use Rattle.std.specs.Option.{option_or}
@@ -33,10 +33,14 @@ use Rattle.gql_scope.specs.ColumnFaults.{faults_in_clause}
 use Rattle.gql_scope.specs.UnsetParameters.{parameters_of_clause}
 use Rattle.gql_scope.specs.StaticRefusals.{session_refusal}
 
+-- what is said of a clause: of a MATCH by the normal form of its pattern, of each other clause by itself
+abbrev pub by_form : {A : Type 0} → (NormalPattern → A) → (Clause → A) → Clause → A
+by_form of_pattern of_other (clause.Match m) = of_pattern (normal_form m.pattern)
+by_form of_pattern of_other c = of_other c
+
 -- the columns behind a clause; behind a MATCH those of its pattern's path names and variables
 abbrev pub columns_past : ColumnList → Clause → ColumnList
-columns_past columns (clause.Match m) = columns_after columns (normal_form m.pattern)
-columns_past columns c = columns_behind columns c
+columns_past columns c = by_form (columns_after columns) (columns_behind columns) c
 
 -- what is at fault in a query's clauses, each under the columns behind the one before
 abbrev pub over_clauses : {A : Type 0} → (ColumnList → Clause → List A) → ColumnList → List Clause → List A
@@ -45,12 +49,10 @@ over_clauses faults columns (c ∷ cs) = faults columns c ++ over_clauses faults
 
 -- E08 and E09
 abbrev pub unknown_names : ColumnList → Clause → List (List ℕ)
-unknown_names columns (clause.Match m) = unknown_in_match columns (normal_form m.pattern)
-unknown_names columns c = unknown_in_clause columns c
+unknown_names columns c = by_form (unknown_in_match columns) (unknown_in_clause columns) c
 
 abbrev pub wrong_kinds : ColumnList → Clause → List (List ℕ)
-wrong_kinds columns (clause.Match m) = wrong_in_match columns (normal_form m.pattern)
-wrong_kinds columns c = wrong_in_clause columns c
+wrong_kinds columns c = by_form (wrong_in_match columns) (wrong_in_clause columns) c
 
 -- E10 and E11, which a pattern alone can have, each with the name that is at fault first
 abbrev pub at_most_one : Option (List ℕ) → List (List ℕ)
@@ -58,26 +60,21 @@ at_most_one None = []
 at_most_one (Some x) = x ∷ []
 
 abbrev pub joined_groups : ColumnList → Clause → List (List ℕ)
-joined_groups columns (clause.Match m) = at_most_one (joined_group columns (normal_form m.pattern))
-joined_groups columns _ = []
+joined_groups columns c = by_form (λ p. at_most_one (joined_group columns p)) (λ d. []) c
 
 abbrev pub joined_conditionals : ColumnList → Clause → List (List ℕ)
-joined_conditionals columns (clause.Match m) = at_most_one (joined_conditional columns (normal_form m.pattern))
-joined_conditionals columns _ = []
+joined_conditionals columns c = by_form (λ p. at_most_one (joined_conditional columns p)) (λ d. []) c
 
 -- E12 to E14, which ask for no columns
 abbrev pub of_pattern : (NormalPattern → Bool) → Clause → Bool
-of_pattern asks (clause.Match m) = asks (normal_form m.pattern)
-of_pattern asks _ = false
+of_pattern asks c = by_form asks (λ d. false) c
 
 abbrev pub open_references : Clause → List (List ℕ)
-open_references (clause.Match m) = group_references (normal_form m.pattern)
-open_references _ = []
+open_references c = by_form group_references (λ d. []) c
 
 -- E15
 abbrev pub is_misused : ColumnList → Clause → Bool
-is_misused columns (clause.Match m) = misused_in_match columns (normal_form m.pattern)
-is_misused columns c = misused_clause columns c
+is_misused columns c = by_form (misused_in_match columns) (misused_clause columns) c
 
 abbrev pub misused_over : ColumnList → List Clause → Bool
 misused_over columns [] = false
@@ -85,29 +82,27 @@ misused_over columns (c ∷ cs) = is_misused columns c || misused_over (columns_
 
 -- E16
 abbrev pub column_faults : ColumnList → Clause → List ColumnRef
-column_faults columns (clause.Match m) = map column.Property (repeated_properties (normal_form m.pattern))
-column_faults columns c = faults_in_clause columns c
+column_faults columns c = by_form (λ p. map column.Property (repeated_properties p)) (faults_in_clause columns) c
+
+-- the codes E08 to E11, which look at names and how they are joined
+abbrev pub name_refusal : List Clause → Option Refusal
+name_refusal cs =
+    option_or (refusal_of_first refusal.Variable (over_clauses unknown_names [] cs))
+    (option_or (refusal_of_first refusal.Kind (over_clauses wrong_kinds [] cs))
+    (option_or (refusal_of_first refusal.GroupJoin (over_clauses joined_groups [] cs))
+    (refusal_of_first refusal.CondJoin (over_clauses joined_conditionals [] cs))))
+
+-- the codes E12 to E14, which look at endless repetition
+abbrev pub repetition_refusal : List Clause → Option Refusal
+repetition_refusal cs =
+    option_or (refused_if refusal.EmptyLoop (list_any (of_pattern empty_loop) cs))
+    (option_or (refused_if refusal.Unbounded (list_any (of_pattern unbounded) cs))
+    (refusal_of_first refusal.GroupRef (flat_map open_references cs)))
 
 module _ (params : List (List ℕ × Datum)) where
   -- E23
   abbrev pub unset_in_clause : Clause → List (List ℕ)
-  unset_in_clause (clause.Match m) = unset_parameters params (normal_form m.pattern)
-  unset_in_clause c = unset params (parameters_of_clause c)
-
-  -- the codes E08 to E11, which look at names and how they are joined
-  abbrev pub name_refusal : List Clause → Option Refusal
-  name_refusal cs =
-      option_or (refusal_of_first refusal.Variable (over_clauses unknown_names [] cs))
-      (option_or (refusal_of_first refusal.Kind (over_clauses wrong_kinds [] cs))
-      (option_or (refusal_of_first refusal.GroupJoin (over_clauses joined_groups [] cs))
-      (refusal_of_first refusal.CondJoin (over_clauses joined_conditionals [] cs))))
-
-  -- the codes E12 to E14, which look at endless repetition
-  abbrev pub repetition_refusal : List Clause → Option Refusal
-  repetition_refusal cs =
-      option_or (refused_if refusal.EmptyLoop (list_any (of_pattern empty_loop) cs))
-      (option_or (refused_if refusal.Unbounded (list_any (of_pattern unbounded) cs))
-      (refusal_of_first refusal.GroupRef (flat_map open_references cs)))
+  unset_in_clause c = by_form (unset_parameters params) (λ d. unset params (parameters_of_clause d)) c
 
   -- the codes E15, E16 and E23
   abbrev pub use_refusal : List Clause → Option Refusal

@@ -1,16 +1,20 @@
 //! The columns behind each clause.
 
-ghost use Rattle.std.specs.Prelude.{◌≡◌, [], ◌∷◌, ◌++◌, OnOk, IsFalse};
+ghost use Rattle.std.specs.Prelude.{◌≡◌, [], ◌∷◌, ◌++◌, IfOk, OnOk, IsFalse};
 ghost use Rattle.gql_ast.specs.Meaning.{tree_of};
 ghost use Rattle.gql_ast.specs.Outputs.{kind_of, element_kind};
-ghost use Rattle.gql_ast.specs.ClauseColumns.{let_columns, counter_column, for_columns, with_node, match_columns};
-ghost use Rattle.gql_ast.specs.Projections.{columns_behind, output_columns};
+ghost use Rattle.gql_ast.specs.ClauseColumns.{let_columns, counter_column, for_columns};
+ghost use Rattle.gql_ast.specs.Projections.{output_columns};
+ghost use Rattle.gql_scope.specs.WholePatterns.{columns_past};
+ghost use Rattle.gql_scope.specs.Machinery.Forms.{columns_unless_match};
 
 use crate::insert_columns::push_change;
+use crate::match_columns::push_match;
+use crate::normal_clause::NormalClause;
 use crate::outputs::output_scope;
-use gql_ast::{Clause, Counting, Expr, For, GraphPattern, LetItem, ReturnItems, node_of_pattern};
+use gql_ast::{Clause, Counting, Expr, For, LetItem, ReturnItems};
 use gql_expr_checks::KnownColumns;
-use gql_values3::{ColumnKind, OutOfMemory, Text};
+use gql_values3::{ColumnKind, Columns, OutOfMemory, Text};
 use std::alloc::Global;
 
 /// What a column of the value holds: a bare variable keeps what it holds.
@@ -94,45 +98,31 @@ pub fn push_for(alloc: Global, scope: &mut KnownColumns, clause: &For) -> Result
     push_counter(alloc, scope, &clause.counter)
 }
 
-/// Adds the column of a node's variable, where that is no column yet.
-pub fn push_node(
-    alloc: Global,
-    scope: &mut KnownColumns,
-    variable: &Option<Text>,
-) -> Result<(), OutOfMemory>
-    ensures { OnOk result (scope.new ≡ with_node scope.old variable.now) }
-{
-    match variable {
-        Some(name) if !scope.contains(name) => scope.push_copy(alloc, name, ColumnKind::Node),
-        _ => Ok(()),
-    }
-}
-
-/// Adds the columns of a pattern's variables.
-pub fn push_pattern(
-    alloc: Global,
-    scope: &mut KnownColumns,
-    pattern: &GraphPattern,
-) -> Result<(), OutOfMemory>
-    ensures { OnOk result (scope.new ≡ match_columns scope.old pattern.now) }
-{
-    match node_of_pattern(pattern) {
-        Some(filler) => push_node(alloc, scope, &filler.variable),
-        None => Ok(()),
-    }
-}
-
 /// Changes the columns to those behind the clause.
-pub fn step(alloc: Global, scope: &mut KnownColumns, clause: &Clause) -> Result<(), OutOfMemory>
-    ensures { OnOk result (scope.new ≡ columns_behind scope.old clause.now) }
+#[tactic(auto, using(crate::proofs::FormLemmas::by_forms))]
+pub fn step(
+    alloc: Global,
+    scope: &mut KnownColumns,
+    clause: &NormalClause,
+) -> Result<(), OutOfMemory>
+    ensures { OnOk result (scope.new ≡ columns_past scope.old clause.now) }
+{
+    match clause.pattern() {
+        Some(pattern) => push_match(alloc, scope, pattern),
+        None => step_other(alloc, scope, clause.clause()),
+    }
+}
+
+/// The same of a clause that is no MATCH.
+fn step_other(alloc: Global, scope: &mut KnownColumns, clause: &Clause) -> Result<(), OutOfMemory>
+    ensures { OnOk result (scope.new ≡ columns_unless_match scope.old clause.now) }
 {
     match clause {
-        Clause::Match(m) => push_pattern(alloc, scope, &m.pattern),
         Clause::Let(items) => push_let(alloc, scope, items.as_slice()),
         Clause::For(clause) => push_for(alloc, scope, clause),
         Clause::Return(clause) => keep_outputs(alloc, scope, &clause.items),
         Clause::Change(change) => push_change(alloc, scope, change),
-        Clause::Filter(_) | Clause::Page(_) => Ok(()),
+        Clause::Match(_) | Clause::Filter(_) | Clause::Page(_) => Ok(()),
     }
 }
 
@@ -141,15 +131,28 @@ pub fn step(alloc: Global, scope: &mut KnownColumns, clause: &Clause) -> Result<
 pub fn step_unless_last(
     alloc: Global,
     scope: &mut KnownColumns,
-    clause: &Clause,
+    clause: &NormalClause,
     is_last: bool,
 ) -> Result<(), OutOfMemory>
-    ensures { OnOk result (IsFalse is_last → scope.new ≡ columns_behind scope.old clause.now) }
+    ensures { OnOk result (IsFalse is_last → scope.new ≡ columns_past scope.old clause.now) }
 {
     if is_last {
         return Ok(());
     }
     step(alloc, scope, clause)
+}
+
+/// A copy of the columns.
+pub fn column_list(alloc: Global, scope: &KnownColumns) -> Result<Columns, OutOfMemory>
+    ensures { IfOk result (λ columns. columns ≡ scope.now) }
+{
+    let columns = scope.columns();
+    let mut copy = Columns::new(alloc);
+    for i in 0..columns.len() {
+        let (name, kind) = &columns[i];
+        copy.push((name.try_copy(alloc)?, *kind))?;
+    }
+    Ok(copy)
 }
 
 /// Changes the columns to those that RETURN gives.

@@ -1,12 +1,13 @@
 //! E16: a name that stands twice, a column outside an aggregate, keys that GROUP BY misses, or no columns for `*`.
 
-ghost use Rattle.std.specs.Prelude.{◌≡◌, [], ◌∷◌, ◌++◌, map, OnOk, IfOk, if◌then◌else◌, IsFalse};
-ghost use Rattle.std.specs.Option.{option_copied};
-ghost use Rattle.gql_expr_checks.specs.Repeated.{is_among, repeated};
-ghost use Rattle.gql_scope.specs.ColumnFaults.{faults_in_condition, faults_in_node, columns_outside, repeated_name, faults_in_item, faults_in_list, faults_in_items, faults_in_return, faults_in_clause, faults_in_clauses};
+ghost use Rattle.std.specs.Prelude.{◌≡◌, [], ◌∷◌, ◌++◌, map, OnOk, if◌then◌else◌, IsFalse};
+ghost use Rattle.gql_expr_checks.specs.Repeated.{is_among};
+ghost use Rattle.gql_scope.specs.ColumnFaults.{columns_outside, repeated_name, faults_in_item, faults_in_list, faults_in_items, faults_in_return, faults_in_clause};
+ghost use Rattle.gql_scope.specs.WholePatterns.{column_faults, columns_past, over_clauses};
+ghost use Rattle.gql_norm.specs.NormalData.{pattern_data};
+ghost use Rattle.gql_norm.specs.OtherDefects.{repeated_properties};
 ghost use Rattle.gql_ast.specs.Meaning.{tree_of};
 ghost use Rattle.gql_ast.specs.Outputs.{item_name, text_name};
-ghost use Rattle.gql_ast.specs.Projections.{columns_behind};
 ghost use Rattle.gql_expr_checks.specs.Refusals.{refusal_of_first};
 ghost use Rattle.gql_ast.specs.declared.refusal.ColumnRef.TheVariants as column;
 ghost use Rattle.gql_expr_checks.specs.Gives.{Gives, Fails};
@@ -15,12 +16,12 @@ ghost use Rattle.gql_expr_checks.specs.Machinery.Seen.{seen_names};
 use crate::behind::step_unless_last;
 use crate::change_maps::check_change;
 use crate::grouping::check_grouping;
+use crate::normal_clause::NormalClause;
 use crate::outputs::text_name;
-use gql_ast::{
-    Clause, ColumnRef, Condition, Expr, Filler, MapItem, Refusal, Return, ReturnItem, ReturnItems,
-    node_of_pattern,
-};
-use gql_expr_checks::{KnownColumns, ScopeFault, check_properties, has_aggregate, name_outside};
+use gql_ast::{Clause, ColumnRef, Expr, Refusal, Return, ReturnItem, ReturnItems};
+use gql_expr_checks::{KnownColumns, ScopeFault, has_aggregate, name_outside};
+use gql_norm::NormalPattern;
+use gql_pattern_checks::check_pattern_properties;
 use gql_values3::{ColumnKind, Text};
 use std::alloc::Global;
 
@@ -45,25 +46,6 @@ pub fn note_name(alloc: Global, seen: &mut KnownColumns, name: &Text) -> Result<
     }
     seen.push_copy(alloc, name, ColumnKind::Plain)?;
     Ok(())
-}
-
-/// Checks the map of a node.
-fn check_node(alloc: Global, node: Option<&Filler>) -> Result<(), ScopeFault>
-    ensures { Gives result (refusal_of_first Refusal.Column (faults_in_node (option_copied node.entry))) }
-{
-    match node {
-        None => Ok(()),
-        Some(filler) => check_condition(alloc, &filler.condition),
-    }
-}
-
-fn check_condition(alloc: Global, condition: &Option<Condition>) -> Result<(), ScopeFault>
-    ensures { Gives result (refusal_of_first Refusal.Column (faults_in_condition condition.now)) }
-{
-    match condition {
-        Some(Condition::Map(items)) => check_properties(alloc, items.as_slice()),
-        _ => Ok(()),
-    }
 }
 
 /// Checks that an item with an aggregate over rows names no column outside it.
@@ -169,15 +151,37 @@ fn check_return(alloc: Global, scope: &KnownColumns, clause: &Return) -> Result<
     check_grouping(alloc, scope, clause)
 }
 
-/// Checks a clause.
-fn check_clause(alloc: Global, scope: &KnownColumns, clause: &Clause) -> Result<(), ScopeFault>
+/// Checks the maps of a pattern.
+#[tactic(auto, using(crate::proofs::FormLemmas::first_mapped))]
+fn check_match(alloc: Global, pattern: &NormalPattern) -> Result<(), ScopeFault>
+    ensures { Gives result (refusal_of_first Refusal.Column (map column.Property (repeated_properties (pattern_data pattern.now)))) }
+{
+    check_pattern_properties(alloc, pattern)
+}
+
+/// Checks a clause that is no MATCH.
+fn check_other(alloc: Global, scope: &KnownColumns, clause: &Clause) -> Result<(), ScopeFault>
     ensures { Gives result (refusal_of_first Refusal.Column (faults_in_clause scope.now clause.now)) }
 {
     match clause {
-        Clause::Match(m) => check_node(alloc, node_of_pattern(&m.pattern)),
         Clause::Change(change) => check_change(alloc, change),
         Clause::Return(clause) => check_return(alloc, scope, clause),
         _ => Ok(()),
+    }
+}
+
+/// Checks a clause.
+#[tactic(auto, using(crate::proofs::FormLemmas::by_forms))]
+fn check_clause(
+    alloc: Global,
+    scope: &KnownColumns,
+    clause: &NormalClause,
+) -> Result<(), ScopeFault>
+    ensures { Gives result (refusal_of_first Refusal.Column (column_faults scope.now clause.now)) }
+{
+    match clause.pattern() {
+        Some(pattern) => check_match(alloc, pattern),
+        None => check_other(alloc, scope, clause.clause()),
     }
 }
 
@@ -185,11 +189,11 @@ fn check_clause(alloc: Global, scope: &KnownColumns, clause: &Clause) -> Result<
 fn pass_clause(
     alloc: Global,
     scope: &mut KnownColumns,
-    clause: &Clause,
+    clause: &NormalClause,
     is_last: bool,
 ) -> Result<(), ScopeFault>
-    ensures faults { Gives result (refusal_of_first Refusal.Column (faults_in_clause scope.old clause.now)) }
-    ensures columns { OnOk result (IsFalse is_last → scope.new ≡ columns_behind scope.old clause.now) }
+    ensures faults { Gives result (refusal_of_first Refusal.Column (column_faults scope.old clause.now)) }
+    ensures columns { OnOk result (IsFalse is_last → scope.new ≡ columns_past scope.old clause.now) }
 {
     check_clause(alloc, scope, clause)?;
     step_unless_last(alloc, scope, clause, is_last)?;
@@ -197,8 +201,8 @@ fn pass_clause(
 }
 
 /// Checks a query's clauses.
-pub fn column_faults(alloc: Global, clauses: &[Clause]) -> Result<(), ScopeFault>
-    ensures { Gives result (refusal_of_first Refusal.Column (faults_in_clauses [] clauses.now)) }
+pub fn column_faults(alloc: Global, clauses: &[NormalClause]) -> Result<(), ScopeFault>
+    ensures { Gives result (refusal_of_first Refusal.Column (over_clauses column_faults [] clauses.now)) }
 {
     let mut scope = KnownColumns::new(alloc);
     for i in 0..clauses.len() {

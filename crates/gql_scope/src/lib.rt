@@ -1,9 +1,9 @@
 //! Static refusals: what is wrong with a statement before it is run.
 //!
 //! `check` answers the first refusal of a statement: by the order of the codes, and within one code the first in the
-//! text. The crate's promise is that this is exactly what `specs/StaticRefusals.antt` defines; and that `bounds` answers the first
-//! bound at fault, by `specs/StatementBounds.antt`. It stands on the trees of `gql_ast`, on `gql_expr_checks`, which asks one
-//! expression, and on `gql_degrees`, which asks a pattern for its bounds.
+//! text. The crate's promise is that this is exactly what `specs/WholePatterns.antt` defines; and that `bounds` answers the first
+//! bound at fault, by `specs/StatementBounds.antt`. It stands on the trees of `gql_ast`, the normal patterns of `gql_norm`, on
+//! `gql_expr_checks`, which asks one expression, and on `gql_degrees`, `gql_term` and `gql_pattern_checks`, which ask one pattern.
 #![tactic(auto)]
 
 mod behind;
@@ -18,8 +18,13 @@ mod grouping;
 mod insert_columns;
 mod insert_maps;
 mod insert_spots;
+mod joins;
+mod laws;
+mod match_columns;
 mod misused_clauses;
+mod normal_clause;
 mod outputs;
+mod repetition;
 mod standing;
 mod statement_bounds;
 mod unknown_names;
@@ -28,4 +33,5 @@ mod wrong_kinds;
 
 pub use codes::check;
 pub use gql_expr_checks::ScopeFault;
+pub use laws::accepted_matches_are_sound;
 pub use statement_bounds::bounds;

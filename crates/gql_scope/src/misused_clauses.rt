@@ -1,39 +1,35 @@
 //! E15: something is misused in a clause.
 
 ghost use Rattle.std.specs.Prelude.{◌≡◌, [], ◌∷◌, ◌++◌, ◌||◌, OnOk, IsFalse};
-ghost use Rattle.std.specs.Option.{option_copied};
 ghost use Rattle.std.specs.List.{list_any};
-ghost use Rattle.gql_ast.specs.ClauseColumns.{with_filler, match_columns, let_columns, for_columns};
+ghost use Rattle.gql_ast.specs.ClauseColumns.{let_columns, for_columns};
 ghost use Rattle.gql_ast.specs.InsertColumns.{change_columns};
 ghost use Rattle.gql_ast.specs.Meaning.{tree_of};
 ghost use Rattle.gql_expr_checks.specs.ExprMisuses.{misused_expr, item, elsewhere};
-ghost use Rattle.gql_scope.specs.Misuses.{misused_if, misused_condition, misused_node, misused_pattern, misused_let, misused_keys, misused_order, misused_page, misused_items, misused_change, misused_clause, misused_clauses};
+ghost use Rattle.gql_scope.specs.Misuses.{misused_let, misused_keys, misused_order, misused_page, misused_items, misused_change, misused_clause};
+ghost use Rattle.gql_scope.specs.WholePatterns.{columns_past, is_misused, misused_over};
+ghost use Rattle.gql_scope.specs.Machinery.Forms.{columns_unless_match};
+ghost use Rattle.gql_norm.specs.NewColumns.{columns_after};
+ghost use Rattle.gql_norm.specs.NormalData.{pattern_data};
+ghost use Rattle.gql_norm.specs.OtherDefects.{misused_in_match};
 ghost use Rattle.gql_ast.specs.Outputs.{kind_of};
-ghost use Rattle.gql_ast.specs.Projections.{columns_behind, sort_columns, output_columns};
+ghost use Rattle.gql_ast.specs.Projections.{sort_columns, output_columns};
 ghost use Rattle.gql_expr_checks.specs.Refusals.{misuse_if};
 ghost use Rattle.gql_expr_checks.specs.Gives.{Gives};
-ghost use Rattle.gql_expr_checks.specs.Machinery.Places.{place_of, columns_at};
 
-use crate::behind::{keep_outputs, push_for, push_let_item, push_node};
+use crate::behind::{keep_outputs, push_for, push_let_item};
 use crate::change_misuses::check_change;
 use crate::insert_columns::push_change;
+use crate::match_columns::push_match;
+use crate::normal_clause::NormalClause;
 use crate::outputs::sort_scope;
 use gql_ast::{
-    ChangeClause, Clause, Condition, Expr, Filler, For, GraphPattern, LetItem, MapItem, Page,
-    Refusal, Return, ReturnItem, ReturnItems, SortItem, node_of_pattern,
+    ChangeClause, Clause, For, LetItem, MapItem, Page, Return, ReturnItem, ReturnItems, SortItem,
 };
 use gql_expr_checks::{KnownColumns, ScopeFault, check_item, check_misuse};
+use gql_norm::NormalPattern;
+use gql_pattern_checks::check_pattern_misuse;
 use std::alloc::Global;
-
-/// Checks an expression that may be there.
-fn check_if(scope: &KnownColumns, expr: &Option<Expr>) -> Result<(), ScopeFault>
-    ensures { Gives result (misuse_if (misused_if scope.now expr.now)) }
-{
-    match expr {
-        None => Ok(()),
-        Some(expr) => check_misuse(scope, expr),
-    }
-}
 
 /// Checks a map's values.
 #[tactic(auto, using(gql_expr_checks::proofs::RefusalLemmas::misuse_in_two))]
@@ -44,49 +40,6 @@ pub fn check_map(scope: &KnownColumns, items: &[MapItem]) -> Result<(), ScopeFau
         check_misuse(scope, &item.value)?;
     }
     Ok(())
-}
-
-/// Checks a node's conditions.
-fn check_condition(scope: &KnownColumns, condition: &Option<Condition>) -> Result<(), ScopeFault>
-    ensures { Gives result (misuse_if (misused_condition scope.now condition.now)) }
-{
-    match condition {
-        None => Ok(()),
-        Some(Condition::Map(items)) => check_map(scope, items.as_slice()),
-        Some(Condition::Where(expr)) => check_misuse(scope, expr),
-    }
-}
-
-/// Checks a node, and adds its variable.
-fn check_node(
-    alloc: Global,
-    scope: &mut KnownColumns,
-    node: Option<&Filler>,
-) -> Result<(), ScopeFault>
-    ensures misuses { Gives result (misuse_if (misused_node scope.old (option_copied node.entry))) }
-    ensures columns { OnOk result (scope.new ≡ with_filler scope.old (option_copied node.entry)) }
-{
-    match node {
-        None => Ok(()),
-        Some(filler) => {
-            push_node(alloc, scope, &filler.variable)?;
-            check_condition(scope, &filler.condition)
-        }
-    }
-}
-
-/// Checks a pattern, and adds its variables.
-#[tactic(auto, using(gql_expr_checks::proofs::RefusalLemmas::misuse_in_two))]
-fn check_pattern(
-    alloc: Global,
-    scope: &mut KnownColumns,
-    pattern: &GraphPattern,
-) -> Result<(), ScopeFault>
-    ensures misuses { Gives result (misuse_if (misused_pattern scope.old pattern.now)) }
-    ensures columns { OnOk result (scope.new ≡ match_columns scope.old pattern.now) }
-{
-    check_node(alloc, scope, node_of_pattern(pattern))?;
-    check_if(scope, &pattern.condition)
 }
 
 /// Checks an item of LET, and adds its column.
@@ -201,13 +154,27 @@ fn pass_change(
     Ok(())
 }
 
-/// Checks a clause, and changes the columns to those behind it.
-fn check_clause(alloc: Global, scope: &mut KnownColumns, clause: &Clause) -> Result<(), ScopeFault>
+/// Checks a pattern, and adds its columns.
+fn check_match(
+    alloc: Global,
+    scope: &mut KnownColumns,
+    pattern: &NormalPattern,
+) -> Result<(), ScopeFault>
+    ensures misuses { Gives result (misuse_if (misused_in_match scope.old (pattern_data pattern.now))) }
+    ensures columns { OnOk result (scope.new ≡ columns_after scope.old (pattern_data pattern.now)) }
+{
+    check_pattern_misuse(alloc, scope, pattern)?;
+    push_match(alloc, scope, pattern)?;
+    Ok(())
+}
+
+/// Checks a clause that is no MATCH, and changes the columns to those behind it.
+fn check_other(alloc: Global, scope: &mut KnownColumns, clause: &Clause) -> Result<(), ScopeFault>
     ensures misuses { Gives result (misuse_if (misused_clause scope.old clause.now)) }
-    ensures columns { OnOk result (scope.new ≡ columns_behind scope.old clause.now) }
+    ensures columns { OnOk result (scope.new ≡ columns_unless_match scope.old clause.now) }
 {
     match clause {
-        Clause::Match(m) => check_pattern(alloc, scope, &m.pattern),
+        Clause::Match(_) => Ok(()),
         Clause::Let(items) => check_let(alloc, scope, items.as_slice()),
         Clause::Filter(condition) => check_misuse(scope, condition),
         Clause::For(clause) => check_for(alloc, scope, clause),
@@ -217,13 +184,47 @@ fn check_clause(alloc: Global, scope: &mut KnownColumns, clause: &Clause) -> Res
     }
 }
 
-/// Checks a clause behind which there is none: the columns behind a change are asked of nobody.
-fn check_last(alloc: Global, scope: &mut KnownColumns, clause: &Clause) -> Result<(), ScopeFault>
+/// Checks a clause, and changes the columns to those behind it.
+#[tactic(auto, using(crate::proofs::FormLemmas::by_forms))]
+fn check_clause(
+    alloc: Global,
+    scope: &mut KnownColumns,
+    clause: &NormalClause,
+) -> Result<(), ScopeFault>
+    ensures misuses { Gives result (misuse_if (is_misused scope.old clause.now)) }
+    ensures columns { OnOk result (scope.new ≡ columns_past scope.old clause.now) }
+{
+    match clause.pattern() {
+        Some(pattern) => check_match(alloc, scope, pattern),
+        None => check_other(alloc, scope, clause.clause()),
+    }
+}
+
+/// Checks a clause behind which there is none: the columns behind it are asked of nobody, and a change may give very many.
+#[tactic(auto, using(crate::proofs::FormLemmas::by_forms))]
+fn check_last(
+    alloc: Global,
+    scope: &mut KnownColumns,
+    clause: &NormalClause,
+) -> Result<(), ScopeFault>
+    ensures { Gives result (misuse_if (is_misused scope.old clause.now)) }
+{
+    match clause.pattern() {
+        Some(pattern) => check_pattern_misuse(alloc, scope, pattern),
+        None => check_last_other(alloc, scope, clause.clause()),
+    }
+}
+
+fn check_last_other(
+    alloc: Global,
+    scope: &mut KnownColumns,
+    clause: &Clause,
+) -> Result<(), ScopeFault>
     ensures { Gives result (misuse_if (misused_clause scope.old clause.now)) }
 {
     match clause {
         Clause::Change(change) => check_change(alloc, scope, change),
-        _ => check_clause(alloc, scope, clause),
+        _ => check_other(alloc, scope, clause),
     }
 }
 
@@ -231,11 +232,11 @@ fn check_last(alloc: Global, scope: &mut KnownColumns, clause: &Clause) -> Resul
 fn pass_clause(
     alloc: Global,
     scope: &mut KnownColumns,
-    clause: &Clause,
+    clause: &NormalClause,
     is_last: bool,
 ) -> Result<(), ScopeFault>
-    ensures misuses { Gives result (misuse_if (misused_clause scope.old clause.now)) }
-    ensures columns { OnOk result (IsFalse is_last → scope.new ≡ columns_behind scope.old clause.now) }
+    ensures misuses { Gives result (misuse_if (is_misused scope.old clause.now)) }
+    ensures columns { OnOk result (IsFalse is_last → scope.new ≡ columns_past scope.old clause.now) }
 {
     if is_last {
         check_last(alloc, scope, clause)
@@ -245,8 +246,8 @@ fn pass_clause(
 }
 
 /// Checks a query's clauses.
-pub fn misused_clauses(alloc: Global, clauses: &[Clause]) -> Result<(), ScopeFault>
-    ensures { Gives result (misuse_if (misused_clauses [] clauses.now)) }
+pub fn misused_clauses(alloc: Global, clauses: &[NormalClause]) -> Result<(), ScopeFault>
+    ensures { Gives result (misuse_if (misused_over [] clauses.now)) }
 {
     let mut scope = KnownColumns::new(alloc);
     for i in 0..clauses.len() {

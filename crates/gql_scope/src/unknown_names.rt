@@ -1,27 +1,35 @@
 //! E08: a name that is no column, or a declared name that is one already.
 
 ghost use Rattle.std.specs.Prelude.{◌≡◌, [], ◌∷◌, ◌++◌, OnOk, IsFalse};
-ghost use Rattle.std.specs.Option.{option_copied};
 ghost use Rattle.std.specs.List.{flat_map};
 ghost use Rattle.gql_ast.specs.Meaning.{tree_of};
 ghost use Rattle.gql_ast.specs.Outputs.{kind_of, element_kind};
-ghost use Rattle.gql_ast.specs.ClauseColumns.{with_filler, match_columns, let_columns, for_columns, counter_column};
+ghost use Rattle.gql_ast.specs.ClauseColumns.{let_columns, for_columns, counter_column};
 ghost use Rattle.gql_ast.specs.InsertColumns.{change_columns};
-ghost use Rattle.gql_ast.specs.Projections.{columns_behind, sort_columns, output_columns};
+ghost use Rattle.gql_ast.specs.Projections.{sort_columns, output_columns};
 ghost use Rattle.gql_expr_checks.specs.Refusals.{refusal_of_first};
 ghost use Rattle.gql_expr_checks.specs.ExprNames.{unknown_in_expr};
-ghost use Rattle.gql_scope.specs.UnknownNames.{unknown_if, taken, unknown_in_condition, unknown_in_node, unknown_in_pattern, unknown_in_let, unknown_in_counter, unknown_in_for, unknown_in_keys, unknown_in_order, unknown_in_page, unknown_in_items, unknown_in_return, unknown_in_change, unknown_in_clause, unknown_in_clauses};
+ghost use Rattle.gql_scope.specs.UnknownNames.{taken, unknown_in_let, unknown_in_counter, unknown_in_for, unknown_in_keys, unknown_in_order, unknown_in_page, unknown_in_items, unknown_in_return, unknown_in_change, unknown_in_clause};
+ghost use Rattle.gql_scope.specs.WholePatterns.{columns_past, over_clauses, unknown_names};
+ghost use Rattle.gql_scope.specs.Machinery.Forms.{columns_unless_match};
 ghost use Rattle.gql_expr_checks.specs.Gives.{Gives};
+ghost use Rattle.gql_norm.specs.NewColumns.{columns_after};
+ghost use Rattle.gql_norm.specs.NormalData.{pattern_data};
+ghost use Rattle.gql_norm.specs.UnknownNames.{unknown_in_match};
 
-use crate::behind::{keep_outputs, push_counter, push_for_item, push_let_item, push_node};
+use crate::behind::{keep_outputs, push_counter, push_for_item, push_let_item};
 use crate::change_names::check_change;
 use crate::insert_columns::push_change;
+use crate::match_columns::push_match;
+use crate::normal_clause::NormalClause;
 use crate::outputs::sort_scope;
 use gql_ast::{
-    ChangeClause, Clause, Condition, Counting, Expr, Filler, For, GraphPattern, LetItem, MapItem,
-    Page, Refusal, Return, ReturnItem, ReturnItems, SortItem, node_of_pattern,
+    ChangeClause, Clause, Counting, For, LetItem, MapItem, Page, Refusal, Return, ReturnItem,
+    ReturnItems, SortItem,
 };
 use gql_expr_checks::{KnownColumns, ScopeFault, check_names};
+use gql_norm::NormalPattern;
+use gql_pattern_checks::check_pattern_names;
 use gql_values3::Text;
 use std::alloc::Global;
 
@@ -35,16 +43,6 @@ fn check_free(alloc: Global, scope: &KnownColumns, name: &Text) -> Result<(), Sc
     Err(ScopeFault::Defect(Refusal::Variable(name.try_copy(alloc)?)))
 }
 
-/// Checks the names of an expression that may be there.
-fn check_if(alloc: Global, scope: &KnownColumns, expr: &Option<Expr>) -> Result<(), ScopeFault>
-    ensures { Gives result (refusal_of_first Refusal.Variable (unknown_if scope.now expr.now)) }
-{
-    match expr {
-        None => Ok(()),
-        Some(expr) => check_names(alloc, scope, expr),
-    }
-}
-
 /// Checks the names of a map's values.
 pub fn check_map(alloc: Global, scope: &KnownColumns, items: &[MapItem]) -> Result<(), ScopeFault>
     ensures { Gives result (refusal_of_first Refusal.Variable (flat_map (λ i. unknown_in_expr scope.now i.value) items.now)) }
@@ -53,53 +51,6 @@ pub fn check_map(alloc: Global, scope: &KnownColumns, items: &[MapItem]) -> Resu
         check_names(alloc, scope, &item.value)?;
     }
     Ok(())
-}
-
-/// Checks the names of a node's conditions.
-fn check_condition(
-    alloc: Global,
-    scope: &KnownColumns,
-    condition: &Option<Condition>,
-) -> Result<(), ScopeFault>
-    ensures { Gives result (refusal_of_first Refusal.Variable (unknown_in_condition scope.now condition.now)) }
-{
-    match condition {
-        None => Ok(()),
-        Some(Condition::Map(items)) => check_map(alloc, scope, items.as_slice()),
-        Some(Condition::Where(expr)) => check_names(alloc, scope, expr),
-    }
-}
-
-/// Checks the names of a node, and adds its variable.
-fn check_node(
-    alloc: Global,
-    scope: &mut KnownColumns,
-    node: Option<&Filler>,
-) -> Result<(), ScopeFault>
-    ensures names { Gives result (refusal_of_first Refusal.Variable (unknown_in_node scope.old (option_copied node.entry))) }
-    ensures columns { OnOk result (scope.new ≡ with_filler scope.old (option_copied node.entry)) }
-{
-    match node {
-        None => Ok(()),
-        Some(filler) => {
-            push_node(alloc, scope, &filler.variable)?;
-            check_condition(alloc, scope, &filler.condition)
-        }
-    }
-}
-
-/// Checks the names of a pattern, and adds its variables.
-#[tactic(auto, using(gql_expr_checks::proofs::RefusalLemmas::first_of_in_two))]
-fn check_pattern(
-    alloc: Global,
-    scope: &mut KnownColumns,
-    pattern: &GraphPattern,
-) -> Result<(), ScopeFault>
-    ensures names { Gives result (refusal_of_first Refusal.Variable (unknown_in_pattern scope.old pattern.now)) }
-    ensures columns { OnOk result (scope.new ≡ match_columns scope.old pattern.now) }
-{
-    check_node(alloc, scope, node_of_pattern(pattern))?;
-    check_if(alloc, scope, &pattern.condition)
 }
 
 /// Checks an item of LET, and adds its column.
@@ -244,13 +195,27 @@ fn pass_change(
     Ok(())
 }
 
-/// Checks the names of a clause, and changes the columns to those behind it.
-fn check_clause(alloc: Global, scope: &mut KnownColumns, clause: &Clause) -> Result<(), ScopeFault>
+/// Checks the names of a pattern, and adds its columns.
+fn check_match(
+    alloc: Global,
+    scope: &mut KnownColumns,
+    pattern: &NormalPattern,
+) -> Result<(), ScopeFault>
+    ensures names { Gives result (refusal_of_first Refusal.Variable (unknown_in_match scope.old (pattern_data pattern.now))) }
+    ensures columns { OnOk result (scope.new ≡ columns_after scope.old (pattern_data pattern.now)) }
+{
+    check_pattern_names(alloc, scope, pattern)?;
+    push_match(alloc, scope, pattern)?;
+    Ok(())
+}
+
+/// Checks the names of a clause that is no MATCH, and changes the columns to those behind it.
+fn check_other(alloc: Global, scope: &mut KnownColumns, clause: &Clause) -> Result<(), ScopeFault>
     ensures names { Gives result (refusal_of_first Refusal.Variable (unknown_in_clause scope.old clause.now)) }
-    ensures columns { OnOk result (scope.new ≡ columns_behind scope.old clause.now) }
+    ensures columns { OnOk result (scope.new ≡ columns_unless_match scope.old clause.now) }
 {
     match clause {
-        Clause::Match(m) => check_pattern(alloc, scope, &m.pattern),
+        Clause::Match(_) => Ok(()),
         Clause::Let(items) => check_let(alloc, scope, items.as_slice()),
         Clause::Filter(condition) => check_names(alloc, scope, condition),
         Clause::For(clause) => check_for(alloc, scope, clause),
@@ -260,13 +225,48 @@ fn check_clause(alloc: Global, scope: &mut KnownColumns, clause: &Clause) -> Res
     }
 }
 
-/// Checks the names of a clause behind which there is none: the columns behind a change are asked of nobody.
-fn check_last(alloc: Global, scope: &mut KnownColumns, clause: &Clause) -> Result<(), ScopeFault>
+/// Checks the names of a clause, and changes the columns to those behind it.
+#[tactic(auto, using(crate::proofs::FormLemmas::by_forms))]
+fn check_clause(
+    alloc: Global,
+    scope: &mut KnownColumns,
+    clause: &NormalClause,
+) -> Result<(), ScopeFault>
+    ensures names { Gives result (refusal_of_first Refusal.Variable (unknown_names scope.old clause.now)) }
+    ensures columns { OnOk result (scope.new ≡ columns_past scope.old clause.now) }
+{
+    match clause.pattern() {
+        Some(pattern) => check_match(alloc, scope, pattern),
+        None => check_other(alloc, scope, clause.clause()),
+    }
+}
+
+/// Checks the names of a clause behind which there is none: the columns behind it are asked of nobody, and a change may give very
+/// many.
+#[tactic(auto, using(crate::proofs::FormLemmas::by_forms))]
+fn check_last(
+    alloc: Global,
+    scope: &mut KnownColumns,
+    clause: &NormalClause,
+) -> Result<(), ScopeFault>
+    ensures { Gives result (refusal_of_first Refusal.Variable (unknown_names scope.old clause.now)) }
+{
+    match clause.pattern() {
+        Some(pattern) => check_pattern_names(alloc, scope, pattern),
+        None => check_last_other(alloc, scope, clause.clause()),
+    }
+}
+
+fn check_last_other(
+    alloc: Global,
+    scope: &mut KnownColumns,
+    clause: &Clause,
+) -> Result<(), ScopeFault>
     ensures { Gives result (refusal_of_first Refusal.Variable (unknown_in_clause scope.old clause.now)) }
 {
     match clause {
         Clause::Change(change) => check_change(alloc, scope, change),
-        _ => check_clause(alloc, scope, clause),
+        _ => check_other(alloc, scope, clause),
     }
 }
 
@@ -274,11 +274,11 @@ fn check_last(alloc: Global, scope: &mut KnownColumns, clause: &Clause) -> Resul
 fn pass_clause(
     alloc: Global,
     scope: &mut KnownColumns,
-    clause: &Clause,
+    clause: &NormalClause,
     is_last: bool,
 ) -> Result<(), ScopeFault>
-    ensures names { Gives result (refusal_of_first Refusal.Variable (unknown_in_clause scope.old clause.now)) }
-    ensures columns { OnOk result (IsFalse is_last → scope.new ≡ columns_behind scope.old clause.now) }
+    ensures names { Gives result (refusal_of_first Refusal.Variable (unknown_names scope.old clause.now)) }
+    ensures columns { OnOk result (IsFalse is_last → scope.new ≡ columns_past scope.old clause.now) }
 {
     if is_last {
         check_last(alloc, scope, clause)
@@ -288,8 +288,8 @@ fn pass_clause(
 }
 
 /// Checks a query's clauses.
-pub fn unknown_names(alloc: Global, clauses: &[Clause]) -> Result<(), ScopeFault>
-    ensures { Gives result (refusal_of_first Refusal.Variable (unknown_in_clauses [] clauses.now)) }
+pub fn unknown_names(alloc: Global, clauses: &[NormalClause]) -> Result<(), ScopeFault>
+    ensures { Gives result (refusal_of_first Refusal.Variable (over_clauses unknown_names [] clauses.now)) }
 {
     let mut scope = KnownColumns::new(alloc);
     for i in 0..clauses.len() {

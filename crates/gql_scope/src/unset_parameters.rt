@@ -1,31 +1,23 @@
 //! E23: a parameter that isn't set.
 
-ghost use Rattle.std.specs.Prelude.{◌++◌, option_map};
-ghost use Rattle.std.specs.Option.{option_copied};
+ghost use Rattle.std.specs.Prelude.{◌++◌};
 ghost use Rattle.std.specs.List.{flat_map};
 ghost use Rattle.gql_expr_checks.specs.Refusals.{refusal_of_first};
 ghost use Rattle.gql_expr_checks.specs.ExprParameters.{unset, parameters_of};
-ghost use Rattle.gql_scope.specs.UnsetParameters.{parameters_if, parameters_of_condition, parameters_of_node, parameters_of_pattern, parameters_of_keys, parameters_of_order, parameters_of_count, parameters_of_count_if, parameters_of_page, parameters_of_items, parameters_of_return, parameters_of_clause};
+ghost use Rattle.gql_scope.specs.UnsetParameters.{parameters_of_keys, parameters_of_order, parameters_of_count, parameters_of_count_if, parameters_of_page, parameters_of_items, parameters_of_return, parameters_of_clause};
+ghost use Rattle.gql_scope.specs.WholePatterns.{unset_in_clause};
 ghost use Rattle.gql_expr_checks.specs.Gives.{Gives};
 
 use crate::change_parameters::check_change;
+use crate::normal_clause::NormalClause;
 use gql_ast::{
-    Clause, Condition, Expr, Filler, GraphPattern, LetItem, MapItem, Page, Refusal, Return,
-    ReturnItem, ReturnItems, RowCount, SortItem, SortItems, node_of_pattern,
+    Clause, LetItem, MapItem, Page, Refusal, Return, ReturnItem, ReturnItems, RowCount, SortItem,
+    SortItems,
 };
 use gql_expr_checks::{ScopeFault, check_parameter, check_parameters};
+use gql_pattern_checks::check_pattern_parameters;
 use gql_values3::{Params, Text};
 use std::alloc::Global;
-
-/// Checks the parameters of an expression that may be there.
-fn check_if(alloc: Global, params: &Params, expr: &Option<Expr>) -> Result<(), ScopeFault>
-    ensures { Gives result (refusal_of_first Refusal.Parameter (unset params.now (parameters_if expr.now))) }
-{
-    match expr {
-        None => Ok(()),
-        Some(expr) => check_parameters(alloc, params, expr),
-    }
-}
 
 /// Checks the parameters of a map's values.
 pub fn check_map(alloc: Global, params: &Params, items: &[MapItem]) -> Result<(), ScopeFault>
@@ -35,39 +27,6 @@ pub fn check_map(alloc: Global, params: &Params, items: &[MapItem]) -> Result<()
         check_parameters(alloc, params, &item.value)?;
     }
     Ok(())
-}
-
-/// Checks the parameters of a node's conditions.
-fn check_condition(
-    alloc: Global,
-    params: &Params,
-    condition: &Option<Condition>,
-) -> Result<(), ScopeFault>
-    ensures { Gives result (refusal_of_first Refusal.Parameter (unset params.now (parameters_of_condition condition.now))) }
-{
-    match condition {
-        None => Ok(()),
-        Some(Condition::Map(items)) => check_map(alloc, params, items.as_slice()),
-        Some(Condition::Where(expr)) => check_parameters(alloc, params, expr),
-    }
-}
-
-fn check_node(alloc: Global, params: &Params, node: Option<&Filler>) -> Result<(), ScopeFault>
-    ensures { Gives result (refusal_of_first Refusal.Parameter (unset params.now (parameters_of_node (option_copied node.entry)))) }
-{
-    match node {
-        None => Ok(()),
-        Some(filler) => check_condition(alloc, params, &filler.condition),
-    }
-}
-
-/// Checks the parameters of a pattern.
-#[tactic(auto, using(gql_expr_checks::proofs::RefusalLemmas::unset_of_two))]
-fn check_pattern(alloc: Global, params: &Params, pattern: &GraphPattern) -> Result<(), ScopeFault>
-    ensures { Gives result (refusal_of_first Refusal.Parameter (unset params.now (parameters_of_pattern pattern.now))) }
-{
-    check_node(alloc, params, node_of_pattern(pattern))?;
-    check_if(alloc, params, &pattern.condition)
 }
 
 /// Checks the parameters of LET.
@@ -196,12 +155,12 @@ fn check_return(alloc: Global, params: &Params, clause: &Return) -> Result<(), S
     check_count_if(alloc, params, &clause.limit)
 }
 
-/// Checks the parameters of a clause.
-fn check_clause(alloc: Global, params: &Params, clause: &Clause) -> Result<(), ScopeFault>
+/// Checks the parameters of a clause that is no MATCH.
+fn check_other(alloc: Global, params: &Params, clause: &Clause) -> Result<(), ScopeFault>
     ensures { Gives result (refusal_of_first Refusal.Parameter (unset params.now (parameters_of_clause clause.now))) }
 {
     match clause {
-        Clause::Match(m) => check_pattern(alloc, params, &m.pattern),
+        Clause::Match(_) => Ok(()),
         Clause::Let(items) => check_let(alloc, params, items.as_slice()),
         Clause::Filter(condition) => check_parameters(alloc, params, condition),
         Clause::For(clause) => check_parameters(alloc, params, &clause.list),
@@ -211,13 +170,25 @@ fn check_clause(alloc: Global, params: &Params, clause: &Clause) -> Result<(), S
     }
 }
 
+/// Checks the parameters of a clause.
+#[tactic(auto, using(crate::proofs::FormLemmas::by_forms))]
+fn check_clause(alloc: Global, params: &Params, clause: &NormalClause) -> Result<(), ScopeFault>
+    ensures { Gives result (refusal_of_first Refusal.Parameter (unset_in_clause params.now clause.now)) }
+{
+    match clause.pattern() {
+        Some(pattern) => check_pattern_parameters(alloc, params, pattern),
+        None => check_other(alloc, params, clause.clause()),
+    }
+}
+
 /// Checks the parameters of a query's clauses.
+#[tactic(auto, using(gql_expr_checks::proofs::RefusalLemmas::first_of_in_two))]
 pub fn unset_parameters(
     alloc: Global,
     params: &Params,
-    clauses: &[Clause],
+    clauses: &[NormalClause],
 ) -> Result<(), ScopeFault>
-    ensures { Gives result (refusal_of_first Refusal.Parameter (unset params.now (flat_map parameters_of_clause clauses.now))) }
+    ensures { Gives result (refusal_of_first Refusal.Parameter (flat_map (unset_in_clause params.now) clauses.now)) }
 {
     for clause in clauses {
         check_clause(alloc, params, clause)?;

@@ -13,11 +13,11 @@ use Rattle.gql_ast.specs.declared.statement.Statement.TheVariants as statement
 use Rattle.std.specs.Prelude.{if◌then◌else◌}
 use Rattle.gql_values3.specs.PropertyGraph.{PropertyGraph}
 use Rattle.gql_ast.specs.declared.clause.Query.{Query}
-use Rattle.gql_linear.specs.QueryRun.{Working, changes_data, query_run}
+use Rattle.gql_linear.specs.QueryRun.{Working, changes_data}
 use Rattle.gql_session.specs.Reading.{Reading, blank, bad, deep, unread, read}
 use Rattle.gql_session.specs.SessionState.{SessionState, with_graph}
-use Rattle.gql_session.specs.StatementRun.{query_after, value_end, statement_graph, session_end, execution_end, first_refusal, refused_or_executed}
-use Rattle.gql_session.specs.SessionRun.{Step, state_behind}
+use Rattle.gql_session.specs.StatementRun.{StatementEnd, query_after, value_end, statement_graph, session_end, MayExecute, first_refusal, RefusedOrExecuted}
+use Rattle.gql_session.specs.SessionRun.{Step, MayAnswer}
 
 put_kept : (s : SessionState) (g : PropertyGraph) (changes : Bool) → (if changes then with_graph s g else s).kept ≡ s.kept
 put_kept s g true = refl
@@ -37,22 +37,26 @@ session_kept s session.Reset = refl
 session_kept s session.Close = refl
 session_kept s (session.SetGraph x) = refl
 
-execution_kept : (s : SessionState) (t : Statement) → (execution_end s t).after.kept ≡ s.kept
-execution_kept s (statement.Query q) = query_kept s q (query_run (statement_graph s) s.parameters q)
-execution_kept s (statement.Session t) = session_kept s t
-execution_kept s (statement.Transaction t) = refl
-execution_kept s (statement.Catalog c) = refl
+-- an end that is this one leaves what it does
+as_that : (s : SessionState) (d e : StatementEnd) → d ≡ e → e.after.kept ≡ s.kept → d.after.kept ≡ s.kept
+as_that s d e h k = ap (λ (x : StatementEnd). x.after.kept) h ∙ k
 
-refused_or_executed_kept : (s : SessionState) (t : Statement) (r : Option Refusal) → (refused_or_executed s t r).after.kept ≡ s.kept
-refused_or_executed_kept s t (Some r) = refl
-refused_or_executed_kept s t None = execution_kept s t
+execution_kept : (s : SessionState) (t : Statement) (e : StatementEnd) → MayExecute s t e → e.after.kept ≡ s.kept
+execution_kept s (statement.Query q) e h = as_that s e _ h.ends (query_kept s q h.result)
+execution_kept s (statement.Session t) e h = as_that s e (session_end s t) h (session_kept s t)
+execution_kept s (statement.Transaction t) e h = as_that s e _ h refl
+execution_kept s (statement.Catalog c) e h = as_that s e _ h refl
 
-behind_kept : (s : SessionState) (r : Reading) → (state_behind s r).kept ≡ s.kept
-behind_kept s blank = refl
-behind_kept s bad = refl
-behind_kept s deep = refl
-behind_kept s unread = refl
-behind_kept s (read t) = refused_or_executed_kept s t (first_refusal s t)
+refused_or_executed_kept : (s : SessionState) (t : Statement) (r : Option Refusal) (e : StatementEnd) → RefusedOrExecuted s t r e → e.after.kept ≡ s.kept
+refused_or_executed_kept s t (Some r) e h = as_that s e _ h refl
+refused_or_executed_kept s t None e h = execution_kept s t e h
+
+answer_kept : (s t : SessionState) (r : Reading) (made : List Outcome) → MayAnswer s r made t → t.kept ≡ s.kept
+answer_kept s t blank made h = ap (λ (x : SessionState). x.kept) h.1
+answer_kept s t bad made h = ap (λ (x : SessionState). x.kept) h.1
+answer_kept s t deep made h = ap (λ (x : SessionState). x.kept) h.1
+answer_kept s t unread made h = ap (λ (x : SessionState). x.kept) h.1
+answer_kept s t (read u) made h = ap (λ (x : SessionState). x.kept) h.3 ∙ refused_or_executed_kept s u (first_refusal s u) h.0 h.1
 
 pub step_kept : (s t : SessionState) (piece : List ℕ) (made : List Outcome) → Step s piece made t → t.kept ≡ s.kept
-step_kept s t piece made step = ap (λ (x : SessionState). x.kept) step.state ∙ behind_kept s step.reading
+step_kept s t piece made step = answer_kept s t step.reading made step.answers

@@ -6,5 +6,6 @@ pub mod LoadLemmas
 pub mod KeptLemmas
 pub mod ParameterLemmas
 pub mod StepLemmas
+pub mod SoundLemmas
 pub mod EndingLemmas
 pub mod OneRunLemmas

@@ -20,6 +20,7 @@ use Rattle.gql_statements.specs.ChangeGrammar.{Detaches, IsChange}
 use Rattle.gql_statements.specs.StatementGrammar.{Derives}
 use Rattle.gql_parts.specs.Parts.{Passes}
 use Rattle.gql_statements.specs.ClauseGrammar.{IsClause, IsLast}
+use Rattle.gql_statements.specs.MatchGrammar.{SaysOptional}
 use Rattle.gql_statements.specs.PageGrammar.{IsPage}
 use Rattle.gql_statements.specs.QueryGrammar.{AreClauses}
 use Rattle.gql_statements.specs.SessionGrammar.{IsSession}
@@ -80,8 +81,12 @@ no_change (change.Set is) r h = nothing_passes _ h.0 h.1
 no_change (change.Remove is) r h = nothing_passes _ h.0 h.1
 no_change (change.Delete d xs) r h = nothing_passes_from _ h.0 h.2 (no_detachment d h.0 h.1) h.3
 
+no_option : (optional : Bool) (r : List Lexeme) → SaysOptional optional [] r → r ≡ []
+no_option true r h = absurd (nothing_passes _ r h)
+no_option false r h = sym h
+
 no_clause : (c : Clause) (r : List Lexeme) → IsClause c [] r → ⊥
-no_clause (clause.Match m) r h = nothing_passes _ h.1 h.2
+no_clause (clause.Match m) r h = nothing_passes_from _ h.0 h.2 (no_option m.optional h.0 h.1) h.3
 no_clause (clause.Let is) r h = nothing_passes _ h.0 h.1
 no_clause (clause.Filter e) r h = nothing_passes _ h.0 h.1
 no_clause (clause.For f) r h = nothing_passes _ h.0 h.1

@@ -4,6 +4,7 @@ pub mod SessionRun
 pub mod StatementRun
 pub mod SessionState
 pub mod Reading
+pub mod Choices
 pub mod Pieces
 pub mod Outcomes
 pub mod Words

@@ -1,15 +1,19 @@
--- What comes of a statement: its outcome, and the state behind it.
+-- What may come of a statement: its outcome, and the state behind it. A query in which a selector leaves a choice may come to
+-- several results, so this is a relation; every other statement comes to one.
 --
--- It is refused with the first static refusal in the order of their codes: a number literal beyond 64 bits (E04), a
--- missing current graph of a query (E06), and then those of scopes (E08, E09, E15, E16, E23). Otherwise it runs.
-use Rattle.std.specs.Prelude.{ℕ, List, [], Option, Some, None, option_map, Result, Ok, Err, codes, if◌then◌else◌}
+-- A statement is refused with the first static refusal in the order of their codes: a number literal beyond 64 bits (E04), a
+-- bound of a pattern that is at fault (E05), a missing current graph of a query (E06), and then those of names and patterns (E08
+-- to E16, E23). Otherwise it runs.
+use Rattle.std.specs.Prelude.{◌≡◌, ℕ, ℤ, List, [], Option, Some, None, option_map, Result, Ok, Err, codes, if◌then◌else◌}
+use Rattle.std.specs.Fmt.{signed_decimal}
 use Rattle.std.specs.Option.{option_or}
 use Rattle.gql_values3.specs.Datum.{Datum}
 use Rattle.gql_values3.specs.PropertyGraph.{PropertyGraph}
 use Rattle.gql_ast.specs.Meaning.{tree_of}
 use Rattle.gql_ast.specs.Evaluation.{value_of}
 use Rattle.gql_ast.specs.NumberLiterals.{wide_number}
-use Rattle.gql_scope.specs.StaticRefusals.{static_refusal}
+use Rattle.gql_scope.specs.StatementBounds.{bound_of_statement}
+use Rattle.gql_scope.specs.WholePatterns.{whole_refusal}
 use Rattle.gql_values3.specs.declared.table.Table.{Table}
 use Rattle.gql_ast.specs.declared.clause.Query.{Query}
 use Rattle.gql_ast.specs.declared.fault.DataFault.{DataFault}
@@ -21,7 +25,7 @@ use Rattle.gql_ast.specs.declared.statement.SessionStatement.{SessionStatement}
 use Rattle.gql_ast.specs.declared.statement.SessionStatement.TheVariants as session
 use Rattle.gql_ast.specs.declared.statement.Statement.{Statement}
 use Rattle.gql_ast.specs.declared.statement.Statement.TheVariants as statement
-use Rattle.gql_linear.specs.QueryRun.{Working, answer_table, changes_data, query_run}
+use Rattle.gql_linear.specs.QueryRun.{Working, answer_table, changes_data, QueryMayRun}
 use Rattle.gql_session.specs.SessionState.{SessionState, with_parameters, with_graph, closed, set_parameter, current_graph, graph_or_empty}
 
 pub record StatementEnd : Type 0 where
@@ -59,11 +63,15 @@ value_end before p (Err f) = refused_with before (refusal.Fault f)
 abbrev pub statement_graph : SessionState → PropertyGraph
 statement_graph before = graph_or_empty (current_graph before)
 
-abbrev pub query_end : SessionState → Query → StatementEnd
-query_end before q = record {
-  outcome = query_outcome q (query_run (statement_graph before) before.parameters q);
-  after = query_after q before (query_run (statement_graph before) before.parameters q);
-}
+-- the end of a query that came to this result
+abbrev pub query_end : SessionState → Query → Result Working Refusal → StatementEnd
+query_end before q result = record { outcome = query_outcome q result; after = query_after q before result }
+
+-- a query may end so: by a result that it may come to on the graph and with the parameters before it
+pub record QueryMayEnd (before : SessionState) (q : Query) (end : StatementEnd) : Type 0 where
+  pub result : Result Working Refusal
+  pub runs : QueryMayRun (statement_graph before) before.parameters q result
+  pub ends : end ≡ query_end before q result
 
 -- SESSION RESET forgets all parameters, SESSION CLOSE ends the session; SESSION SET GRAPH is no statement yet
 abbrev pub session_end : SessionState → SessionStatement → StatementEnd
@@ -73,11 +81,15 @@ session_end before session.Close = done_with (closed before)
 session_end before (session.SetGraph x) = refused_with before refusal.Syntax
 
 -- the statement is executed; those about transactions and catalogs are no statements yet
-abbrev pub execution_end : SessionState → Statement → StatementEnd
-execution_end before (statement.Query q) = query_end before q
-execution_end before (statement.Session s) = session_end before s
-execution_end before (statement.Transaction t) = refused_with before refusal.Syntax
-execution_end before (statement.Catalog c) = refused_with before refusal.Syntax
+abbrev pub MayExecute : SessionState → Statement → StatementEnd → Type 0
+MayExecute before (statement.Query q) end = QueryMayEnd before q end
+MayExecute before (statement.Session s) end = end ≡ session_end before s
+MayExecute before (statement.Transaction t) end = end ≡ refused_with before refusal.Syntax
+MayExecute before (statement.Catalog c) end = end ≡ refused_with before refusal.Syntax
+
+-- E05: the number at fault, in decimal
+abbrev pub bound_refusal : Statement → Option Refusal
+bound_refusal s = option_map (λ (n : ℤ). refusal.Bounds (signed_decimal n)) (bound_of_statement s)
 
 -- E06: the current graph isn't there
 abbrev pub missing_graph : Option PropertyGraph → Option Refusal
@@ -93,12 +105,12 @@ graph_refusal before _ = None
 abbrev pub first_refusal : SessionState → Statement → Option Refusal
 first_refusal before s =
     option_or (option_map refusal.Number (wide_number s))
-    (option_or (graph_refusal before s) (static_refusal before.parameters s))
+    (option_or (bound_refusal s) (option_or (graph_refusal before s) (whole_refusal before.parameters s)))
 
-abbrev pub refused_or_executed : SessionState → Statement → Option Refusal → StatementEnd
-refused_or_executed before s (Some r) = refused_with before r
-refused_or_executed before s None = execution_end before s
+abbrev pub RefusedOrExecuted : SessionState → Statement → Option Refusal → StatementEnd → Type 0
+RefusedOrExecuted before s (Some r) end = end ≡ refused_with before r
+RefusedOrExecuted before s None end = MayExecute before s end
 
--- the statement, run
-abbrev pub statement_run : SessionState → Statement → StatementEnd
-statement_run before s = refused_or_executed before s (first_refusal before s)
+-- the statement may end so
+abbrev pub StatementMayRun : SessionState → Statement → StatementEnd → Type 0
+StatementMayRun before s end = RefusedOrExecuted before s (first_refusal before s) end

@@ -1,19 +1,21 @@
 //! The answer to one piece of a session.
-ghost use Rattle.std.specs.Prelude.{◌≡◌, ◌<◌, ◌^◌, false, length, option_to_list, IfOk, OnOk};
+ghost use Rattle.std.specs.Prelude.{◌≡◌, ◌<◌, ◌^◌, false, length, option_to_list, IfOk};
 ghost use Rattle.gql_graph.specs.Catalog.{CatalogData};
-ghost use Rattle.gql_session.specs.SessionRun.{outcomes_of, state_behind, Step};
+ghost use Rattle.gql_session.specs.SessionRun.{MayAnswer, Step};
 ghost use Rattle.gql_session.specs.Machinery.Meaning.{session_state, reading_of};
 
 use crate::reading::{Read, read_piece};
 use crate::state::Session;
 use crate::statement::run_statement;
+use crate::tools::Tools;
 use gql_ast::{Outcome, Refusal};
+use gql_graph::Graph;
+use gql_norm::Matcher;
 use gql_values3::OutOfMemory;
-use std::alloc::Global;
 
-/// The outcome of a piece, or none where it is blank; the session goes one step.
-pub fn answer_piece(
-    alloc: Global,
+/// An outcome that the piece may have, or none where it is blank; the session goes one step.
+pub fn answer_piece<M: Matcher<Graph>>(
+    tools: &Tools<M>,
     session: &mut Session,
     piece: &[u8],
 ) -> Result<Option<Outcome>, OutOfMemory>
@@ -21,18 +23,17 @@ pub fn answer_piece(
     requires goes_on { session.old.is_closed ≡ false }
     ensures { (kept : CatalogData) → IfOk result (λ made. Step (session_state kept session.old) piece.now (option_to_list made) (session_state kept session.new)) }
 {
-    let read = read_piece(alloc, piece)?;
-    answer_read(alloc, session, &read)
+    let read = read_piece(tools.alloc, piece)?;
+    answer_read(tools, session, &read)
 }
 
 /// The same of a piece that reads so.
-fn answer_read(
-    alloc: Global,
+fn answer_read<M: Matcher<Graph>>(
+    tools: &Tools<M>,
     session: &mut Session,
     read: &Read,
 ) -> Result<Option<Outcome>, OutOfMemory>
-    ensures outcomes { (kept : CatalogData) → IfOk result (λ made. option_to_list made ≡ outcomes_of (session_state kept session.old) (reading_of read.now)) }
-    ensures state { (kept : CatalogData) → OnOk result (session_state kept session.new ≡ state_behind (session_state kept session.old) (reading_of read.now)) }
+    ensures { (kept : CatalogData) → IfOk result (λ made. MayAnswer (session_state kept session.old) (reading_of read.now) (option_to_list made) (session_state kept session.new)) }
 {
     match read {
         Read::Blank => Ok(None),
@@ -40,7 +41,7 @@ fn answer_read(
         Read::Deep => Ok(Some(Outcome::Refused(Refusal::Deep))),
         Read::Unread => Ok(Some(Outcome::Refused(Refusal::Syntax))),
         Read::Statement(statement) => {
-            let outcome = run_statement(alloc, session, statement)?;
+            let outcome = run_statement(tools, session, statement)?;
             Ok(Some(outcome))
         }
     }

@@ -24,6 +24,7 @@ mod statement;
 mod status;
 #[cfg(test)]
 mod tests;
+mod tools;
 mod top_call;
 mod words;
 

@@ -11,9 +11,11 @@ ghost use Rattle.gql_session.specs.Machinery.TextEndings.{PieceEnding, TextEndin
 
 use crate::answer::answer_piece;
 use crate::state::Session;
+use crate::tools::Tools;
 use gql_ast::Outcome;
-use gql_graph::Catalog;
+use gql_graph::{Catalog, Graph};
 use gql_lexer::pieces;
+use gql_norm::Matcher;
 use gql_ports::Sink;
 use gql_text::put_outcome;
 use gql_values3::{Bytes, OutOfMemory, Params};
@@ -43,8 +45,8 @@ impl From<OutOfMemory> for RunFault {
 
 /// Runs the pieces of a text one after another, and writes each outcome's text by one `put`. What stands behind a
 /// SESSION CLOSE that was answered isn't looked at. Ok tells whether some statement was refused.
-pub fn run_pieces<W: Sink>(
-    alloc: Global,
+pub fn run_pieces<M: Matcher<Graph>, W: Sink>(
+    tools: &Tools<M>,
     catalog: Catalog,
     text: &[u8],
     sink: &mut W,
@@ -54,20 +56,20 @@ pub fn run_pieces<W: Sink>(
     ensures later { W.faults sink.old ≤ W.faults sink.new }
     ensures failed { result ≡ Err RunFault.Sink → Rose (W.faults sink.old) (W.faults sink.new) }
 {
-    let all = pieces(alloc, text)?;
+    let all = pieces(tools.alloc, text)?;
     let mut session = Session {
         catalog,
-        parameters: Params::new(alloc),
+        parameters: Params::new(tools.alloc),
         is_closed: false,
     };
-    let mut buffer = Bytes::new(alloc);
+    let mut buffer = Bytes::new(tools.alloc);
     let mut refused = false;
     for piece in all.as_slice() {
         if session.is_closed {
             return Ok(refused);
         }
         let bytes = piece.bytes.as_slice();
-        let piece_refused = match run_piece(alloc, &mut session, bytes, &mut buffer, sink) {
+        let piece_refused = match run_piece(tools, &mut session, bytes, &mut buffer, sink) {
             Ok(piece_refused) => piece_refused,
             Err(fault) => return Err(fault),
         };
@@ -77,8 +79,8 @@ pub fn run_pieces<W: Sink>(
 }
 
 /// Runs one piece, writes its outcome's text by way of the buffer, and tells whether it is a refusal.
-fn run_piece<W: Sink>(
-    alloc: Global,
+fn run_piece<M: Matcher<Graph>, W: Sink>(
+    tools: &Tools<M>,
     session: &mut Session,
     piece: &[u8],
     buffer: &mut Bytes,
@@ -90,9 +92,9 @@ fn run_piece<W: Sink>(
     ensures later { W.faults sink.old ≤ W.faults sink.new }
     ensures failed { result ≡ Err RunFault.Sink → Rose (W.faults sink.old) (W.faults sink.new) }
 {
-    match answer_piece(alloc, session, piece)? {
+    match answer_piece(tools, session, piece)? {
         None => Ok(false),
-        Some(outcome) => write_outcome(alloc, &outcome, buffer, sink),
+        Some(outcome) => write_outcome(tools.alloc, &outcome, buffer, sink),
     }
 }
 

@@ -14,13 +14,14 @@ use crate::load::{LoadFault, load};
 use crate::read_text::{TextFault, read_named};
 use crate::run_pieces::{RunFault, run_pieces};
 use crate::status::Status;
-use gql_graph::Catalog;
+use crate::tools::Tools;
+use gql_graph::{Catalog, Graph};
+use gql_norm::Matcher;
 use gql_ports::{Keeper, Sink, Source};
-use std::alloc::Global;
 
 /// Runs the session of that name over the catalog that the keeper's records stand for.
-pub fn run_session<S: Source, W: Sink, K: Keeper>(
-    alloc: Global,
+pub fn run_session<M: Matcher<Graph>, S: Source, W: Sink, K: Keeper>(
+    tools: &Tools<M>,
     name: &str,
     source: &mut S,
     sink: &mut W,
@@ -40,8 +41,8 @@ pub fn run_session<S: Source, W: Sink, K: Keeper>(
     ensures sink_fault { result ≡ Status.SinkFault → Rose (W.faults sink.old) (W.faults sink.new) }
     ensures store_fault { result ≡ Status.StoreFault → Rose (K.faults keeper.old) (K.faults keeper.new) }
 {
-    match load(alloc, keeper) {
-        Ok(catalog) => run_loaded(alloc, name, catalog, source, sink),
+    match load(tools.alloc, keeper) {
+        Ok(catalog) => run_loaded(tools, name, catalog, source, sink),
         Err(LoadFault::Failed) => Status::StoreFault,
         Err(LoadFault::BadRecord(index)) => Status::BadStore(index),
         Err(LoadFault::OutOfMemory) => Status::NoMemory,
@@ -49,8 +50,8 @@ pub fn run_session<S: Source, W: Sink, K: Keeper>(
 }
 
 /// Reads the session of that name, and runs it over the catalog.
-fn run_loaded<S: Source, W: Sink>(
-    alloc: Global,
+fn run_loaded<M: Matcher<Graph>, S: Source, W: Sink>(
+    tools: &Tools<M>,
     name: &str,
     catalog: Catalog,
     source: &mut S,
@@ -64,8 +65,8 @@ fn run_loaded<S: Source, W: Sink>(
     ensures source_fault { result ≡ Status.SourceFault → Rose (S.faults source.old) (S.faults source.new) }
     ensures sink_fault { result ≡ Status.SinkFault → Rose (W.faults sink.old) (W.faults sink.new) }
 {
-    match read_named(alloc, name, source) {
-        Ok(text) => status_of(run_pieces(alloc, catalog, text.as_slice(), sink)),
+    match read_named(tools.alloc, name, source) {
+        Ok(text) => status_of(run_pieces(tools, catalog, text.as_slice(), sink)),
         Err(TextFault::Failed) => Status::SourceFault,
         Err(TextFault::TooLong) => Status::TooLong,
         Err(TextFault::OutOfMemory) => Status::NoMemory,

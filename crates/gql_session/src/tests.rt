@@ -1,10 +1,15 @@
 //! What needs a port that fails, kept records or much memory; all else is proved, or shown by session cases.
 ghost use Rattle.std.specs.Prelude.{◌<◌};
 
+mod no_matcher;
+
 use crate::status::code;
 use crate::top_call::run;
+use gql_graph::Graph;
+use gql_norm::Matcher;
 use gql_ports::{MemKeeper, MemSink, MemSource, Record, Records};
 use gql_values3::{Bytes, Numbers, Text};
+use no_matcher::NoMatcher;
 use std::alloc::Global;
 use std::process::Abort;
 use std::test::Fail;
@@ -37,7 +42,7 @@ const NONE: Fails = Fails {
 
 const WORDS: [&str; 3] = ["gql", "run", "s"];
 
-const QUERY: &str = "MATCH (x:A) RETURN x;";
+const QUERY: &str = "FOR x IN [] RETURN x;";
 
 /// A graph home with next numbers 3 and 1, a node 1 labelled A, and a node 2 without labels: keys and values in hex.
 const TWO_NODES: [(&str, &str); 4] = [
@@ -136,19 +141,30 @@ fn keeper_of(alloc: Global, records: Records, fails: u64) -> Result<MemKeeper, F
 }
 
 /// Runs the case, and tells the exit status and what was written.
-fn outcome_of(alloc: Global, words: &[&str], case: &Case<'_>) -> Result<(u8, Bytes), Fail> {
+fn outcome_of<M: Matcher<Graph>>(
+    alloc: Global,
+    matcher: &M,
+    words: &[&str],
+    case: &Case<'_>,
+) -> Result<(u8, Bytes), Fail> {
     let text = Bytes::from_vec(Vec::from_slice(alloc, case.text.as_bytes())?);
     let words = words_of(alloc, words)?;
     let records = records_of(alloc, case.records)?;
     let mut source = source_of(alloc, text, case.fails.source)?;
     let mut sink = sink_of(alloc, case.fails.sink)?;
     let mut keeper = keeper_of(alloc, records, case.fails.keeper)?;
-    let status = run(alloc, &words, &mut source, &mut sink, &mut keeper);
+    let status = run(alloc, matcher, &words, &mut source, &mut sink, &mut keeper);
     Ok((code(&status), sink.bytes))
 }
 
-fn check(rt: &impl Abort, alloc: Global, words: &[&str], case: &Case<'_>) -> Result<(), Fail> {
-    let (status, written) = outcome_of(alloc, words, case)?;
+fn check<M: Matcher<Graph>>(
+    rt: &impl Abort,
+    alloc: Global,
+    matcher: &M,
+    words: &[&str],
+    case: &Case<'_>,
+) -> Result<(), Fail> {
+    let (status, written) = outcome_of(alloc, matcher, words, case)?;
     assert_eq!(rt; status, case.status, "{}", case.shows);
     assert_eq!(rt;
         written.as_slice(),
@@ -195,9 +211,14 @@ const fn over<'a>(
     }
 }
 
-fn check_all(rt: &impl Abort, alloc: Global, cases: &[Case<'_>]) -> Result<(), Fail> {
+fn check_all<M: Matcher<Graph>>(
+    rt: &impl Abort,
+    alloc: Global,
+    matcher: &M,
+    cases: &[Case<'_>],
+) -> Result<(), Fail> {
     for case in cases {
-        check(rt, alloc, &WORDS, case)?;
+        check(rt, alloc, matcher, &WORDS, case)?;
     }
     Ok(())
 }
@@ -226,14 +247,16 @@ fn faults_have_their_statuses(rt: HostRuntime) -> Result<(), Fail> {
         failing("the store can't be opened", QUERY, keeper(1), 5, ""),
         failing("the store can't be read", QUERY, keeper(4), 5, ""),
     ];
-    check_all(&rt, rt.alloc(), &cases)
+    check_all(&rt, rt.alloc(), &NoMatcher::<HostRuntime>::new(), &cases)
 }
 
 #[test]
 fn words_and_records_have_their_statuses(rt: HostRuntime) -> Result<(), Fail> {
+    let alloc = rt.alloc();
+    let matcher = NoMatcher::<HostRuntime>::new();
     let usage = plain("no command", QUERY, 2, "");
-    check(&rt, rt.alloc(), &["gql", "run", "a", "b"], &usage)?;
-    check(&rt, rt.alloc(), &["gql", "go", "s"], &usage)?;
+    check(&rt, alloc, &matcher, &["gql", "run", "a", "b"], &usage)?;
+    check(&rt, alloc, &matcher, &["gql", "go", "s"], &usage)?;
     let all = TWO_NODES;
     let cases = [
         over("records without a version", &all[1..], 8, ""),
@@ -249,7 +272,7 @@ fn words_and_records_have_their_statuses(rt: HostRuntime) -> Result<(), Fail> {
             )
         },
     ];
-    check_all(&rt, rt.alloc(), &cases)
+    check_all(&rt, alloc, &matcher, &cases)
 }
 
 /// One byte more than a session may have, and all white space.
@@ -262,7 +285,8 @@ fn a_text_past_the_limit_is_not_run(rt: HostRuntime) -> Result<(), Fail> {
     let mut sink = sink_of(alloc, 0)?;
     let mut keeper = keeper_of(alloc, Records::new(alloc), 0)?;
     let words = words_of(alloc, &WORDS)?;
-    let status = run(alloc, &words, &mut source, &mut sink, &mut keeper);
+    let matcher = NoMatcher::<HostRuntime>::new();
+    let status = run(alloc, &matcher, &words, &mut source, &mut sink, &mut keeper);
     assert_eq!(rt; code(&status), 7);
     assert!(rt; sink.bytes.is_empty());
     Ok(())

@@ -10,15 +10,19 @@ ghost use Rattle.gql_session.specs.RunEnds.{PortsTell, SourceTells, KeeperTells,
 
 use crate::session::run_session;
 use crate::status::Status;
+use crate::tools::Tools;
 use crate::words::session_name;
+use gql_graph::Graph;
+use gql_norm::Matcher;
 use gql_ports::{Keeper, Sink, Source};
 use std::alloc::Global;
 
 /// The top call: reads the words, opens the keeper and loads its records, reads the source, runs the session's
-/// statements one after another, and writes each one's text to the sink by one `put`. Clauses with `..Tell` or
-/// `..Tells` speak of ports that tell what they hold; the others hold of all ports.
-pub fn run<S: Source, W: Sink, K: Keeper>(
+/// statements one after another, their path patterns by the matcher, and writes each one's text to the sink by one
+/// `put`. Clauses with `..Tell` or `..Tells` speak of ports that tell what they hold; the others hold of all ports.
+pub fn run<M: Matcher<Graph>, S: Source, W: Sink, K: Keeper>(
     alloc: Global,
+    matcher: &M,
     words: &Vec<String>,
     source: &mut S,
     sink: &mut W,
@@ -50,8 +54,9 @@ pub fn run<S: Source, W: Sink, K: Keeper>(
         → StandFor records c → length text ≤ most_bytes → ¬ Rose (S.faults source.old) (S.faults source.new) → ¬ Rose (W.faults sink.old) (W.faults sink.new)
         → ¬ Rose (K.faults keeper.old) (K.faults keeper.new) → is_complete result ≡ true }
 {
+    let tools = Tools { alloc, matcher };
     match session_name(words) {
         None => Status::Usage,
-        Some(name) => run_session(alloc, name, source, sink, keeper),
+        Some(name) => run_session(&tools, name, source, sink, keeper),
     }
 }

@@ -39,6 +39,7 @@ is_page_word _ = false
 
 page_has_word : (w : ClauseWord) (c : Clause) (ts r : List Lexeme) → Behind w c ts r → is_page_word w ≡ is_page c
 page_has_word begins.Match (clause.Match m) ts r h = refl
+page_has_word begins.Optional (clause.Match m) ts r h = refl
 page_has_word begins.Let (clause.Let is) ts r h = refl
 page_has_word begins.Filter (clause.Filter e) ts r h = refl
 page_has_word begins.For (clause.For f) ts r h = refl
@@ -49,7 +50,7 @@ page_has_word (begins.Change w) (clause.Change c) ts r h = refl
 page_has_word _ _ ts r h = absurd h
 
 no_other : (t : Lexeme) (w : ClauseWord) → clause_word t ≡ Some w → goes_other t ≡ true → ⊥
-no_other t w e h = let f = word_row (λ t w. goes_other t ≡ false) clause_words (λ x. (refl, (refl, (refl, (refl, (refl, (refl, (refl, (refl, (refl, (refl, (refl, (refl, (refl, (refl, tt))))))))))))))) t w e in cc
+no_other t w e h = let f = word_row (λ t w. goes_other t ≡ false) clause_words (λ x. (refl, (refl, (refl, (refl, (refl, (refl, (refl, (refl, (refl, (refl, (refl, (refl, (refl, (refl, (refl, tt)))))))))))))))) t w e in cc
 
 not_both : true ≡ false → ⊥
 not_both e = cc
@@ -57,11 +58,11 @@ not_both e = cc
 no_page : (t : Lexeme) (w : ClauseWord) → clause_word t ≡ Some w → is_page_word w ≡ false → goes_page t ≡ true → ⊥
 no_page t w e q h =
     let f = word_row (λ t w. is_page_word w ≡ false → goes_page t ≡ false) clause_words
-    (λ x. (λ i. refl, (λ i. refl, (λ i. refl, (λ i. refl, (λ i. absurd (not_both i), (λ i. absurd (not_both i), (λ i. absurd (not_both i), (λ i. absurd (not_both i), (λ i. refl, (λ i. refl, (λ i. refl, (λ i. refl, (λ i. refl, (λ i. refl, tt))))))))))))))) t w e q in
+    (λ x. (λ i. refl, (λ i. refl, (λ i. refl, (λ i. refl, (λ i. refl, (λ i. absurd (not_both i), (λ i. absurd (not_both i), (λ i. absurd (not_both i), (λ i. absurd (not_both i), (λ i. refl, (λ i. refl, (λ i. refl, (λ i. refl, (λ i. refl, (λ i. refl, tt)))))))))))))))) t w e q in
     cc
 
 no_session : (t : Lexeme) (w : ClauseWord) → clause_word t ≡ Some w → is_word SESSION t ≡ true → ⊥
-no_session t w e h = let f = word_row (λ t w. is_word SESSION t ≡ false) clause_words (λ x. (refl, (refl, (refl, (refl, (refl, (refl, (refl, (refl, (refl, (refl, (refl, (refl, (refl, (refl, tt))))))))))))))) t w e in cc
+no_session t w e h = let f = word_row (λ t w. is_word SESSION t ≡ false) clause_words (λ x. (refl, (refl, (refl, (refl, (refl, (refl, (refl, (refl, (refl, (refl, (refl, (refl, (refl, (refl, (refl, tt)))))))))))))))) t w e in cc
 
 -- no first word of the clause passes the test
 abbrev NoWord : (Lexeme → Bool) → Clause → Type 0

@@ -10,7 +10,7 @@ use Rattle.gql_statements.specs.declared.clause_word.ClauseWord.TheVariants as b
 
 abbrev pub clause_words : List (ℕ × ClauseWord)
 clause_words =
-    (word.MATCH, begins.Match) ∷ (word.LET, begins.Let) ∷ (word.FILTER, begins.Filter) ∷ (word.FOR, begins.For)
+    (word.MATCH, begins.Match) ∷ (word.OPTIONAL, begins.Optional) ∷ (word.LET, begins.Let) ∷ (word.FILTER, begins.Filter) ∷ (word.FOR, begins.For)
     ∷ (word.ORDER, begins.Order) ∷ (word.OFFSET, begins.Skip) ∷ (word.SKIP, begins.Skip) ∷ (word.LIMIT, begins.Limit)
     ∷ (word.INSERT, begins.Change changes.Insert) ∷ (word.SET, begins.Change changes.Set) ∷ (word.REMOVE, begins.Change changes.Remove)
     ∷ (word.DELETE, begins.Change changes.Delete) ∷ (word.DETACH, begins.Change (changes.Detaching detachment.Detach))

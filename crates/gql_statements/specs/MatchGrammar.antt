@@ -1,39 +1,19 @@
--- MATCH of one node.
+-- MATCH and OPTIONAL MATCH.
 --
---   Match  = MATCH "(" Filler ")" [WHERE Expr]
-use Rattle.std.specs.Prelude.{◌≡◌, false, List, [], ◌∷◌, None}
+--   Match = [OPTIONAL] MATCH GraphPattern
+use Rattle.std.specs.Prelude.{◌≡◌, Bool, true, false, List}
 use Rattle.gql_lexer.specs.declared.lexeme.Lexeme.{Lexeme}
 use Rattle.gql_ast.specs.declared.clause.Match.{Match}
-use Rattle.gql_ast.specs.declared.path.GraphPattern.{GraphPattern}
-use Rattle.gql_ast.specs.declared.path.PathPattern.{PathPattern}
-use Rattle.gql_ast.specs.declared.pattern.PathExpr.{PathExpr}
-use Rattle.gql_ast.specs.declared.pattern.PathExpr.TheVariants as path
-use Rattle.gql_lexer.specs.SymbolPlaces.{opening, closing}
-use Rattle.gql_lexer.specs.WordPlaces.{MATCH}
-use Rattle.gql_front.specs.Reading.{is_sign, is_word}
-use Rattle.gql_parts.specs.FillerGrammar.{IsWhere, IsFiller}
-use Rattle.gql_parts.specs.Parts.{Passes, IsOptional}
+use Rattle.gql_lexer.specs.WordPlaces.{MATCH, OPTIONAL}
+use Rattle.gql_front.specs.Reading.{is_word}
+use Rattle.gql_parts.specs.Parts.{Passes}
+use Rattle.gql_patterns.specs.PatternGrammar.{IsGraphPattern}
 
--- one node; longer path expressions come at a later stage
-abbrev pub IsPathExpr : PathExpr → List Lexeme → List Lexeme → Type 0
-IsPathExpr (path.Node f) ts r =
-    (a : List Lexeme) × Passes (is_sign opening) ts a × (b : List Lexeme) × IsFiller f a b × Passes (is_sign closing) b r
-IsPathExpr _ ts r = ⊥
+-- OPTIONAL; no word
+abbrev pub SaysOptional : Bool → List Lexeme → List Lexeme → Type 0
+SaysOptional true ts r = Passes (is_word OPTIONAL) ts r
+SaysOptional false ts r = ts ≡ r
 
--- a path without a name and a prefix; these come at a later stage
-abbrev pub IsPath : PathPattern → List Lexeme → List Lexeme → Type 0
-IsPath p ts r = (p.name ≡ None) × (p.prefix ≡ None) × IsPathExpr p.expr ts r
-
--- one path; several come at a later stage
-abbrev pub ArePaths : List PathPattern → List Lexeme → List Lexeme → Type 0
-ArePaths [] ts r = ⊥
-ArePaths (p ∷ []) ts r = IsPath p ts r
-ArePaths (p ∷ q ∷ ps) ts r = ⊥
-
--- DIFFERENT EDGES comes at a later stage
-abbrev pub IsPattern : GraphPattern → List Lexeme → List Lexeme → Type 0
-IsPattern g ts r = (g.different ≡ false) × (a : List Lexeme) × ArePaths g.paths ts a × IsOptional IsWhere g.condition a r
-
--- OPTIONAL comes at a later stage
 abbrev pub IsMatch : Match → List Lexeme → List Lexeme → Type 0
-IsMatch m ts r = (m.optional ≡ false) × (a : List Lexeme) × Passes (is_word MATCH) ts a × IsPattern m.pattern a r
+IsMatch m ts r =
+    (a : List Lexeme) × SaysOptional m.optional ts a × (b : List Lexeme) × Passes (is_word MATCH) a b × IsGraphPattern m.pattern b r

@@ -9,7 +9,7 @@ use crate::clause_word::{ClauseWord, clause_word_at};
 use crate::filter_clause::filter;
 use crate::for_clause::for_items;
 use crate::let_clause::let_items;
-use crate::match_clause::match_node;
+use crate::match_clause::{match_behind, optional_match};
 use crate::page_clause::{limit_page, order_page, skip_page};
 use gql_ast::Clause;
 use gql_front::ParseResult;
@@ -40,7 +40,11 @@ fn clause_behind<'a>(alloc: Global, word: ClauseWord, rest: &'a [Lexeme]) -> Par
 {
     match word {
         ClauseWord::Match => {
-            let (found, rest) = match_node(alloc, rest)?;
+            let (found, rest) = match_behind(alloc, false, rest)?;
+            Ok((Clause::Match(found), rest))
+        }
+        ClauseWord::Optional => {
+            let (found, rest) = optional_match(alloc, rest)?;
             Ok((Clause::Match(found), rest))
         }
         ClauseWord::Let => {

@@ -11,14 +11,16 @@ use gql_ast::Detachment;
 use gql_front::NoFront;
 use gql_lexer::Lexeme;
 use gql_lexer::words::{
-    DELETE, DETACH, FILTER, FOR, INSERT, LET, LIMIT, MATCH, NODETACH, OFFSET, ORDER, REMOVE, SET,
-    SKIP,
+    DELETE, DETACH, FILTER, FOR, INSERT, LET, LIMIT, MATCH, NODETACH, OFFSET, OPTIONAL, ORDER,
+    REMOVE, SET, SKIP,
 };
 
 /// What a reserved word at the front begins a clause of.
 #[derive(Clone, Copy, Debug, PartialEq, Eq)]
 pub enum ClauseWord {
     Match,
+    /// OPTIONAL, before MATCH.
+    Optional,
     Let,
     Filter,
     For,
@@ -35,6 +37,7 @@ fn clause_word(place: u32) -> Option<ClauseWord>
 {
     match place {
         MATCH => Some(ClauseWord::Match),
+        OPTIONAL => Some(ClauseWord::Optional),
         LET => Some(ClauseWord::Let),
         FILTER => Some(ClauseWord::Filter),
         FOR => Some(ClauseWord::For),

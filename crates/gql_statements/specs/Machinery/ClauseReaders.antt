@@ -1,5 +1,5 @@
 -- ClauseReaders: reading clauses, each behind its first word.
-use Rattle.std.specs.Prelude.{ℕ, List, Option, Some}
+use Rattle.std.specs.Prelude.{ℕ, false, List, Option, Some}
 use Rattle.gql_lexer.specs.declared.lexeme.Lexeme.{Lexeme}
 use Rattle.gql_ast.specs.declared.expr.Expr.{Expr}
 use Rattle.gql_ast.specs.declared.clause.Clause.{Clause}
@@ -16,7 +16,7 @@ use Rattle.gql_statements.specs.ClauseWords.{clause_word}
 use Rattle.gql_statements.specs.PartWords.{counting_word}
 use Rattle.gql_parts.specs.Machinery.PartReaders.{read_value, led, past, listed}
 use Rattle.gql_statements.specs.Machinery.PageReaders.{order_page_of, skip_page_of, limit_page_of}
-use Rattle.gql_statements.specs.Machinery.MatchReaders.{match_of}
+use Rattle.gql_statements.specs.Machinery.MatchReaders.{match_of, optional_match_of}
 use Rattle.gql_statements.specs.Machinery.ChangeReaders.{change_behind}
 
 unfoldable pub let_item_of : Reader LetItem
@@ -56,7 +56,8 @@ as_clause make o = o >>= λ x. Some (make x.0, x.1)
 
 -- behind the word that begins a clause
 abbrev pub clause_behind : ClauseWord → Reader Clause
-clause_behind begins.Match ts = as_clause clause.Match (match_of ts)
+clause_behind begins.Match ts = as_clause clause.Match (match_of false ts)
+clause_behind begins.Optional ts = as_clause clause.Match (optional_match_of ts)
 clause_behind begins.Let ts = as_clause clause.Let (let_of ts)
 clause_behind begins.Filter ts = as_clause clause.Filter (filter_of ts)
 clause_behind begins.For ts = as_clause clause.For (for_of ts)

@@ -1,31 +1,18 @@
--- MatchReaders: reading MATCH of one node.
-use Rattle.std.specs.Prelude.{false, [], ◌∷◌, Option, Some, None}
+-- MatchReaders: reading MATCH and OPTIONAL MATCH.
+use Rattle.std.specs.Prelude.{Bool, true, Some}
 use Rattle.gql_ast.specs.declared.clause.Match.{Match}
-use Rattle.gql_ast.specs.declared.expr.Expr.{Expr}
-use Rattle.gql_ast.specs.declared.filler.Filler.{Filler}
-use Rattle.gql_ast.specs.declared.pattern.PathExpr.TheVariants as path
-use Rattle.gql_lexer.specs.SymbolPlaces.{opening, closing}
-use Rattle.gql_front.specs.Reading.{◌>>=◌, Reader, is_sign, after}
-use Rattle.gql_parts.specs.Machinery.FillerReaders.{where_of, filler_of}
-
--- "(" Filler ")"
-unfoldable pub node_of : Reader Filler
-node_of ts = do
-  a ← after (is_sign opening) ts
-  f ← filler_of a
-  r ← after (is_sign closing) f.1
-  Some (f.0, r)
-
--- a node alone as a pattern
-abbrev pub match_of_one_node : Filler → Option Expr → Match
-match_of_one_node f e = record {
-  optional = false;
-  pattern = record { different = false; paths = record { name = None; prefix = None; expr = path.Node f } ∷ []; condition = e };
-}
+use Rattle.gql_lexer.specs.WordPlaces.{MATCH}
+use Rattle.gql_front.specs.Reading.{◌>>=◌, Reader, is_word, after}
+use Rattle.gql_patterns.specs.Machinery.PatternReaders.{graph_pattern_of}
 
 -- behind MATCH
-unfoldable pub match_of : Reader Match
-match_of ts = do
-  f ← node_of ts
-  w ← where_of f.1
-  Some (match_of_one_node f.0 w.0, w.1)
+unfoldable pub match_of : Bool → Reader Match
+match_of optional ts = do
+  g ← graph_pattern_of ts
+  Some (record { optional = optional; pattern = g.0 }, g.1)
+
+-- behind OPTIONAL
+abbrev pub optional_match_of : Reader Match
+optional_match_of ts = do
+  a ← after (is_word MATCH) ts
+  match_of true a

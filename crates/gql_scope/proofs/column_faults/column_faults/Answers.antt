@@ -1,23 +1,22 @@
 use Rattle.std.proofs.Common.{◌<◌, ◌+◌, ◌==◌, [], List, Option, length, refl, arith}
 use Rattle.gql_ast.specs.ClauseColumns.{ColumnList}
-use Rattle.gql_ast.specs.Projections.{columns_behind}
 use Rattle.gql_ast.specs.declared.clause.Clause.{Clause}
 use Rattle.gql_ast.specs.declared.refusal.Refusal.{Refusal}
 use Rattle.gql_ast.specs.declared.refusal.Refusal.TheVariants as refusal
 use Rattle.gql_expr_checks.specs.Refusals.{refusal_of_first}
-use Rattle.gql_scope.specs.ColumnFaults.{faults_in_clause, faults_in_clauses}
+use Rattle.gql_scope.specs.WholePatterns.{columns_past, over_clauses, column_faults}
 use Rattle.gql_expr_checks.proofs.RefusalLemmas.{first_of_in_two, gives_fault}
 use Rattle.gql_scope.proofs.WalkLemmas.{Walk, walk_goes_on, walk_stops}
 use Rattle.gql_scope.proofs.column_faults.column_faults.Goals as goal
 
 abbrev in_clause : ColumnList → Clause → Option Refusal
-in_clause columns d = refusal_of_first refusal.Column (faults_in_clause columns d)
+in_clause columns d = refusal_of_first refusal.Column (column_faults columns d)
 
 abbrev in_clauses : ColumnList → List Clause → Option Refusal
-in_clauses columns ds = refusal_of_first refusal.Column (faults_in_clauses columns ds)
+in_clauses columns ds = refusal_of_first refusal.Column (over_clauses column_faults columns ds)
 
 walk : Walk in_clause in_clauses
-walk = record { end = λ xs ys. refl; step = λ columns d ds. first_of_in_two refusal.Column (faults_in_clause columns d) (faults_in_clauses (columns_behind columns d) ds) }
+walk = record { end = λ xs ys. refl; step = λ columns d ds. first_of_in_two refusal.Column (column_faults columns d) (over_clauses column_faults (columns_past columns d) ds) }
 
 pub returns-in_err-pass_clause : goal.returns-in_err-pass_clause
 returns-in_err-pass_clause c =

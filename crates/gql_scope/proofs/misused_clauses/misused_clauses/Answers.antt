@@ -1,22 +1,21 @@
 use Rattle.std.proofs.Common.{◌<◌, ◌+◌, ◌==◌, [], List, Option, length, refl, arith}
 use Rattle.gql_ast.specs.ClauseColumns.{ColumnList}
-use Rattle.gql_ast.specs.Projections.{columns_behind}
 use Rattle.gql_ast.specs.declared.clause.Clause.{Clause}
 use Rattle.gql_ast.specs.declared.refusal.Refusal.{Refusal}
 use Rattle.gql_expr_checks.specs.Refusals.{misuse_if}
-use Rattle.gql_scope.specs.Misuses.{misused_clause, misused_clauses}
+use Rattle.gql_scope.specs.WholePatterns.{columns_past, is_misused, misused_over}
 use Rattle.gql_expr_checks.proofs.RefusalLemmas.{misuse_in_two, gives_fault}
 use Rattle.gql_scope.proofs.WalkLemmas.{Walk, walk_goes_on, walk_stops}
 use Rattle.gql_scope.proofs.misused_clauses.misused_clauses.Goals as goal
 
 abbrev in_clause : ColumnList → Clause → Option Refusal
-in_clause columns d = misuse_if (misused_clause columns d)
+in_clause columns d = misuse_if (is_misused columns d)
 
 abbrev in_clauses : ColumnList → List Clause → Option Refusal
-in_clauses columns ds = misuse_if (misused_clauses columns ds)
+in_clauses columns ds = misuse_if (misused_over columns ds)
 
 walk : Walk in_clause in_clauses
-walk = record { end = λ xs ys. refl; step = λ columns d ds. misuse_in_two (misused_clause columns d) (misused_clauses (columns_behind columns d) ds) }
+walk = record { end = λ xs ys. refl; step = λ columns d ds. misuse_in_two (is_misused columns d) (misused_over (columns_past columns d) ds) }
 
 pub returns-in_err-pass_clause : goal.returns-in_err-pass_clause
 returns-in_err-pass_clause c =

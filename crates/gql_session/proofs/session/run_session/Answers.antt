@@ -11,7 +11,7 @@ returns-in-Ok-clause-at_fault g c = λ records i k bad. absurd (c.in-Ok.ensures.
 pub returns-in-Err-BadRecord-clause-at_fault : goal.returns-in-Err-BadRecord-clause-at_fault
 returns-in-Err-BadRecord-clause-at_fault g c = λ records i k bad.
     let told = rw c.in-Err-BadRecord.field-0-is at (c.in-Err-BadRecord.ensures.at_fault records i k bad) in
-    rw c.in-Err-BadRecord.field-0-is (same_index c.in-Err-BadRecord.index i told)
+    same_index c.in-Err-BadRecord.index i told
 
 pub returns-in-Ok-clause-bad_store : goal.returns-in-Ok-clause-bad_store
 returns-in-Ok-clause-bad_store g c = λ records i k e. absurd (not_bad_store c.run_loaded.result i c.run_loaded.ensures.loaded e)

@@ -1,0 +1,4 @@
+mod ChangeLemmas
+mod MergeLemmas
+mod TransactionLemmas
+mod WrittenLemmas

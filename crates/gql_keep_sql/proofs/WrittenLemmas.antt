@@ -1,0 +1,32 @@
+-- A write that was not begun changes nothing.
+use Rattle.std.proofs.Common.{false, List, ℕ, inl, refl, arith}
+use Rattle.sqlite.specs.Store.{Ghosts}
+use Rattle.sqlite.specs.Tree.{Trees}
+use Rattle.sqlite.specs.State.{State, Survives}
+use Rattle.sqlite.specs.Held.{Held, state}
+use Rattle.gql_ports.specs.declared.stored.Record.{Record}
+use Rattle.gql_keep_sql.specs.declared.place.Place.{Place}
+use Rattle.gql_keep_sql.specs.declared.place.Place.TheVariants.{Nowhere, Memory, File}
+use Rattle.gql_keep_sql.specs.Written.{Transacts, Writes}
+
+survives_itself : (s : State) (P : Trees → Type 0) → Survives s s P
+survives_itself s P = record {
+  clean = omega arith;
+  shield = λ h. h;
+  counts = omega arith;
+  limit = refl;
+  closes = λ clean h. inl h;
+  crash = λ clean db h. inl h;
+}
+
+not_asked : {S : Type 0} (g : Ghosts S) (puts : List Record) (drops : List (List ℕ)) (h : Held S) → Transacts g puts drops false h h
+not_asked g puts drops h = record {
+  all = λ clean done. absurd cc;
+  nothing = λ clean is_open not_done. refl;
+  crash = survives_itself (state g h) _;
+}
+
+pub unwritten : (puts : List Record) (drops : List (List ℕ)) (place : Place) → Writes puts drops false place place
+unwritten puts drops Nowhere = refl
+unwritten puts drops (Memory h) = not_asked _ puts drops h
+unwritten puts drops (File name h) = (refl, not_asked _ puts drops h)

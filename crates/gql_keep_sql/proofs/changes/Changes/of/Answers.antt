@@ -1,0 +1,24 @@
+-- The sort puts the changes into another order, in which they change the same keys.
+use Rattle.std.proofs.Common.{◌++◌, ◌∙◌, List, map, ap, subst, IsPermutation}
+use Rattle.gql_keep_sql.specs.declared.changes.Change.{Change}
+use Rattle.gql_keep_sql.specs.Machinery.Merge.{put_of, drop_of, changes_ascend}
+use Rattle.gql_keep_sql.proofs.ChangeLemmas.{put_by, changed_by, let_through}
+use Rattle.gql_keep_sql.proofs.changes.Changes.of.Goals as goal
+
+pub returns-clause-put : goal.returns-clause-put
+returns-clause-put c =
+    let sorted = c.sort_by.new.self.items in
+    let puts = map put_of c.args.puts.now in
+    let drops = map drop_of c.args.drops.now in
+    let made = c.in_ok-push_drops.ensures ∙ ap (λ (xs : List Change). xs ++ drops) (c.in_ok-push_puts.ensures ∙ ap (λ (xs : List Change). xs ++ puts) c.new-items.ensures.items) in
+    let same = subst (λ xs. IsPermutation xs sorted) made c.sort_by.ensures.permutation in
+    let_through _ (changes_ascend sorted) sorted c.ascending.result c.ascending.ensures (put_by c.args.puts.now c.args.drops.now sorted same)
+
+pub returns-clause-changed : goal.returns-clause-changed
+returns-clause-changed c =
+    let sorted = c.sort_by.new.self.items in
+    let puts = map put_of c.args.puts.now in
+    let drops = map drop_of c.args.drops.now in
+    let made = c.in_ok-push_drops.ensures ∙ ap (λ (xs : List Change). xs ++ drops) (c.in_ok-push_puts.ensures ∙ ap (λ (xs : List Change). xs ++ puts) c.new-items.ensures.items) in
+    let same = subst (λ xs. IsPermutation xs sorted) made c.sort_by.ensures.permutation in
+    let_through _ (changes_ascend sorted) sorted c.ascending.result c.ascending.ensures (changed_by c.args.puts.now c.args.drops.now sorted same)

@@ -1,0 +1,8 @@
+pub mod Counting
+pub mod Fetched
+pub mod Keys
+pub mod Machinery
+pub mod Places
+pub mod Told
+pub mod Transaction
+pub mod Written

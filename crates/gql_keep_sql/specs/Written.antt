@@ -1,0 +1,28 @@
+-- What a write does to the place where the records are: memory, or a file.
+use Rattle.std.specs.Prelude.{◌≡◌, Bool, false, List, ℕ, IsTrue}
+use Rattle.sqlite.specs.Store.{Ghosts}
+use Rattle.sqlite.specs.Effect.{Database}
+use Rattle.sqlite.specs.State.{HasCleanDisk, Survives}
+use Rattle.sqlite.specs.Held.{Held, state}
+use Rattle.sqlite.specs.Steps.{over_memory}
+use Rattle.sqlite.specs.Files.{over_files}
+use Rattle.gql_ports.specs.declared.stored.Record.{Record}
+use Rattle.gql_keep_sql.specs.declared.place.Place.{Place}
+use Rattle.gql_keep_sql.specs.declared.place.Place.TheVariants.{Nowhere, Memory, File}
+use Rattle.gql_keep_sql.specs.Transaction.{Rewrote}
+
+-- A connection was asked to write these, and did or did not. What is said of what it holds is said where the disk has given back what was written.
+pub record Transacts {S : Type 0} (g : Ghosts S) (puts : List Record) (drops : List (List ℕ)) (done : Bool) (old new : Held S) : Type 0 where
+  -- all of it is committed
+  pub all : HasCleanDisk (state g new) → IsTrue done → Rewrote g puts drops old (state g new).committed
+  -- nothing of it is committed
+  pub nothing : HasCleanDisk (state g new) → IsTrue (state g new).is_open → done ≡ false → (state g new).committed ≡ (state g old).committed
+  -- a crash leaves what it could leave before, or all of it
+  pub crash : Survives (state g old) (state g new) (λ trees. (db : Database) × Rewrote g puts drops old db × (trees ≡ db.trees))
+
+-- the place stays, and its connection writes; where nothing is open, nothing is written
+abbrev pub Writes : List Record → List (List ℕ) → Bool → Place → Place → Type 0
+Writes puts drops done Nowhere Nowhere = done ≡ false
+Writes puts drops done (Memory old) (Memory new) = Transacts over_memory puts drops done old new
+Writes puts drops done (File name old) (File new_name new) = (new_name ≡ name) × Transacts over_files puts drops done old new
+Writes puts drops done _ _ = ⊥

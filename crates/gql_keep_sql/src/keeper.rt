@@ -1,0 +1,147 @@
+ghost use Rattle.std.specs.Prelude.{◌≡◌, ◌≤◌, ◌<◌, ◌++◌, ℕ, List, [], Option, Some, None, Ok, Err, option_map, length, map, Bool, true, ◌+◌, IfOk, OnOk, OnErr, IfSome, IsTrue, is_ok, slice_get};
+ghost use Rattle.std.specs.Option.{option_copied};
+ghost use Rattle.gql_values3.specs.Texts.{texts_differ, texts_ascend};
+ghost use Rattle.gql_ports.specs.Causes.{Rose};
+ghost use Rattle.gql_ports.specs.Told.{MatchTold};
+ghost use Rattle.gql_ports.specs.Held.{held_after_opening, keys_ascend, Applies};
+ghost use Rattle.gql_keep_sql.specs.Told.{told_by};
+ghost use Rattle.gql_keep_sql.specs.Counting.{count_after};
+ghost use Rattle.gql_keep_sql.specs.Keys.{has_key, stands_after};
+ghost use Rattle.gql_keep_sql.specs.Fetched.{Fetches};
+ghost use Rattle.gql_keep_sql.specs.Places.{IsUnder};
+ghost use Rattle.gql_keep_sql.specs.Written.{Writes};
+ghost use Rattle.gql_keep_sql.specs.Machinery.Merge.{stands_under};
+ghost use Rattle.std.specs.Vec.{vec_capacity};
+
+use crate::changes::Changes;
+use crate::fault::{NOT_A_STORE, counted};
+use crate::keys::Keys;
+use crate::place::Place;
+use gql_ports::{KeepFault, Keeper, Key, Record};
+use sqlite::Error;
+use std::alloc::Global;
+
+/// Records in a SQLite file, or in memory where there is no name.
+#[derive(Drop)]
+pub struct SqlKeeper<'a> {
+    rt: &'a HostRuntime,
+    alloc: Global,
+    place: Place,
+    keys: Keys,
+    /// How many calls failed.
+    faults: u64,
+}
+
+impl<'a> SqlKeeper<'a> {
+    /// Opens nothing, and takes no memory.
+    pub fn new(rt: &'a HostRuntime, alloc: Global) -> SqlKeeper<'a>
+        ensures keys { result.keys ≡ [] }
+        ensures faults { result.faults ≡ 0 }
+    {
+        SqlKeeper {
+            rt,
+            alloc,
+            place: Place::Nowhere,
+            keys: Keys::new(alloc),
+            faults: 0,
+        }
+    }
+
+    /// Copies SQLite's log into the file, which then stands alone. Without it the log stays beside the file, and the next
+    /// opening reads both.
+    pub fn close(self) -> Result<(), KeepFault> {
+        let mut faults = self.faults;
+        counted(&mut faults, self.place.close())
+    }
+}
+
+impl<'a> Keeper for SqlKeeper<'a> {
+    ghost held = { told_by };
+
+    ghost count = { λ k. length k.keys };
+
+    ghost faults = { λ k. k.faults };
+
+    fn open(&mut self, name: Option<&str>) -> Result<(), KeepFault>
+        ensures ok { OnOk result (told_by self.new ≡ option_map (held_after_opening (option_copied name.entry)) (told_by self.old)) }
+        ensures err { OnErr result (told_by self.new ≡ told_by self.old) }
+        ensures later { self.old.faults ≤ self.new.faults }
+        ensures failed { result ≡ Err KeepFault.Failed → Rose self.old.faults self.new.faults }
+        ensures counted { self.new.faults ≡ count_after result self.old.faults }
+        ensures under { OnOk result (IsUnder (option_copied name.entry) self.new.place) }
+        ensures kept { OnErr result ((self.new.keys ≡ self.old.keys) × (self.new.place ≡ self.old.place)) }
+    {
+        if self.place.is_open_as(name) {
+            return Ok(());
+        }
+        let opened = Place::open(self.rt, self.alloc, name);
+        let (place, keys) = counted(&mut self.faults, opened)?;
+        self.place = place;
+        self.keys = keys;
+        Ok(())
+    }
+
+    fn len(&self) -> u64
+        ensures count { result ≡ length self.now.keys }
+        ensures told { IfSome (told_by self.now) (λ h. result ≡ length h.records) }
+        ensures ordered { IfSome (told_by self.now) (λ h. IsTrue (keys_ascend h.records)) }
+        ensures ascending { texts_ascend self.now.keys ≡ true }
+    {
+        self.keys.len() as u64
+    }
+
+    fn fetch(&mut self, alloc: Global, index: u64) -> Result<Record, KeepFault>
+        requires { index < length self.old.keys }
+        ensures found { IfOk result (λ r. IfSome (told_by self.old) (λ h. slice_get h.records index ≡ Some r)) }
+        ensures kept { told_by self.new ≡ told_by self.old }
+        ensures same { length self.new.keys ≡ length self.old.keys }
+        ensures later { self.old.faults ≤ self.new.faults }
+        ensures failed { result ≡ Err KeepFault.Failed → Rose self.old.faults self.new.faults }
+        ensures counted { self.new.faults ≡ count_after result self.old.faults }
+        ensures key { IfOk result (λ r. slice_get self.old.keys index ≡ Some r.key) }
+        ensures value { IfOk result (λ r. Fetches r.key r.value self.old.place self.new.place) }
+        ensures keys { self.new.keys ≡ self.old.keys }
+    {
+        let Some(key) = self.keys.get(index as usize) else {
+            unreachable!()
+        };
+        let selected = self.place.select(alloc, key);
+        counted(&mut self.faults, selected)
+    }
+
+    fn apply(&mut self, puts: &[Record], drops: &[Key]) -> Result<(), KeepFault>
+        requires { IsTrue (texts_differ (map (λ r. r.key) puts.now ++ drops.now)) }
+        ensures ok { OnOk result (MatchTold (told_by self.old) (told_by self.new) (Applies puts.now drops.now)) }
+        ensures err { OnErr result (told_by self.new ≡ told_by self.old) }
+        ensures later { self.old.faults ≤ self.new.faults }
+        ensures failed { result ≡ Err KeepFault.Failed → Rose self.old.faults self.new.faults }
+        ensures counted { self.new.faults ≡ count_after result self.old.faults }
+        ensures stand { OnOk result ((key : List ℕ) → has_key self.new.keys key ≡ stands_after puts.now drops.now key (has_key self.old.keys key)) }
+        ensures kept { OnErr result (self.new.keys ≡ self.old.keys) }
+        ensures writes { Writes puts.now drops.now (is_ok result) self.old.place self.new.place }
+    {
+        let written = self.write(puts, drops);
+        let (changes, room) = counted(&mut self.faults, written)?;
+        self.keys.change(changes, room);
+        Ok(())
+    }
+}
+
+impl<'a> SqlKeeper<'a> {
+    /// Writes all in one transaction, or nothing. The changes of the keys and the room for them are made before.
+    fn write(&mut self, puts: &[Record], drops: &[Key]) -> Result<(Changes, Vec<Key>), Error>
+        ensures keys { self.new.keys ≡ self.old.keys }
+        ensures faults { self.new.faults ≡ self.old.faults }
+        ensures writes { Writes puts.now drops.now (is_ok result) self.old.place self.new.place }
+        ensures stand { IfOk result (λ ready. (key : List ℕ) (before : Bool) → stands_under ready.0 key before ≡ stands_after puts.now drops.now key before) }
+        ensures empty { IfOk result (λ ready. ready.1.items ≡ []) }
+        ensures room { IfOk result (λ ready. length self.old.keys + length ready.0 ≤ vec_capacity ready.1) }
+    {
+        let Some(changes) = Changes::of(self.alloc, puts, drops)? else {
+            return Err(NOT_A_STORE);
+        };
+        let room = self.keys.room_for(self.alloc, &changes)?;
+        self.place.write(puts, drops)?;
+        Ok((changes, room))
+    }
+}

@@ -1,0 +1,104 @@
+ghost use Rattle.std.specs.Prelude.{◌≡◌, Some, None, IfOk, IsTrue, is_ok};
+ghost use Rattle.std.specs.Option.{option_copied};
+ghost use Rattle.gql_keep_sql.specs.Fetched.{Fetches};
+ghost use Rattle.gql_keep_sql.specs.Places.{IsUnder};
+ghost use Rattle.gql_keep_sql.specs.Written.{Writes};
+
+use crate::fault::CLOSED;
+use crate::keys::Keys;
+use crate::{store, transaction};
+use gql_ports::{Key, Record};
+use sqlite::{Connection, Error, FileFrom, FileStore, MemStore, Wary};
+use std::alloc::Global;
+
+/// A database file, whose commits survive a power cut whatever a torn write leaves.
+type FileConnection = Connection<FileStore<FileFrom<Wary>>>;
+
+/// Where the records are.
+#[derive(Drop)]
+pub enum Place {
+    /// Nothing was opened.
+    Nowhere,
+    Memory(Connection<MemStore>),
+    File(String, FileConnection),
+}
+
+impl Place {
+    /// Opens the named file, or memory where there is no name, and lists its keys.
+    pub fn open(rt: &HostRuntime, alloc: Global, name: Option<&str>) -> Result<(Place, Keys), Error>
+        ensures { IfOk result (λ opened. IsUnder (option_copied name.entry) opened.0) }
+    {
+        match name {
+            Some(name) => open_file(rt, alloc, name),
+            None => open_memory(alloc),
+        }
+    }
+
+    /// Whether it is open under that name, or without one.
+    pub fn is_open_as(&self, name: Option<&str>) -> bool
+        ensures { IsTrue result → IsUnder (option_copied name.entry) self.now }
+    {
+        match (self, name) {
+            (Place::Memory(_), None) => true,
+            (Place::File(own, _), Some(name)) => own.as_str() == name,
+            _ => false,
+        }
+    }
+
+    pub fn select(&mut self, alloc: Global, key: &Key) -> Result<Record, Error>
+        ensures key { IfOk result (λ r. r.key ≡ key.now) }
+        ensures value { IfOk result (λ r. Fetches key.now r.value self.old self.new) }
+    {
+        match self {
+            Place::Nowhere => Err(CLOSED),
+            Place::Memory(conn) => store::select(alloc, conn, key),
+            Place::File(_, conn) => store::select(alloc, conn, key),
+        }
+    }
+
+    /// Puts and drops all of these, or changes nothing.
+    pub fn write(&mut self, puts: &[Record], drops: &[Key]) -> Result<(), Error>
+        ensures { Writes puts.now drops.now (is_ok result) self.old self.new }
+    {
+        match self {
+            Place::Nowhere => Err(CLOSED),
+            Place::Memory(conn) => transaction::write(conn, puts, drops),
+            Place::File(_, conn) => transaction::write(conn, puts, drops),
+        }
+    }
+
+    /// Copies SQLite's log into the file, which then stands alone.
+    pub fn close(self) -> Result<(), Error> {
+        match self {
+            Place::Nowhere => Ok(()),
+            Place::Memory(_) => Ok(()),
+            Place::File(_, conn) => conn.close(),
+        }
+    }
+}
+
+fn open_file(rt: &HostRuntime, alloc: Global, name: &str) -> Result<(Place, Keys), Error>
+    ensures { IfOk result (λ opened. IsUnder (Some name.now) opened.0) }
+{
+    let own = String::from_str(alloc, name)?;
+    let mut conn = connect(rt, name)?;
+    store::establish(&mut conn)?;
+    let keys = store::list(alloc, &mut conn)?;
+    Ok((Place::File(own, conn), keys))
+}
+
+fn connect(rt: &HostRuntime, path: &str) -> Result<FileConnection, Error> {
+    match Connection::open_from(rt, path, false, Wary) {
+        Ok(conn) => Ok(conn),
+        Err((error, _)) => Err(error),
+    }
+}
+
+fn open_memory(alloc: Global) -> Result<(Place, Keys), Error>
+    ensures { IfOk result (λ opened. IsUnder None opened.0) }
+{
+    let mut conn = Connection::open_in_memory(alloc)?;
+    store::establish(&mut conn)?;
+    let keys = store::list(alloc, &mut conn)?;
+    Ok((Place::Memory(conn), keys))
+}

@@ -1,0 +1,82 @@
+ghost use Rattle.std.specs.Prelude.{◌≡◌, IfOk};
+
+use crate::SqlKeeper;
+use gql_ports::{KeepFault, Keeper, Key, Record};
+use gql_values3::{Bytes, OutOfMemory};
+use std::alloc::Global;
+use std::fs;
+use std::test::Fail;
+
+const STORE: &str = "gql_keep_sql_test.db";
+
+fn bytes_of(alloc: Global, text: &[u8]) -> Result<Bytes, OutOfMemory>
+    ensures { IfOk result (λ bytes. bytes ≡ text.now) }
+{
+    let mut bytes = Bytes::new(alloc);
+    bytes.append(text)?;
+    Ok(bytes)
+}
+
+fn record(alloc: Global, key: &[u8], value: &[u8]) -> Result<Record, OutOfMemory>
+    ensures { IfOk result (λ r. r.key ≡ key.now) }
+{
+    Ok(Record {
+        key: bytes_of(alloc, key)?,
+        value: bytes_of(alloc, value)?,
+    })
+}
+
+/// Puts two records, the greater key first.
+fn put_two(alloc: Global, keeper: &mut SqlKeeper<'_>) -> Result<(), KeepFault> {
+    let puts = [record(alloc, b"b", b"two")?, record(alloc, b"a", b"one")?];
+    keeper.apply(&puts, &[])
+}
+
+/// Drops the first of them, and gives the other one another value.
+fn drop_one(alloc: Global, keeper: &mut SqlKeeper<'_>) -> Result<(), KeepFault> {
+    let puts = [record(alloc, b"b", b"")?];
+    let drops = [bytes_of(alloc, b"a")?];
+    keeper.apply(&puts, &drops)
+}
+
+fn is_at(alloc: Global, keeper: &mut SqlKeeper<'_>, index: u64, key: &[u8], value: &[u8]) -> bool {
+    if index >= keeper.len() {
+        return false;
+    }
+    match keeper.fetch(alloc, index) {
+        Ok(found) => found.key.as_slice() == key && found.value.as_slice() == value,
+        Err(_) => false,
+    }
+}
+
+fn remove_store(rt: &HostRuntime) {
+    let _ = fs::remove_file(rt, STORE);
+    let _ = fs::remove_file(rt, "gql_keep_sql_test.db-wal");
+}
+
+#[test]
+fn a_second_keeper_finds_what_the_first_one_kept(rt: HostRuntime) -> Result<(), Fail> {
+    remove_store(&rt);
+    let mut first = SqlKeeper::new(&rt, rt.alloc());
+    assert_eq!(rt; first.open(Some(STORE)), Ok(()));
+    assert_eq!(rt; put_two(rt.alloc(), &mut first), Ok(()));
+    assert!(rt; is_at(rt.alloc(), &mut first, 0, b"a", b"one"));
+    assert!(rt; is_at(rt.alloc(), &mut first, 1, b"b", b"two"));
+
+    let mut second = SqlKeeper::new(&rt, rt.alloc());
+    assert_eq!(rt; second.open(Some(STORE)), Err(KeepFault::Failed));
+    drop(first);
+    assert_eq!(rt; second.open(Some(STORE)), Ok(()));
+    assert_eq!(rt; second.len(), 2);
+    assert!(rt; is_at(rt.alloc(), &mut second, 1, b"b", b"two"));
+    assert_eq!(rt; drop_one(rt.alloc(), &mut second), Ok(()));
+    assert_eq!(rt; second.close(), Ok(()));
+
+    let mut third = SqlKeeper::new(&rt, rt.alloc());
+    assert_eq!(rt; third.open(Some(STORE)), Ok(()));
+    assert_eq!(rt; third.len(), 1);
+    assert!(rt; is_at(rt.alloc(), &mut third, 0, b"b", b""));
+    drop(third);
+    remove_store(&rt);
+    Ok(())
+}

@@ -1,0 +1,12 @@
+//! What stays the same while a query runs.
+
+use gql_values3::Params;
+use std::alloc::Global;
+
+/// The allocator, the matcher of path patterns, and the parameters.
+#[derive(Drop)]
+pub struct Setting<'a, M> {
+    pub alloc: Global,
+    pub matcher: &'a M,
+    pub params: &'a Params,
+}

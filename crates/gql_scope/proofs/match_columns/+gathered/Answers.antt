@@ -1,0 +1,15 @@
+use Rattle.std.proofs.Common.{◌<◌, length, arith}
+use Rattle.gql_norm.proofs.HeightLemmas.{row_falls, union_falls, height_le-highest_part}
+use Rattle.gql_scope.proofs.match_columns.+gathered.Goals as goal
+
+pub add_part-add_several-requires : goal.add_part-add_several-requires
+add_part-add_several-requires t c = (omega (arith, row_falls _ _ _ _ _ _ _ c.in-Concat.is c.part.ensures c.part-in-Concat.ensures c.as_slice.ensures), tt {0})
+
+pub add_part-add_several-requires-in-Union : goal.add_part-add_several-requires-in-Union
+add_part-add_several-requires-in-Union t c = (omega (arith, union_falls _ _ _ _ _ _ _ c.in-Union.is c.part-in-Union.ensures c.part-in-Union-2.ensures c.as_slice-in-Union.ensures), tt {0})
+
+pub add_parts-add_part-requires : goal.add_parts-add_part-requires
+add_parts-add_part-requires t c =
+    let parts = c.args.parts.now in
+    let below : c.loop-i.i < length parts = omega arith in
+    (omega (arith, height_le-highest_part parts c.loop-i.i c.index-parts-i.result below c.index-parts-i.is), tt {0})
