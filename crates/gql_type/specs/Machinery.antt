@@ -1,0 +1,3 @@
+-- What mirrors the code for its proofs; a reader of the promises may skip it.
+pub mod InOrder
+pub mod TypeReaders
