@@ -6,3 +6,4 @@ mod BodyLemmas
 mod BodyExamples
 pub mod TypeLaws
 mod TypeExamples
+mod NumberLemmas
