@@ -1,0 +1,3 @@
+pub mod TypeSpelling
+pub mod KeptTypes
+pub mod Machinery
