@@ -1,0 +1,3 @@
+pub mod TxnData
+pub mod Keeps
+pub mod Machinery
