@@ -199,6 +199,19 @@ unfolding lists_at
 lists_behind zero bytes x fits e = absurd cc
 lists_behind (suc k) bytes x fits e = list_behind k (first_at (lists_at k)) (first_takes k (lists_at k) (lists_behind k)) bytes x fits e
 
+-- values of a list, by themselves and together
+pub kept_values : (ds : List Datum) → AllByRecursion IsKeptValue ds → AreKeptValues (data_of ds)
+kept_values [] all = tt
+kept_values (d ∷ ds) all = (all.0, kept_values ds all.1)
+
+-- a list by its items, behind the byte of its kind
+pub list_content : (ds : List Datum) → counted_spelled value_spelled ds ≡ to_be_bytes w64 (length (items_of (data_of ds))) ++ values_spelled (data_of ds)
+list_content ds = rw (values_spelled-items (data_of ds), items_of-data_of ds) refl
+
+-- a list of kept values
+pub list_kept : (ds : List Datum) → length ds < 2 ^ 64 → AllByRecursion IsKeptValue ds → IsKeptValue (list (data_of ds))
+list_kept ds few all = (rw items_of-data_of few, kept_values ds all)
+
 -- a value that is read was spelled
 pub value_takes : (k : ℕ) → IsSpelled value_spelled (IsKeptTo k) (value_at k)
 value_takes k = first_takes k (lists_at k) (lists_behind k)
