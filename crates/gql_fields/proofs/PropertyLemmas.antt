@@ -1,16 +1,16 @@
 -- A property map that is read was spelled, and what was spelled is read again.
-use Rattle.std.proofs.Common.{◌≡◌, ℕ, Bool, true, false, cond, ◌&&◌, List, [], ◌∷◌, ◌++◌, map, Option, Some, None, refl, sym, ap, subst, ◌∙◌, append_assoc}
+use Rattle.std.proofs.Common.{◌≡◌, ℕ, true, false, cond, ◌&&◌, List, [], ◌∷◌, ◌++◌, map, Some, None, refl, ap, subst, ◌∙◌, append_assoc}
 use Rattle.std.specs.Int.{w64}
 use Rattle.std.specs.List.{AllByRecursion, list_all}
 use Rattle.std.proofs.lemmas.Bool.{and_parts}
 use Rattle.gql_values3.specs.Datum.{Datum, null, boolean, integer, text, list, node, edge, path, is_null}
-use Rattle.gql_values3.specs.PropertyGraph.{is_storable, is_property, are_properties}
+use Rattle.gql_values3.specs.PropertyGraph.{is_storable, is_property}
 use Rattle.gql_values3.specs.Texts.{texts_ascend}
 use Rattle.gql_values3.specs.declared.value.Value.{Value}
 use Rattle.gql_fields.specs.Spelling.{spelled, value_spelled, property_spelled, properties_spelled}
-use Rattle.gql_fields.specs.Kept.{IsText, IsKeptValue, IsKeptProperty, AreKeptProperties}
+use Rattle.gql_fields.specs.Kept.{IsKeptProperty, AreKeptProperties}
 use Rattle.gql_fields.specs.Machinery.Reading.{◌>>=◌, number_at, text_at, items_at, counted_at, value_at, property_at, properties_at, pair_of}
-use Rattle.gql_fields.proofs.FieldLemmas.{IsBytes, Takes, Takes-then, bind_some, guard_some, when_some, text_takes, text_again}
+use Rattle.gql_fields.proofs.FieldLemmas.{Takes, Takes-then, bind_some, guard_some, when_some, text_takes, text_again}
 use Rattle.gql_fields.proofs.ItemLemmas.{IsSpelled, IsReadAgain, counted_takes, counted_again}
 use Rattle.gql_fields.proofs.ValueLemmas.{value_takes, value_again}
 
