@@ -1,0 +1,44 @@
+ghost use Rattle.std.specs.Prelude.{◌≡◌};
+ghost use Rattle.gql_fields.specs.Machinery.Reading.{GivesFree};
+ghost use Rattle.gql_typecode.specs.Machinery.TypeReading.{scalar_told, kind_at, items_kind_at};
+
+use crate::byte::{byte_of, flag_of};
+use gql_fields::Misread;
+use gql_values3::{PropKind, Scalar};
+
+// The first byte of a list's kind, where a scalar has its own.
+const LIST: u8 = 4;
+
+/// The kind of a property at the front, and the bytes after it.
+#[tactic(auto, unfolding(crate::specs::Machinery::TypeReading::kind_at))]
+pub fn kind_of(bytes: &[u8]) -> Result<(PropKind, &[u8]), Misread>
+    ensures { GivesFree (λ x. (x.0, x.1.now)) result (kind_at bytes.now) }
+{
+    let (byte, rest) = byte_of(bytes)?;
+    if byte == LIST {
+        return items_kind_of(rest);
+    }
+    let item = scalar_of(byte)?;
+    Ok((PropKind::One(item), rest))
+}
+
+#[tactic(auto, unfolding(crate::specs::Machinery::TypeReading::items_kind_at))]
+fn items_kind_of(bytes: &[u8]) -> Result<(PropKind, &[u8]), Misread>
+    ensures { GivesFree (λ x. (x.0, x.1.now)) result (items_kind_at bytes.now) }
+{
+    let (byte, rest) = byte_of(bytes)?;
+    let item = scalar_of(byte)?;
+    let (required, rest) = flag_of(rest)?;
+    Ok((PropKind::Many { item, required }, rest))
+}
+
+fn scalar_of(byte: u8) -> Result<Scalar, Misread>
+    ensures { GivesFree (λ x. x) result (scalar_told byte) }
+{
+    match byte {
+        1 => Ok(Scalar::Bool),
+        2 => Ok(Scalar::Int),
+        3 => Ok(Scalar::Text),
+        _ => Err(Misread::NoForm),
+    }
+}
