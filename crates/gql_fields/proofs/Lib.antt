@@ -2,4 +2,7 @@ pub mod Utf8Lemmas
 pub mod FieldLemmas
 pub mod ItemLemmas
 pub mod LabelLemmas
+pub mod ValueLemmas
+pub mod PropertyLemmas
 pub mod LoopLemmas
+pub mod PutLemmas
