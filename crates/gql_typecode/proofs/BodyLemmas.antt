@@ -4,13 +4,14 @@ use Rattle.gql_values3.specs.Texts.{texts_ascend}
 use Rattle.gql_values3.specs.declared.prop_kind.PropKind.{PropKind}
 use Rattle.gql_graph.specs.declared.graph_type.PropType.{PropType}
 use Rattle.gql_fields.specs.Spelling.{spelled, flag_spelled}
-use Rattle.gql_fields.specs.Machinery.Reading.{◌>>=◌, text_at, counted_at}
+use Rattle.gql_fields.specs.Machinery.Reading.{◌>>=◌, text_at, flag_at, counted_at}
 use Rattle.gql_fields.proofs.FieldLemmas.{Takes, Takes-then, bind_some, when_some, some_is, text_takes, text_again}
 use Rattle.gql_fields.proofs.ItemLemmas.{IsSpelled, IsReadAgain, counted_takes, counted_again}
+use Rattle.gql_fields.proofs.ValueLemmas.{flag_takes, flag_again}
 use Rattle.gql_typecode.specs.TypeSpelling.{kind_spelled, property_type_spelled, body_spelled}
 use Rattle.gql_typecode.specs.KeptTypes.{IsKeptPropType, IsKeptBody}
-use Rattle.gql_typecode.specs.Machinery.TypeReading.{flag_at, kind_at, property_type_at, body_at}
-use Rattle.gql_typecode.proofs.KindLemmas.{flag_takes, flag_again, kind_takes, kind_again}
+use Rattle.gql_typecode.specs.Machinery.TypeReading.{kind_at, property_type_at, body_at}
+use Rattle.gql_typecode.proofs.KindLemmas.{kind_takes, kind_again}
 
 abbrev property : List ℕ → PropKind → Bool → PropType
 property name kind required = record { name = name; kind = kind; required = required }

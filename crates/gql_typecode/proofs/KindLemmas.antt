@@ -1,4 +1,4 @@
--- A flag and the kind of a property: what is read was spelled, and what was spelled is read.
+-- The kind of a property: what is read was spelled, and what was spelled is read.
 use Rattle.std.proofs.Common.{◌≡◌, ℕ, suc, Bool, true, false, cond, eqb, List, [], ◌∷◌, ◌++◌, Option, Some, None, refl, sym, ap, subst, ◌∙◌, inl, inr, ◌⊎◌}
 use Rattle.std.proofs.lemmas.Bool.{eqb-true}
 use Rattle.gql_values3.specs.declared.prop_kind.Scalar.{Scalar}
@@ -6,10 +6,11 @@ use Rattle.gql_values3.specs.declared.prop_kind.Scalar.TheVariants as scalar
 use Rattle.gql_values3.specs.declared.prop_kind.PropKind.{PropKind}
 use Rattle.gql_values3.specs.declared.prop_kind.PropKind.TheVariants as kind
 use Rattle.gql_fields.specs.Spelling.{flag_spelled}
-use Rattle.gql_fields.specs.Machinery.Reading.{◌>>=◌}
+use Rattle.gql_fields.specs.Machinery.Reading.{◌>>=◌, flag_at}
 use Rattle.gql_fields.proofs.FieldLemmas.{IsBytes, Takes, Takes-then, bind_some, some_is}
+use Rattle.gql_fields.proofs.ValueLemmas.{flag_takes}
 use Rattle.gql_typecode.specs.TypeSpelling.{scalar_spelled, kind_spelled}
-use Rattle.gql_typecode.specs.Machinery.TypeReading.{byte_at, flag_told, flag_at, scalar_told, items_kind_at, kind_behind, kind_at}
+use Rattle.gql_typecode.specs.Machinery.TypeReading.{byte_at, scalar_told, items_kind_at, kind_behind, kind_at}
 
 -- the first byte stood in front
 pub byte_takes : (bytes : List ℕ) (x : ℕ × List ℕ) → IsBytes bytes → byte_at bytes ≡ Some x → Takes bytes (x.0 ∷ []) x.1
@@ -21,36 +22,6 @@ byte_takes (b ∷ bs) x fits e = subst (λ (y : ℕ × List ℕ). Takes (b ∷ b
 told_by : {A : Type 0} (n k : ℕ) (x : A) (others : Option A) (y : A) (b : Bool) → (b ≡ true → n ≡ k) → cond b (Some x) others ≡ Some y → ((n ≡ k) × (x ≡ y)) ⊎ (others ≡ Some y)
 told_by n k x others y true same e = inl (same refl, some_is x y e)
 told_by n k x others y false same e = inr e
-
--- ---- flags
-
-flag_told_is : (n : ℕ) (f : Bool) → flag_told n ≡ Some f → n ≡ flag_spelled f
-flag_told_is n f e =
-    elim (told_by n 0 false (cond (eqb n 1) (Some true) None) f (eqb n 0) (eqb-true n 0) e) [
-      | inl h ↦ h.0 ∙ ap flag_spelled h.1
-      | inr h ↦
-          elim (told_by n 1 true None f (eqb n 1) (eqb-true n 1) h) [
-            | inl k ↦ k.0 ∙ ap flag_spelled k.1
-            | inr k ↦ absurd cc
-          ]
-    ]
-
--- a flag that is read was spelled
-pub flag_takes : (bytes : List ℕ) (x : Bool × List ℕ) → IsBytes bytes → flag_at bytes ≡ Some x → Takes bytes (flag_spelled x.0 ∷ []) x.1
-unfolding flag_at
-flag_takes bytes x fits e =
-    let a = bind_some (byte_at bytes) (λ byte. flag_told byte.0 >>= λ flag. Some (flag, byte.1)) x e in
-    let b = bind_some (flag_told a.0.0) (λ flag. Some (flag, a.0.1)) x a.2 in
-    let told : Takes bytes (flag_spelled b.0 ∷ []) a.0.1 = subst (λ (n : ℕ). Takes bytes (n ∷ []) a.0.1) (flag_told_is a.0.0 b.0 b.1) (byte_takes bytes a.0 fits a.1) in
-    subst (λ (y : Bool × List ℕ). Takes bytes (flag_spelled y.0 ∷ []) y.1) (some_is (b.0, a.0.1) x b.2) told
-
--- a flag that was spelled is read
-pub flag_again : (f : Bool) (rest : List ℕ) → flag_at (flag_spelled f ∷ rest) ≡ Some (f, rest)
-unfolding flag_at byte_at
-flag_again false rest = refl
-flag_again true rest = refl
-
--- ---- kinds
 
 scalar_told_is : (n : ℕ) (s : Scalar) → scalar_told n ≡ Some s → n ≡ scalar_spelled s
 scalar_told_is n s e =
@@ -104,7 +75,7 @@ kind_takes bytes x fits e =
 
 -- a kind that was spelled is read
 pub kind_again : (k : PropKind) (rest : List ℕ) → kind_at (kind_spelled k ++ rest) ≡ Some (k, rest)
-unfolding kind_at items_kind_at flag_at byte_at
+unfolding kind_at items_kind_at byte_at
 kind_again (kind.One scalar.Bool) rest = refl
 kind_again (kind.One scalar.Int) rest = refl
 kind_again (kind.One scalar.Text) rest = refl

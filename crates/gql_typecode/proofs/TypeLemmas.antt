@@ -12,15 +12,15 @@ use Rattle.gql_graph.specs.declared.graph_type.GraphType.{GraphType}
 use Rattle.gql_fields.specs.declared.misread.Misread.{Misread}
 use Rattle.gql_fields.specs.declared.misread.Misread.TheVariants as misreads
 use Rattle.gql_fields.specs.Spelling.{labels_spelled, flag_spelled}
-use Rattle.gql_fields.specs.Machinery.Reading.{◌>>=◌, Gives, number_at, counted_at, labels_at}
+use Rattle.gql_fields.specs.Machinery.Reading.{◌>>=◌, Gives, number_at, flag_at, counted_at, labels_at}
 use Rattle.gql_fields.proofs.FieldLemmas.{IsBytes, Takes, Takes-then, bind_some, when_some, some_is, wide64, number_takes, number_again}
 use Rattle.gql_fields.proofs.ItemLemmas.{IsSpelled, IsReadAgain, counted_spelled, counted_takes, counted_again}
 use Rattle.gql_fields.proofs.LabelLemmas.{labels_take, labels_again}
+use Rattle.gql_fields.proofs.ValueLemmas.{flag_takes, flag_again}
 use Rattle.gql_typecode.specs.TypeSpelling.{body_spelled, node_type_spelled, edge_type_spelled, graph_type_spelled}
 use Rattle.gql_typecode.specs.KeptTypes.{IsKeptNodeType, IsKeptEdgeType, IsKeptType}
 use Rattle.gql_typecode.specs.declared.type_ends.TypeEnds.{TypeEnds}
-use Rattle.gql_typecode.specs.Machinery.TypeReading.{flag_at, body_at, node_type_at, ends_at, edge_type_between, edge_type_at, graph_type_at, whole_type_at}
-use Rattle.gql_typecode.proofs.KindLemmas.{flag_takes, flag_again}
+use Rattle.gql_typecode.specs.Machinery.TypeReading.{body_at, node_type_at, ends_at, edge_type_between, edge_type_at, graph_type_at, whole_type_at}
 use Rattle.gql_typecode.proofs.BodyLemmas.{body_takes, body_again}
 
 -- ---- node types

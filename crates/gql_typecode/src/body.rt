@@ -1,11 +1,15 @@
-ghost use Rattle.std.specs.Prelude.{◌≡◌, map};
+ghost use Rattle.std.specs.Prelude.{◌≡◌, ◌++◌, map, IsTrue, OnOk};
+ghost use Rattle.std.specs.List.{flat_map, AllByRecursion};
 ghost use Rattle.gql_values3.specs.Texts.{texts_ascend};
 ghost use Rattle.gql_fields.specs.Machinery.Reading.{Gives, items_at};
+ghost use Rattle.gql_typecode.specs.TypeSpelling.{property_type_spelled, body_spelled};
+ghost use Rattle.gql_typecode.specs.KeptTypes.{IsKeptPropType, IsKeptBody};
 ghost use Rattle.gql_typecode.specs.Machinery.TypeReading.{property_type_at, body_at};
 
-use crate::property_type::property_type_of;
-use gql_fields::{Misread, u64_at};
+use crate::property_type::{property_type_of, put_property_type};
+use gql_fields::{Misread, put_u64, u64_at};
 use gql_graph::{PropType, PropTypes};
+use gql_values3::{Bytes, OutOfMemory};
 use std::alloc::Global;
 use std::cmp::Ordering;
 
@@ -55,4 +59,24 @@ fn names_ascend(body: &[PropType]) -> bool
         low = &one.name;
     }
     true
+}
+
+/// Adds the properties of a type behind their count.
+pub fn put_body(out: &mut Bytes, body: &PropTypes) -> Result<(), OutOfMemory>
+    requires { IsTrue (texts_ascend (map (λ t. t.name) body.now)) }
+    ensures written { OnOk result (out.new ≡ out.old ++ body_spelled body.now) }
+    ensures kept { OnOk result (IsKeptBody body.now) }
+{
+    put_u64(out, body.len() as u64)?;
+    put_property_types(out, body.as_slice())
+}
+
+fn put_property_types(out: &mut Bytes, types: &[PropType]) -> Result<(), OutOfMemory>
+    ensures written { OnOk result (out.new ≡ out.old ++ flat_map property_type_spelled types.now) }
+    ensures kept { OnOk result (AllByRecursion IsKeptPropType types.now) }
+{
+    for one in types {
+        put_property_type(out, one)?;
+    }
+    Ok(())
 }

@@ -1,6 +1,6 @@
 ghost use Rattle.std.specs.Prelude.{◌≡◌};
 ghost use Rattle.gql_fields.specs.Machinery.Reading.{GivesFree};
-ghost use Rattle.gql_typecode.specs.Machinery.TypeReading.{byte_at, flag_at};
+ghost use Rattle.gql_typecode.specs.Machinery.TypeReading.{byte_at};
 
 use gql_fields::Misread;
 
@@ -12,18 +12,5 @@ pub fn byte_of(bytes: &[u8]) -> Result<(u8, &[u8]), Misread>
     match bytes {
         [first, rest @ ..] => Ok((*first, rest)),
         [] => Err(Misread::NoForm),
-    }
-}
-
-/// Yes or no, as the first byte tells, and the bytes after it.
-#[tactic(auto, unfolding(crate::specs::Machinery::TypeReading::flag_at))]
-pub fn flag_of(bytes: &[u8]) -> Result<(bool, &[u8]), Misread>
-    ensures { GivesFree (λ x. (x.0, x.1.now)) result (flag_at bytes.now) }
-{
-    let (byte, rest) = byte_of(bytes)?;
-    match byte {
-        0 => Ok((false, rest)),
-        1 => Ok((true, rest)),
-        _ => Err(Misread::NoForm),
     }
 }

@@ -1,14 +1,16 @@
-ghost use Rattle.std.specs.Prelude.{◌≡◌, IfOk, MatchResult};
+ghost use Rattle.std.specs.Prelude.{◌≡◌, ◌++◌, IfOk, OnOk, MatchResult};
 ghost use Rattle.gql_graph.specs.declared.graph_type.GraphType.{GraphType as TypeData};
 ghost use Rattle.gql_fields.specs.Machinery.Reading.{Gives};
 ghost use Rattle.gql_typecode.specs.TypeSpelling.{graph_type_spelled};
 ghost use Rattle.gql_typecode.specs.KeptTypes.{IsKeptType};
+ghost use Rattle.gql_typecode.specs.TypeOrder.{IsTypeInOrder};
 ghost use Rattle.gql_typecode.specs.Machinery.TypeReading.{graph_type_at, whole_type_at};
 
-use crate::edge_type::edge_types_of;
-use crate::node_type::node_types_of;
+use crate::edge_type::{edge_types_of, put_edge_types};
+use crate::node_type::{node_types_of, put_node_types};
 use gql_fields::Misread;
 use gql_graph::GraphType;
+use gql_values3::{Bytes, OutOfMemory};
 use std::alloc::Global;
 
 /// The graph type that all of the bytes spell. Takes time in proportion to the bytes.
@@ -44,4 +46,14 @@ fn graph_type_of(alloc: Global, bytes: &[u8]) -> Result<(GraphType, &[u8]), Misr
     let (nodes, rest) = node_types_of(alloc, bytes)?;
     let (edges, rest) = edge_types_of(alloc, rest)?;
     Ok((GraphType { nodes, edges }, rest))
+}
+
+/// Adds the spelling of a graph type, which can be kept. Takes time in proportion to its bytes.
+pub fn put_graph_type(out: &mut Bytes, kind: &GraphType) -> Result<(), OutOfMemory>
+    requires { IsTypeInOrder kind.now }
+    ensures written { OnOk result (out.new ≡ out.old ++ graph_type_spelled kind.now) }
+    ensures kept { OnOk result (IsKeptType kind.now) }
+{
+    put_node_types(out, &kind.nodes)?;
+    put_edge_types(out, &kind.edges)
 }

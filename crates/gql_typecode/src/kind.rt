@@ -1,10 +1,11 @@
-ghost use Rattle.std.specs.Prelude.{◌≡◌};
+ghost use Rattle.std.specs.Prelude.{◌≡◌, ◌++◌, OnOk};
 ghost use Rattle.gql_fields.specs.Machinery.Reading.{GivesFree};
+ghost use Rattle.gql_typecode.specs.TypeSpelling.{scalar_spelled, kind_spelled};
 ghost use Rattle.gql_typecode.specs.Machinery.TypeReading.{scalar_told, kind_at, items_kind_at};
 
-use crate::byte::{byte_of, flag_of};
-use gql_fields::Misread;
-use gql_values3::{PropKind, Scalar};
+use crate::byte::byte_of;
+use gql_fields::{Misread, flag_of, put_flag};
+use gql_values3::{Bytes, OutOfMemory, PropKind, Scalar};
 
 // The first byte of a list's kind, where a scalar has its own.
 const LIST: u8 = 4;
@@ -40,5 +41,29 @@ fn scalar_of(byte: u8) -> Result<Scalar, Misread>
         2 => Ok(Scalar::Int),
         3 => Ok(Scalar::Text),
         _ => Err(Misread::NoForm),
+    }
+}
+
+/// Adds the kind of a property.
+pub fn put_kind(out: &mut Bytes, kind: PropKind) -> Result<(), OutOfMemory>
+    ensures { OnOk result (out.new ≡ out.old ++ kind_spelled kind) }
+{
+    match kind {
+        PropKind::One(item) => out.push(scalar_byte(item)),
+        PropKind::Many { item, required } => {
+            out.push(LIST)?;
+            out.push(scalar_byte(item))?;
+            put_flag(out, required)
+        }
+    }
+}
+
+fn scalar_byte(scalar: Scalar) -> u8
+    ensures { result ≡ scalar_spelled scalar }
+{
+    match scalar {
+        Scalar::Bool => 1,
+        Scalar::Int => 2,
+        Scalar::Text => 3,
     }
 }

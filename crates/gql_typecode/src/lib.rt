@@ -13,4 +13,4 @@ mod node_type;
 mod property_type;
 mod type_ends;
 
-pub use graph_type::graph_type_of_bytes;
+pub use graph_type::{graph_type_of_bytes, put_graph_type};

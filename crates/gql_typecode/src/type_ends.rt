@@ -2,8 +2,7 @@ ghost use Rattle.std.specs.Prelude.{◌≡◌};
 ghost use Rattle.gql_fields.specs.Machinery.Reading.{GivesFree};
 ghost use Rattle.gql_typecode.specs.Machinery.TypeReading.{ends_at};
 
-use crate::byte::flag_of;
-use gql_fields::{Misread, u64_at};
+use gql_fields::{Misread, flag_of, u64_at};
 
 /// Between which node types the edges of a type lie, by their places.
 #[derive(Clone, Copy, Debug, PartialEq, Eq)]

@@ -1,5 +1,5 @@
 -- Reading the graph type that bytes spell, from left to right: a part and the bytes after it, or nothing where none is spelled.
-use Rattle.std.specs.Prelude.{ℕ, Bool, true, false, not, List, [], ◌∷◌, map, length, Option, Some, None, ◌==◌, if◌then◌else◌}
+use Rattle.std.specs.Prelude.{ℕ, not, List, [], ◌∷◌, map, length, Option, Some, None, ◌==◌, if◌then◌else◌}
 use Rattle.std.specs.Int.{w64}
 use Rattle.gql_values3.specs.Texts.{texts_ascend}
 use Rattle.gql_values3.specs.declared.prop_kind.Scalar.{Scalar}
@@ -10,23 +10,13 @@ use Rattle.gql_graph.specs.declared.graph_type.PropType.{PropType}
 use Rattle.gql_graph.specs.declared.graph_type.NodeType.{NodeType}
 use Rattle.gql_graph.specs.declared.graph_type.EdgeType.{EdgeType}
 use Rattle.gql_graph.specs.declared.graph_type.GraphType.{GraphType}
-use Rattle.gql_fields.specs.Machinery.Reading.{◌>>=◌, number_at, text_at, counted_at, labels_at}
+use Rattle.gql_fields.specs.Machinery.Reading.{◌>>=◌, number_at, text_at, flag_at, counted_at, labels_at}
 use Rattle.gql_typecode.specs.declared.type_ends.TypeEnds.{TypeEnds}
 
 -- the first byte
 unfoldable pub byte_at : List ℕ → Option (ℕ × List ℕ)
 byte_at [] = None
 byte_at (byte ∷ bytes) = Some (byte, bytes)
-
--- yes or no, as a byte tells
-abbrev pub flag_told : ℕ → Option Bool
-flag_told byte = if byte == 0 then Some false else (if byte == 1 then Some true else None)
-
-unfoldable pub flag_at : List ℕ → Option (Bool × List ℕ)
-flag_at bytes = do
-  byte ← byte_at bytes
-  flag ← flag_told byte.0
-  Some (flag, byte.1)
 
 -- a scalar, as a byte tells
 abbrev pub scalar_told : ℕ → Option Scalar
