@@ -1,15 +1,16 @@
 -- A property map that is read was spelled, and what was spelled is read again.
-use Rattle.std.proofs.Common.{◌≡◌, ℕ, Bool, true, false, cond, ◌&&◌, List, [], ◌∷◌, ◌++◌, map, Option, Some, None, refl, sym, ap, subst, ◌∙◌, append_assoc}
+use Rattle.std.proofs.Common.{◌≡◌, ℕ, true, false, cond, ◌&&◌, List, [], ◌∷◌, ◌++◌, map, Some, None, refl, ap, subst, ◌∙◌, append_assoc}
+use Rattle.std.specs.Int.{w64}
 use Rattle.std.specs.List.{AllByRecursion, list_all}
 use Rattle.std.proofs.lemmas.Bool.{and_parts}
 use Rattle.gql_values3.specs.Datum.{Datum, null, boolean, integer, text, list, node, edge, path, is_null}
-use Rattle.gql_values3.specs.PropertyGraph.{is_storable, is_property, are_properties}
+use Rattle.gql_values3.specs.PropertyGraph.{is_storable, is_property}
 use Rattle.gql_values3.specs.Texts.{texts_ascend}
 use Rattle.gql_values3.specs.declared.value.Value.{Value}
 use Rattle.gql_fields.specs.Spelling.{spelled, value_spelled, property_spelled, properties_spelled}
-use Rattle.gql_fields.specs.Kept.{IsText, IsKeptValue, IsKeptProperty, AreKeptProperties}
-use Rattle.gql_fields.specs.Machinery.Reading.{◌>>=◌, text_at, counted_at, value_at, property_at, properties_at, pair_of}
-use Rattle.gql_fields.proofs.FieldLemmas.{IsBytes, Takes, Takes-then, bind_some, guard_some, when_some, text_takes, text_again}
+use Rattle.gql_fields.specs.Kept.{IsKeptProperty, AreKeptProperties}
+use Rattle.gql_fields.specs.Machinery.Reading.{◌>>=◌, number_at, text_at, items_at, counted_at, value_at, property_at, properties_at, pair_of}
+use Rattle.gql_fields.proofs.FieldLemmas.{Takes, Takes-then, bind_some, guard_some, when_some, text_takes, text_again}
 use Rattle.gql_fields.proofs.ItemLemmas.{IsSpelled, IsReadAgain, counted_takes, counted_again}
 use Rattle.gql_fields.proofs.ValueLemmas.{value_takes, value_again}
 
@@ -72,7 +73,7 @@ all_good (p ∷ ps) h fit =
     let both = and_parts (is_property p.1) (list_all (λ p. is_property p.1) ps) fit in
     ((h.0, both.0), all_good ps h.1 both.1)
 
-abbrev names_of : List (List ℕ × Datum) → List (List ℕ)
+abbrev pub names_of : List (List ℕ × Datum) → List (List ℕ)
 names_of ps = map (λ (p : List ℕ × Datum). p.0) ps
 
 abbrev ArePropertiesRead : List ℕ → List (List ℕ × Datum) × List ℕ → Type 0
@@ -100,3 +101,9 @@ properties_again ps rest h =
 pub names_of-pairs : (ps : List (List ℕ × Value)) → map (λ (p : List ℕ × Datum). p.0) (map pair_of ps) ≡ map (λ (p : List ℕ × Value). p.0) ps
 names_of-pairs [] = refl
 names_of-pairs (p ∷ ps) = ap (λ (names : List (List ℕ)). p.0 ∷ names) (names_of-pairs ps)
+
+-- a property map, step by step
+pub properties_read : (bytes : List ℕ) (count : ℕ) (rest : List ℕ) (ps : List (List ℕ × Datum)) (after : List ℕ) → number_at w64 bytes ≡ Some (count, rest) → items_at property_at count rest ≡ Some (ps, after)
+    → properties_at bytes ≡ cond (texts_ascend (names_of ps)) (Some (ps, after)) None
+unfolding properties_at
+properties_read bytes count rest ps after first second = rw (first, second) refl

@@ -1,8 +1,11 @@
 -- Items that are written one behind the other, as a loop does.
-use Rattle.std.proofs.Common.{◌≡◌, ℕ, ◌+◌, ◌<◌, ◌≤◌, List, [], ◌∷◌, ◌++◌, map, length, get_or, take, refl, sym, ap, subst, ◌∙◌, append_assoc, arith}
+use Rattle.std.proofs.Common.{◌≡◌, ℕ, ◌+◌, ◌<◌, ◌≤◌, List, [], ◌∷◌, ◌++◌, map, length, get_or, take, refl, sym, ap, subst, ◌∙◌, append_assoc}
+use Rattle.std.specs.Prelude.{Result, Ok, Err, OnOk}
+use Rattle.std.specs.Int.{w64, to_be_bytes}
 use Rattle.std.specs.List.{flat_map, AllByRecursion}
 use Rattle.std.proofs.lemmas.List.{take_more, take_all, append-nil}
 use Rattle.std.proofs.lemmas.List.Concat.{flat_map-append, flat_map-cons}
+use Rattle.gql_fields.proofs.ItemLemmas.{counted_spelled}
 
 -- a predicate of one more item
 pub all_more : {A : Type 0} (P : A → Type 0) (xs : List A) (x : A) → AllByRecursion P xs → P x → AllByRecursion P (xs ++ x ∷ [])
@@ -44,3 +47,16 @@ flat_map-map {A} view spell (x ∷ xs) =
 pub all_map : {A B : Type 0} (view : A → B) (P : B → Type 0) (xs : List A) → AllByRecursion (λ x. P (view x)) xs → AllByRecursion P (map view xs)
 all_map view P [] h = tt
 all_map view P (x ∷ xs) h = (h.0, all_map view P xs h.1)
+
+-- what follows of what holds behind an Ok
+pub on_ok : {X E : Type 0} {P Q : Type 0} (r : Result X E) → (P → Q) → OnOk r P → OnOk r Q
+on_ok (Ok x) f h = f h
+on_ok (Err e) f h = tt
+
+-- a count, and then items by what they mean
+pub counted_written : {A B : Type 0} (view : A → B) (spell : B → List ℕ) (before mid after : List ℕ) (len : ℕ) (xs : List A) (ys : List B) → map view xs ≡ ys → len ≡ length ys
+    → mid ≡ before ++ to_be_bytes w64 len → after ≡ mid ++ flat_map (λ x. spell (view x)) xs → after ≡ before ++ counted_spelled spell ys
+counted_written {A} view spell before mid after len xs ys e many first second =
+    let tail : flat_map (λ (x : A). spell (view x)) xs ≡ flat_map spell ys = sym (flat_map-map view spell xs) ∙ ap (flat_map spell) e in
+    second ∙ ap (λ (bytes : List ℕ). bytes ++ flat_map (λ (x : A). spell (view x)) xs) first ∙ append_assoc before (to_be_bytes w64 len) (flat_map (λ (x : A). spell (view x)) xs)
+    ∙ (λ i. before ++ (to_be_bytes w64 (many i) ++ tail i))

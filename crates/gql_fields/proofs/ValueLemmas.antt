@@ -1,19 +1,17 @@
 -- A value that is read was spelled, and may stand in a property; what was spelled is read again.
-use Rattle.std.proofs.Common.{◌≡◌, ℕ, zero, suc, ◌^◌, ◌-◌, ◌<◌, ◌≤◌, Bool, true, false, cond, ltb, eqb, ◌&&◌, List, [], ◌∷◌, ◌++◌, length, get_or, Option, Some, None, refl, sym, ap, subst, ◌∙◌, append_assoc, arith, inl, inr, ◌⊎◌}
-use Rattle.std.specs.Prelude.{ℤ, pos, negsuc, IsTrue}
-use Rattle.std.specs.Int.{w64, to_be_bytes, cast_signed, cast_unsigned}
+use Rattle.std.proofs.Common.{◌≡◌, ℕ, zero, suc, ◌^◌, ◌<◌, Bool, true, false, cond, eqb, List, [], ◌∷◌, ◌++◌, length, Option, Some, None, refl, sym, ap, subst, ◌∙◌, inl, inr, ◌⊎◌}
+use Rattle.std.specs.Int.{w64, to_be_bytes, cast_signed}
 use Rattle.std.specs.List.{flat_map, AllByRecursion}
-use Rattle.std.proofs.lemmas.Bool.{eqb-true, and_parts, ltb-false, lt-ltb, le-ltb, ltb-true}
-use Rattle.std.proofs.lemmas.Int.{of_z-to_z}
+use Rattle.std.proofs.lemmas.Bool.{eqb-true, and_parts}
 use Rattle.std.proofs.lemmas.List.Concat.{flat_map-cons}
 use Rattle.gql_values3.specs.Datum.{Datum, Data, null, boolean, integer, text, list, node, edge, path, no_data, more_data, items_of, data_of}
-use Rattle.gql_values3.specs.Integers.{is_int64}
 use Rattle.gql_values3.specs.PropertyGraph.{is_storable, are_storable}
 use Rattle.gql_fields.specs.Spelling.{spelled, flag_spelled, twos_complement, value_spelled, values_spelled}
-use Rattle.gql_fields.specs.Kept.{IsText, IsKeptValue, AreKeptValues}
+use Rattle.gql_fields.specs.Kept.{IsKeptValue, AreKeptValues}
 use Rattle.gql_fields.specs.Machinery.Reading.{◌>>=◌, number_at, text_at, flag_at, counted_at, boolean_at, integer_at, string_at, list_at, first_at, lists_at, value_at}
 use Rattle.gql_fields.proofs.FieldLemmas.{IsBytes, Takes, Takes-then, bind_some, some_is, when_some, wide64, number_takes, number_again, text_takes, text_again}
-use Rattle.gql_fields.proofs.ItemLemmas.{IsSpelled, IsReadAgain, counted_spelled, AreKept, counted_takes, counted_again}
+use Rattle.gql_fields.proofs.IntegerLemmas.{twos_complement-back, signed_is, twos_complement-below, twos_complement-again}
+use Rattle.gql_fields.proofs.ItemLemmas.{IsSpelled, IsReadAgain, counted_spelled, counted_takes, counted_again}
 
 abbrev pub some : {A : Type 0} → A → Option A
 some x = Some x
@@ -54,43 +52,6 @@ flag_takes (b ∷ bytes) x fits e =
 pub flag_again : (b : Bool) (rest : List ℕ) → flag_at (flag_spelled b ∷ rest) ≡ Some (b, rest)
 flag_again false rest = refl
 flag_again true rest = refl
-
--- ---- two's complement
-
--- the bits of a number
-pub twos_complement-bits : (z : ℤ) → cast_unsigned w64 z ≡ twos_complement z
-twos_complement-bits (pos n) = refl
-twos_complement-bits (negsuc n) = omega arith
-
--- bits that are read as a number are its bits
-twos_complement-back : (n : ℕ) → n < 2 ^ 64 → twos_complement (cast_signed w64 n) ≡ n
-twos_complement-back n lt = sym (twos_complement-bits (cast_signed w64 n)) ∙ of_z-to_z w64 n lt
-
--- by the test of the highest bit
-signed_by : (b : Bool) (n : ℕ) → (b ≡ true → n < 2 ^ 63) → (b ≡ false → 2 ^ 63 ≤ n) → n < 2 ^ 64 → is_int64 (cond b (pos n) (negsuc (2 ^ 64 - suc n))) ≡ true
-signed_by true n low high lt = lt-ltb n (2 ^ 63) (low refl)
-signed_by false n low high lt = let above = high refl in lt-ltb (2 ^ 64 - suc n) (2 ^ 63) (omega (arith, above, lt))
-
-sel_cond : (n : ℕ) (b : Bool) → ltb n (2 ^ 63) ≡ b → cast_signed w64 n ≡ cond b (pos n) (negsuc (2 ^ 64 - suc n))
-sel_cond n true e = rw e refl
-sel_cond n false e = rw e refl
-
--- they are a number of 64 bits
-signed_is : (n : ℕ) → n < 2 ^ 64 → is_int64 (cast_signed w64 n) ≡ true
-signed_is n lt = ap is_int64 (sel_cond n (ltb n (2 ^ 63)) refl) ∙ signed_by (ltb n (2 ^ 63)) n (ltb-true n (2 ^ 63)) (ltb-false n (2 ^ 63)) lt
-
--- the bits of a number are below the limit
-twos_complement-below : (z : ℤ) → is_int64 z ≡ true → twos_complement z < 2 ^ 64
-twos_complement-below (pos n) h = let lt = ltb-true n (2 ^ 63) h in omega (arith, lt)
-twos_complement-below (negsuc n) h = omega arith
-
--- and are read as it
-twos_complement-again : (z : ℤ) → is_int64 z ≡ true → cast_signed w64 (twos_complement z) ≡ z
-twos_complement-again (pos n) h = sel_cond n true h
-twos_complement-again (negsuc n) h =
-    let lt : n < 2 ^ 63 = ltb-true n (2 ^ 63) h in
-    let back : 2 ^ 64 - suc ((2 ^ 64 - 1) - n) ≡ n = omega (arith, lt) in
-    sel_cond ((2 ^ 64 - 1) - n) false (le-ltb _ _ (omega (arith, lt))) ∙ ap negsuc back
 
 -- ---- lists of values
 
@@ -198,6 +159,19 @@ lists_behind : (k : ℕ) → IsBehind 4 k (lists_at k)
 unfolding lists_at
 lists_behind zero bytes x fits e = absurd cc
 lists_behind (suc k) bytes x fits e = list_behind k (first_at (lists_at k)) (first_takes k (lists_at k) (lists_behind k)) bytes x fits e
+
+-- values of a list, by themselves and together
+pub kept_values : (ds : List Datum) → AllByRecursion IsKeptValue ds → AreKeptValues (data_of ds)
+kept_values [] all = tt
+kept_values (d ∷ ds) all = (all.0, kept_values ds all.1)
+
+-- a list by its items, behind the byte of its kind
+pub list_content : (ds : List Datum) → counted_spelled value_spelled ds ≡ to_be_bytes w64 (length (items_of (data_of ds))) ++ values_spelled (data_of ds)
+list_content ds = rw (values_spelled-items (data_of ds), items_of-data_of ds) refl
+
+-- a list of kept values
+pub list_kept : (ds : List Datum) → length ds < 2 ^ 64 → AllByRecursion IsKeptValue ds → IsKeptValue (list (data_of ds))
+list_kept ds few all = (rw items_of-data_of few, kept_values ds all)
 
 -- a value that is read was spelled
 pub value_takes : (k : ℕ) → IsSpelled value_spelled (IsKeptTo k) (value_at k)

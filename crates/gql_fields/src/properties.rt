@@ -15,10 +15,11 @@ pub fn properties_of(alloc: Global, bytes: &[u8]) -> Result<(Properties, &[u8]),
 {
     let (count, rest) = u64_at(bytes)?;
     let (pairs, rest) = pairs_of(alloc, count, rest)?;
-    if !names_ascend(pairs.as_slice()) {
-        return Err(Misread::NoForm);
+    if names_ascend(pairs.as_slice()) {
+        Ok((Properties::from_vec(pairs.into_vec()), rest))
+    } else {
+        Err(Misread::NoForm)
     }
-    Ok((Properties::from_vec(pairs.into_vec()), rest))
 }
 
 // It ends at the first property that is missing, so that a count which is too high costs nothing.

@@ -1,6 +1,5 @@
 ghost use Rattle.std.specs.Prelude.{◌≡◌, ◌++◌, IsTrue, OnOk};
 ghost use Rattle.std.specs.List.{flat_map, AllByRecursion};
-ghost use Rattle.gql_values3.specs.Meaning.{datum_of};
 ghost use Rattle.gql_values3.specs.PropertyGraph.{are_properties};
 ghost use Rattle.gql_fields.specs.Spelling.{property_spelled, properties_spelled};
 ghost use Rattle.gql_fields.specs.Kept.{IsKeptProperty, AreKeptProperties};
@@ -25,15 +24,15 @@ fn put_pairs(out: &mut Bytes, pairs: &[(Text, Value)]) -> Result<(), OutOfMemory
     ensures kept { OnOk result (AllByRecursion (λ p. IsKeptProperty (pair_of p)) pairs.now) }
 {
     for i in 0..pairs.len() {
-        put_property(out, pairs[i].0.as_str(), &pairs[i].1)?;
+        put_property(out, &pairs[i])?;
     }
     Ok(())
 }
 
-fn put_property(out: &mut Bytes, name: &str, value: &Value) -> Result<(), OutOfMemory>
-    ensures written { OnOk result (out.new ≡ out.old ++ property_spelled (name.now, datum_of value.now)) }
-    ensures kept { OnOk result (IsKeptProperty (name.now, datum_of value.now)) }
+fn put_property(out: &mut Bytes, pair: &(Text, Value)) -> Result<(), OutOfMemory>
+    ensures written { OnOk result (out.new ≡ out.old ++ property_spelled (pair_of pair.now)) }
+    ensures kept { OnOk result (IsKeptProperty (pair_of pair.now)) }
 {
-    put_text(out, name)?;
-    put_value(out, value)
+    put_text(out, pair.0.as_str())?;
+    put_value(out, &pair.1)
 }

@@ -1,6 +1,6 @@
 -- Reading what bytes spell, from left to right: a value and the bytes after it, or nothing where none is spelled.
 use Rattle.std.specs.Prelude.{◌≡◌, ℕ, zero, suc, ◌==◌, Bool, true, false, List, [], ◌∷◌, map, length, take, drop, Option, Some, None, Result, nat_lt, if◌then◌else◌}
-use Rattle.std.specs.Int.{Width, w32, w64, byte_len, from_be_bytes, cast_signed}
+use Rattle.std.specs.Int.{Width, w64, byte_len, from_be_bytes, cast_signed}
 use Rattle.std.specs.Str.{is_utf8}
 use Rattle.gql_values3.specs.Datum.{Datum, null, boolean, integer, text, list, is_null, data_of}
 use Rattle.gql_values3.specs.Meaning.{datum_of}

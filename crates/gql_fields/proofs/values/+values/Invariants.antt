@@ -1,4 +1,4 @@
-use Rattle.std.proofs.Common.{◌≡◌, ◌-◌, ◌+◌, ◌*◌, map}
+use Rattle.std.proofs.Common.{◌≡◌, ◌-◌, ◌+◌, ◌*◌}
 use Rattle.gql_fields.specs.Machinery.Reading.{items_at, value_at}
 use Rattle.gql_fields.proofs.LoopLemmas.{with_front}
 use Rattle.gql_fields.proofs.values.+values.Given as goal
