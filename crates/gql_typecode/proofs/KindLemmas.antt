@@ -41,6 +41,9 @@ scalar_told_is n s e =
 scalar_takes : (bytes : List ℕ) (byte : ℕ × List ℕ) (s : Scalar) → Takes bytes (byte.0 ∷ []) byte.1 → scalar_told byte.0 ≡ Some s → Takes bytes (scalar_spelled s ∷ []) byte.1
 scalar_takes bytes byte s first e = subst (λ (n : ℕ). Takes bytes (n ∷ []) byte.1) (scalar_told_is byte.0 s e) first
 
+behind_four : (bytes text rest : List ℕ) → Takes bytes text rest → Takes (4 ∷ bytes) (4 ∷ text) rest
+behind_four bytes text rest taken = record { parts = ap (λ (t : List ℕ). 4 ∷ t) taken.parts; rest_fits = taken.rest_fits }
+
 -- behind the byte that tells of a list
 items_kind_takes : (bytes : List ℕ) (x : PropKind × List ℕ) → IsBytes bytes → items_kind_at bytes ≡ Some x → Takes (4 ∷ bytes) (kind_spelled x.0) x.1
 unfolding items_kind_at
@@ -51,7 +54,7 @@ items_kind_takes bytes x fits e =
     let first = scalar_takes bytes a.0 b.0 (byte_takes bytes a.0 fits a.1) b.1 in
     let second = flag_takes a.0.1 d.0 first.rest_fits d.1 in
     let both = Takes-then bytes (scalar_spelled b.0 ∷ []) a.0.1 (flag_spelled d.0.0 ∷ []) d.0.1 first second in
-    let whole : Takes (4 ∷ bytes) (kind_spelled (kind.Many b.0 d.0.0)) d.0.1 = record { parts = ap (λ (t : List ℕ). 4 ∷ t) both.parts; rest_fits = both.rest_fits } in
+    let whole : Takes (4 ∷ bytes) (kind_spelled (kind.Many b.0 d.0.0)) d.0.1 = behind_four bytes (scalar_spelled b.0 ∷ flag_spelled d.0.0 ∷ []) d.0.1 both in
     let found : PropKind × List ℕ = (kind.Many b.0 d.0.0, d.0.1) in
     subst (λ (y : PropKind × List ℕ). Takes (4 ∷ bytes) (kind_spelled y.0) y.1) (some_is found x d.2) whole
 
