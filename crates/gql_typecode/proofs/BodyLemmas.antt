@@ -12,7 +12,7 @@ use Rattle.gql_fields.proofs.ValueLemmas.{flag_takes, flag_again}
 use Rattle.gql_typecode.specs.TypeSpelling.{kind_spelled, property_type_spelled, body_spelled}
 use Rattle.gql_typecode.specs.KeptTypes.{IsKeptPropType, IsKeptBody}
 use Rattle.gql_typecode.specs.Machinery.TypeReading.{kind_at, property_type_at, body_at}
-use Rattle.gql_typecode.proofs.KindLemmas.{kind_takes, kind_again}
+use Rattle.gql_typecode.proofs.KindLemmas.{found_is, kind_takes, kind_again}
 
 abbrev property : List ℕ → PropKind → Bool → PropType
 property name kind required = record { name = name; kind = kind; required = required }
@@ -29,8 +29,7 @@ property_type_takes bytes x fits e =
     let required = flag_takes b.0.1 d.0 kind.rest_fits d.1 in
     let two = Takes-then bytes (spelled a.0.0) a.0.1 (kind_spelled b.0.0) b.0.1 name.0 kind in
     let whole = Takes-then bytes (spelled a.0.0 ++ kind_spelled b.0.0) b.0.1 (flag_spelled d.0.0 ∷ []) d.0.1 two required in
-    let found : PropType × List ℕ = (property a.0.0 b.0.0 d.0.0, d.0.1) in
-    subst (λ (y : PropType × List ℕ). Takes bytes (property_type_spelled y.0) y.1 × IsKeptPropType y.0) (some_is found x d.2) (whole, name.1)
+    found_is (λ (y : PropType × List ℕ). Takes bytes (property_type_spelled y.0) y.1 × IsKeptPropType y.0) (property a.0.0 b.0.0 d.0.0) d.0.1 x d.2 (whole, name.1)
 
 -- one that was spelled is read
 pub property_type_again : IsReadAgain property_type_spelled IsKeptPropType property_type_at
