@@ -8,7 +8,7 @@ use Rattle.gql_values3.specs.Texts.{texts_ascend}
 
 -- a text that a program can hold
 abbrev pub IsText : List ℕ → Type 0
-IsText text = IsUtf8 text × (length text < 2 ^ 64)
+IsText bytes = IsUtf8 bytes × (length bytes < 2 ^ 64)
 
 -- the texts in a value, and how many items its lists have
 abbrev mutual

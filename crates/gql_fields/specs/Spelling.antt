@@ -6,7 +6,7 @@ use Rattle.gql_values3.specs.Datum.{Datum, Data, null, boolean, integer, text, l
 
 -- a text: eight bytes of its length, and its bytes
 abbrev pub spelled : List ℕ → List ℕ
-spelled text = to_be_bytes w64 (length text) ++ text
+spelled bytes = to_be_bytes w64 (length bytes) ++ bytes
 
 -- a set of labels: eight bytes of how many, and each as a text
 abbrev pub labels_spelled : List (List ℕ) → List ℕ

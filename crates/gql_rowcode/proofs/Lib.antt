@@ -1,7 +1,4 @@
-pub mod Utf8Lemmas
 pub mod SubjectLemmas
-pub mod LoopLemmas
-pub mod FieldLemmas
 pub mod FormLemmas
 pub mod StepLemmas
 pub mod OrderLemmas

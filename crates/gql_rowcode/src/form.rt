@@ -3,9 +3,9 @@ ghost use Rattle.gql_rowcode.specs.Records.{IsForm, record_of};
 ghost use Rattle.gql_rowcode.specs.Machinery.Said.{form_of};
 ghost use Rattle.gql_rowcode.specs.Machinery.Reading.{GivesFree, Gives, form_at, said_at, version_at, home_graph_at, home_node_at};
 
-use crate::bytes::{u32_at, u64_at};
-use crate::labels::labels_of;
-use crate::misread::Misread;
+use gql_fields::{u32_at, u64_at};
+use gql_fields::labels_of;
+use gql_fields::Misread;
 use crate::subject::{Subject, subject_of};
 use gql_ports::Record;
 use gql_values3::Names;

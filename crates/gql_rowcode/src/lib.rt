@@ -5,11 +5,8 @@
 //! record. It stands on gql_graph, gql_ports and gql_values3.
 #![tactic(auto)]
 
-mod bytes;
 mod fault;
 mod form;
-mod labels;
-mod misread;
 mod reading;
 mod seen;
 mod subject;

@@ -7,7 +7,7 @@ ghost use Rattle.gql_rowcode.specs.Machinery.Walk.{walk, Walks, SpelledAsFar, ca
 ghost use Rattle.gql_rowcode.specs.declared.seen.Seen.TheVariants.{Nothing};
 
 use crate::fault::ReadFault;
-use crate::misread::Misread;
+use gql_fields::Misread;
 use crate::seen::{Seen, after_record};
 use gql_graph::{Catalog, Graph, NodeRecords};
 use gql_ports::Record;

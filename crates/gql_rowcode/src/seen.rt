@@ -1,10 +1,10 @@
 ghost use Rattle.std.specs.Prelude.{◌≡◌, [], ◌∷◌, ◌++◌, IfOk, OnOk};
 ghost use Rattle.gql_rowcode.specs.Machinery.Said.{form_of};
-ghost use Rattle.gql_rowcode.specs.Machinery.Reading.{GivesFree, Gives};
+ghost use Rattle.gql_fields.specs.Machinery.Reading.{GivesFree, Gives};
 ghost use Rattle.gql_rowcode.specs.Machinery.Walk.{IsSpelled, record_after, seen_after, graph_after, node};
 
 use crate::form::{Form, read_form};
-use crate::misread::Misread;
+use gql_fields::Misread;
 use gql_graph::NodeRecords;
 use gql_ports::Record;
 use gql_values3::{Names, NodeId, NodeRecord, OutOfMemory, Properties, Sequence};

@@ -1,8 +1,8 @@
 ghost use Rattle.std.specs.Prelude.{◌≡◌};
 ghost use Rattle.gql_rowcode.specs.Machinery.Reading.{GivesFree, subject_at, home_node_key_at};
 
-use crate::bytes::u32_at;
-use crate::misread::Misread;
+use gql_fields::u32_at;
+use gql_fields::Misread;
 
 /// What a record is about, as its key says.
 #[derive(Clone, Copy, Debug, PartialEq, Eq)]

@@ -6,62 +6,9 @@ use Rattle.gql_values3.specs.Texts.{same_text, texts_ascend}
 use Rattle.gql_values3.specs.UpToMemory.{FindsBy}
 use Rattle.gql_ports.specs.declared.stored.Record.{Record}
 use Rattle.gql_rowcode.specs.Records.{Form, version, home_graph, home_node, home, spelled}
-use Rattle.gql_rowcode.specs.declared.misread.Misread.{Misread}
-use Rattle.gql_rowcode.specs.declared.misread.Misread.TheVariants as misreads
+use Rattle.gql_fields.specs.Machinery.Reading.{◌>>=◌, number_at, labels_at}
 use Rattle.gql_rowcode.specs.declared.subject.Subject.{Subject}
 use Rattle.gql_rowcode.specs.declared.subject.Subject.TheVariants.{Version, HomeGraph, HomeNode}
-
--- one step after another, as long as something is read
-infixl 10 ◌>>=◌
-abbrev pub ◌>>=◌ : {A B : Type 0} → Option A → (A → Option B) → Option B
-None >>= f = None
-(Some x) >>= f = f x
-
--- nothing is read, or there was no memory
-abbrev pub Fails : {Y : Type 0} → Misread → Option Y → Type 0
-Fails misreads.OutOfMemory read = Unit {0}
-Fails misreads.NoForm read = read ≡ None
-
--- what a function returned, seen by view, is what is read, unless there was no memory
-abbrev pub Gives : {X Y : Type 0} → (X → Y) → Result X Misread → Option Y → Type 0
-Gives view = FindsBy Fails view
-
--- nothing is read
-abbrev pub FailsFree : {Y : Type 0} → Misread → Option Y → Type 0
-FailsFree e read = (e ≡ misreads.NoForm) × (read ≡ None)
-
--- the same of a function that takes no memory
-abbrev pub GivesFree : {X Y : Type 0} → (X → Y) → Result X Misread → Option Y → Type 0
-GivesFree view = FindsBy FailsFree view
-
--- a number of so many bytes
-abbrev pub number_at : Width → List ℕ → Option (ℕ × List ℕ)
-number_at w bytes = if nat_lt (length bytes) (byte_len w) then None else Some (from_be_bytes w (take (byte_len w) bytes), drop (byte_len w) bytes)
-
--- all of the bytes, where they are UTF-8
-unfoldable pub utf8_at : List ℕ → Option (List ℕ)
-utf8_at bytes = if is_utf8 bytes then Some bytes else None
-
--- a text behind its length
-unfoldable pub text_at : List ℕ → Option (List ℕ × List ℕ)
-text_at bytes = do
-  n ← number_at w64 bytes
-  if nat_lt (length n.1) n.0 then None else (utf8_at (take n.0 n.1) >>= λ text. Some (text, drop n.0 n.1))
-
--- so many texts
-unfoldable pub texts_at : ℕ → List ℕ → Option (List (List ℕ) × List ℕ)
-texts_at zero bytes = Some ([], bytes)
-texts_at (suc n) bytes = do
-  first ← text_at bytes
-  others ← texts_at n first.1
-  Some (first.0 ∷ others.0, others.1)
-
--- a set of labels behind their count
-unfoldable pub labels_at : List ℕ → Option (List (List ℕ) × List ℕ)
-labels_at bytes = do
-  n ← number_at w64 bytes
-  labels ← texts_at n.0 n.1
-  if texts_ascend labels.0 then Some labels else None
 
 -- a key that begins as a node's of the graph home
 unfoldable pub home_node_key_at : List ℕ → Option Subject

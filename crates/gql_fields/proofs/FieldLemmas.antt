@@ -1,15 +1,13 @@
 -- A field that is read is the field that was spelled, and what was spelled is read again.
-use Rattle.std.proofs.Common.{◌≡◌, ℕ, zero, suc, ◌+◌, ◌^◌, ◌<◌, ◌≤◌, Bool, true, false, cond, ltb, List, [], ◌∷◌, ◌++◌, length, get_or, take, drop, Option, Some, None, refl, sym, ap, subst, ◌∙◌, append_assoc, arith, inl, inr}
+use Rattle.std.proofs.Common.{◌≡◌, ℕ, ◌+◌, ◌^◌, ◌<◌, ◌≤◌, Bool, true, false, cond, ltb, List, [], ◌∷◌, ◌++◌, length, get_or, take, drop, Option, Some, None, refl, sym, ap, subst, ◌∙◌, append_assoc, arith, inl, inr}
 use Rattle.std.specs.Int.{Width, w32, w64, byte_len, from_be_bytes, to_be_bytes}
-use Rattle.std.specs.List.{flat_map, AllByRecursion}
 use Rattle.std.proofs.lemmas.Bool.{cases_lt, ltb-false, le-ltb}
 use Rattle.std.proofs.lemmas.List.{take_at, drop_at, take-append-drop, length-append, length-take, get_or-drop, get_or-take, get_or_past}
-use Rattle.std.proofs.lemmas.List.Concat.{flat_map-cons}
 use Rattle.std.proofs.lemmas.Nat.{be_bytes_4, be_bytes_8, from_be_bytes-to_be_bytes_4, from_be_bytes-to_be_bytes_8}
-use Rattle.gql_values3.specs.Texts.{texts_ascend}
-use Rattle.gql_rowcode.specs.Records.{spelled, labels_spelled, IsText}
-use Rattle.gql_rowcode.specs.Machinery.Reading.{◌>>=◌, number_at, utf8_at, text_at, texts_at, labels_at}
-use Rattle.gql_rowcode.proofs.Utf8Lemmas.{utf8_takes, utf8_at-text}
+use Rattle.gql_fields.specs.Spelling.{spelled}
+use Rattle.gql_fields.specs.Kept.{IsText}
+use Rattle.gql_fields.specs.Machinery.Reading.{◌>>=◌, number_at, utf8_at, text_at}
+use Rattle.gql_fields.proofs.Utf8Lemmas.{utf8_takes, utf8_at-text}
 
 -- each element is a byte
 abbrev pub IsBytes : List ℕ → Type 0
@@ -47,7 +45,7 @@ pub guard_then : {A : Type 0} (b : Bool) (x : Option A) (y : A) → cond b None 
 guard_then true x y e = absurd cc
 guard_then false x y e = (refl, e)
 
-abbrev done : {A : Type 0} → A → Option A
+abbrev pub done : {A : Type 0} → A → Option A
 done x = Some x
 
 -- what is read is one value
@@ -135,47 +133,3 @@ text_again text rest fits =
     let long : ltb (length (text ++ rest)) (length text) ≡ false = le-ltb _ _ (omega (arith, length-append text rest)) in
     let regrouped : spelled text ++ rest ≡ to_be_bytes w64 (length text) ++ (text ++ rest) = append_assoc (to_be_bytes w64 (length text)) text rest in
     ap text_at regrouped ∙ rw (number_again w64 (2 ^ 64) wide64 (length text) (text ++ rest) fits.1, long, take_at text rest (length text) refl, drop_at text rest (length text) refl, utf8_at-text text fits.0) refl
-
--- ---- labels
-
--- texts that are read were spelled
-pub texts_take : (n : ℕ) (bytes : List ℕ) (x : List (List ℕ) × List ℕ) → IsBytes bytes → texts_at n bytes ≡ Some x → Takes bytes (flat_map spelled x.0) x.1 × (length x.0 ≡ n) × AllByRecursion IsText x.0
-unfolding texts_at
-texts_take zero bytes x fits e =
-    subst (λ (y : List (List ℕ) × List ℕ). Takes bytes (flat_map spelled y.0) y.1 × (length y.0 ≡ 0) × AllByRecursion IsText y.0) (some_is ([], bytes) x e) (record { parts = refl; rest_fits = fits }, refl, tt)
-texts_take (suc n) bytes x fits e =
-    let a = bind_some (text_at bytes) (λ first. texts_at n first.1 >>= λ others. Some (first.0 ∷ others.0, others.1)) x e in
-    let b = bind_some (texts_at n a.0.1) (λ others. Some (a.0.0 ∷ others.0, others.1)) x a.2 in
-    let first = text_takes bytes a.0 fits a.1 in
-    let second = texts_take n a.0.1 b.0 first.0.rest_fits b.1 in
-    let both = Takes-then bytes (spelled a.0.0) a.0.1 (flat_map spelled b.0.0) b.0.1 first.0 second.0 in
-    let made : List (List ℕ) × List ℕ = (a.0.0 ∷ b.0.0, b.0.1) in
-    subst (λ (y : List (List ℕ) × List ℕ). Takes bytes (flat_map spelled y.0) y.1 × (length y.0 ≡ suc n) × AllByRecursion IsText y.0) (some_is made x b.2) (rw flat_map-cons both, ap suc second.1, (first.1, second.2))
-
--- texts that were spelled are read
-pub texts_again : (texts : List (List ℕ)) (rest : List ℕ) → AllByRecursion IsText texts → texts_at (length texts) (flat_map spelled texts ++ rest) ≡ Some (texts, rest)
-unfolding texts_at
-texts_again [] rest fits = refl
-texts_again (t ∷ ts) rest fits =
-    let regrouped : flat_map spelled (t ∷ ts) ++ rest ≡ spelled t ++ (flat_map spelled ts ++ rest) = ap (λ (x : List ℕ). x ++ rest) (flat_map-cons spelled t ts) ∙ append_assoc (spelled t) (flat_map spelled ts) rest in
-    ap (texts_at (suc (length ts))) regrouped ∙ rw (text_again t (flat_map spelled ts ++ rest) fits.0, texts_again ts rest fits.1) refl
-
--- labels that are read were spelled
-pub labels_take : (bytes : List ℕ) (x : List (List ℕ) × List ℕ) → IsBytes bytes → labels_at bytes ≡ Some x → Takes bytes (labels_spelled x.0) x.1 × (length x.0 < 2 ^ 64) × (texts_ascend x.0 ≡ true) × AllByRecursion IsText x.0
-unfolding labels_at
-labels_take bytes x fits e =
-    let a = bind_some (number_at w64 bytes) (λ n. texts_at n.0 n.1 >>= λ labels. cond (texts_ascend labels.0) (Some labels) None) x e in
-    let b = bind_some (texts_at a.0.0 a.0.1) (λ labels. cond (texts_ascend labels.0) (Some labels) None) x a.2 in
-    let g = when_some (texts_ascend b.0.0) b.0 x b.2 in
-    let first = number_takes w64 (2 ^ 64) wide64 bytes a.0.0 a.0.1 fits a.1 in
-    let second = texts_take a.0.0 a.0.1 b.0 first.0.rest_fits b.1 in
-    let both = Takes-then bytes (to_be_bytes w64 a.0.0) a.0.1 (flat_map spelled b.0.0) b.0.1 first.0 second.0 in
-    let whole : Takes bytes (labels_spelled b.0.0) b.0.1 = subst (λ (k : ℕ). Takes bytes (to_be_bytes w64 k ++ flat_map spelled b.0.0) b.0.1) (sym second.1) both in
-    subst (λ (y : List (List ℕ) × List ℕ). Takes bytes (labels_spelled y.0) y.1 × (length y.0 < 2 ^ 64) × (texts_ascend y.0 ≡ true) × AllByRecursion IsText y.0) g.1 (whole, omega (arith, second.1, first.1), g.0, second.2)
-
--- labels that were spelled are read
-pub labels_again : (labels : List (List ℕ)) (rest : List ℕ) → length labels < 2 ^ 64 → texts_ascend labels ≡ true → AllByRecursion IsText labels → labels_at (labels_spelled labels ++ rest) ≡ Some (labels, rest)
-unfolding labels_at
-labels_again labels rest few ascend fits =
-    let regrouped : labels_spelled labels ++ rest ≡ to_be_bytes w64 (length labels) ++ (flat_map spelled labels ++ rest) = append_assoc (to_be_bytes w64 (length labels)) (flat_map spelled labels) rest in
-    ap labels_at regrouped ∙ rw (number_again w64 (2 ^ 64) wide64 (length labels) (flat_map spelled labels ++ rest) few, texts_again labels rest fits, ascend) refl

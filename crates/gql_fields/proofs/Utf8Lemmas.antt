@@ -2,7 +2,7 @@
 use Rattle.std.proofs.Common.{◌≡◌, ℕ, Bool, true, false, List, Some, None, refl, cond}
 use Rattle.std.specs.Str.{IsUtf8, is_utf8}
 use Rattle.std.proofs.lemmas.Str.{IsUtf8-from_is_utf8, is_utf8-from_IsUtf8}
-use Rattle.gql_rowcode.specs.Machinery.Reading.{utf8_at}
+use Rattle.gql_fields.specs.Machinery.Reading.{utf8_at}
 
 -- a text is read as itself
 pub utf8_at-text : (bytes : List ℕ) → IsUtf8 bytes → utf8_at bytes ≡ Some bytes

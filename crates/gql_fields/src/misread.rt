@@ -9,7 +9,7 @@ pub enum Misread {
 
 impl From<OutOfMemory> for Misread {
     ghost use Rattle.std.specs.Prelude.{◌≡◌};
-    ghost use Rattle.gql_rowcode.specs.declared.misread.Misread.TheVariants.{OutOfMemory as NoMemory};
+    ghost use Rattle.gql_fields.specs.declared.misread.Misread.TheVariants.{OutOfMemory as NoMemory};
 
     ghost from_gives = { λ _ e. e ≡ NoMemory };
 

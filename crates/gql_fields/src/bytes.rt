@@ -1,6 +1,6 @@
 ghost use Rattle.std.specs.Prelude.{◌≡◌, List, length, Some, None};
 ghost use Rattle.std.specs.Int.{w32, w64};
-ghost use Rattle.gql_rowcode.specs.Machinery.Reading.{GivesFree, Gives, number_at, text_at, utf8_at};
+ghost use Rattle.gql_fields.specs.Machinery.Reading.{GivesFree, Gives, number_at, text_at, utf8_at};
 
 use crate::misread::Misread;
 use gql_values3::Text;
@@ -33,10 +33,10 @@ pub fn u64_at(bytes: &[u8]) -> Result<(u64, &[u8]), Misread>
     Ok((number, rest))
 }
 
-/// The text at the front, behind its length, and the bytes after it.
+/// The text at the front, behind its length, where it lies, and the bytes after it.
 #[tactic(auto, unfolding(crate::specs::Machinery::Reading::text_at))]
-pub fn text_of(alloc: Global, bytes: &[u8]) -> Result<(Text, &[u8]), Misread>
-    ensures { Gives (λ x. (x.0, x.1.now)) result (text_at bytes.now) }
+pub fn str_at(bytes: &[u8]) -> Result<(&str, &[u8]), Misread>
+    ensures { GivesFree (λ x. (x.0.now, x.1.now)) result (text_at bytes.now) }
 {
     let (len, rest) = u64_at(bytes)?;
     let len = len as usize;
@@ -45,7 +45,7 @@ pub fn text_of(alloc: Global, bytes: &[u8]) -> Result<(Text, &[u8]), Misread>
     }
     let (front, rest) = rest.split_at(len);
     let text = utf8_of(front)?;
-    Ok((Text::from_str(alloc, text)?, rest))
+    Ok((text, rest))
 }
 
 fn utf8_of(bytes: &[u8]) -> Result<&str, Misread>
@@ -55,4 +55,12 @@ fn utf8_of(bytes: &[u8]) -> Result<&str, Misread>
         Ok(text) => Ok(text),
         Err(_) => Err(Misread::NoForm),
     }
+}
+
+/// The text at the front, behind its length, and the bytes after it.
+pub fn text_of(alloc: Global, bytes: &[u8]) -> Result<(Text, &[u8]), Misread>
+    ensures { Gives (λ x. (x.0, x.1.now)) result (text_at bytes.now) }
+{
+    let (text, rest) = str_at(bytes)?;
+    Ok((Text::from_str(alloc, text)?, rest))
 }

@@ -1,6 +1,6 @@
 ghost use Rattle.std.specs.Prelude.{◌≡◌, List};
 ghost use Rattle.gql_values3.specs.Texts.{texts_ascend};
-ghost use Rattle.gql_rowcode.specs.Machinery.Reading.{Gives, texts_at, labels_at};
+ghost use Rattle.gql_fields.specs.Machinery.Reading.{Gives, items_at, text_at, labels_at};
 
 use crate::bytes::{text_of, u64_at};
 use crate::misread::Misread;
@@ -22,7 +22,7 @@ pub fn labels_of(alloc: Global, bytes: &[u8]) -> Result<(Names, &[u8]), Misread>
 
 // It ends at the first text that is missing, so that a count which is too high costs nothing.
 fn texts_of(alloc: Global, count: u64, bytes: &[u8]) -> Result<(Names, &[u8]), Misread>
-    ensures { Gives (λ x. (x.0, x.1.now)) result (texts_at count bytes.now) }
+    ensures { Gives (λ x. (x.0, x.1.now)) result (items_at text_at count bytes.now) }
 {
     let mut texts = Sequence::new(alloc);
     let mut rest = bytes;

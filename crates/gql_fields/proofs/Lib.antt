@@ -1,0 +1,5 @@
+pub mod Utf8Lemmas
+pub mod FieldLemmas
+pub mod ItemLemmas
+pub mod LabelLemmas
+pub mod LoopLemmas
