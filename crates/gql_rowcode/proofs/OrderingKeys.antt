@@ -19,6 +19,7 @@ use Rattle.gql_graph.specs.declared.graph_type.GraphType.{GraphType}
 use Rattle.gql_fields.specs.Spelling.{spelled}
 use Rattle.gql_rowcode.specs.Records.{Form, version, graph_type, graph, node, edge, key_of}
 use Rattle.gql_rowcode.specs.StandFor.{graph_forms, catalog_forms}
+use Rattle.gql_rowcode.specs.Machinery.Writing.{text_cmp}
 use Rattle.gql_rowcode.proofs.OrderingLists.{all_always, all_weaker, all_append, all_map, all_flat_map, Across, Pairs, pairs_append, pairs_weaker, pairs_map, pairs_of_map, pairs_flat_map}
 
 -- ---- parts of keys
@@ -42,10 +43,6 @@ pub number_behind : (a : List ℕ) (n m : ℕ) → n < 2 ^ 32 → m < 2 ^ 32 →
 number_behind a n m p q e = number_same n m p q (append_cancel_left (spelled a) (to_be_bytes w32 n) (to_be_bytes w32 m) e)
 
 -- ---- names in order differ
-
--- the order of texts by bytes
-abbrev pub text_cmp : List ℕ → List ℕ → Ordering
-text_cmp a b = slice_cmp nat_cmp a b
 
 pub less_if : (o : Ordering) → is_lt o ≡ true → o ≡ Less
 less_if Less p = refl

@@ -13,12 +13,8 @@ use Rattle.gql_values3.specs.Texts.{ascend_above, texts_ascend}
 use Rattle.gql_ports.specs.Held.{keys_ascend}
 use Rattle.gql_ports.specs.declared.stored.Record.{Record}
 use Rattle.gql_eval.specs.StableSort.{inserted_in_order, stably_sorted}
+use Rattle.gql_rowcode.specs.Machinery.Writing.{text_cmp, key_before}
 use Rattle.gql_rowcode.proofs.OrderingLists.{Pairs}
-use Rattle.gql_rowcode.proofs.OrderingKeys.{text_cmp}
-
--- the order of records by key
-abbrev pub key_before : Record → Record → Bool
-key_before a b = is_lt (text_cmp a.key b.key)
 
 pub by_key : IsStrictWeakOrder key_before
 by_key = ranks_by nat_list_cmp_total (λ (r : Record). r.key)
