@@ -4,7 +4,7 @@ use Rattle.std.specs.Prelude.{ℕ, List}
 use Rattle.gql_ast.specs.declared.statement.Statement.{Statement}
 use Rattle.gql_ast.specs.declared.statement.Statement.TheVariants as statement
 use Rattle.gql_linear.specs.OneWay.{QueryHasNoChoice}
-use Rattle.gql_session.specs.Reading.{ReadsAs, read}
+use Rattle.gql_machine.specs.Reading.{ReadsAs, read}
 
 -- no selector of a MATCH leaves a choice
 abbrev pub StatementHasNoChoice : Statement → Type 0

@@ -1,0 +1,10 @@
+pub mod SessionRun
+pub mod StatementRun
+pub mod StateRefusals
+pub mod SessionState
+pub mod Reading
+pub mod Outcomes
+pub mod Causes
+pub mod Choices
+pub mod TypedGraphs
+pub mod Machinery
