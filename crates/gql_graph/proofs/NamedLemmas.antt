@@ -10,7 +10,7 @@ use Rattle.std.specs.Cmp.Lexicographic.{slice_cmp, texts_ties}
 use Rattle.std.proofs.lemmas.Bool.{and_from, and_parts}
 use Rattle.std.proofs.lemmas.Cmp.{nat_list_cmp_total}
 use Rattle.gql_values3.specs.Texts.{same_text, ascend_above, texts_ascend}
-use Rattle.gql_graph.specs.Catalog.{named, is_below, put_named, without_named}
+use Rattle.gql_graph.specs.Catalog.{named, is_before, put_named, without_named}
 use Rattle.gql_graph.proofs.CatalogLemmas.{names}
 
 -- the place of a search
@@ -29,10 +29,10 @@ module _ {X : Type 0} (name : List ℕ) (x : X) where
   put_case false i y ys zs h = let next : 1 + i ≡ suc i = omega arith in rw next (ap (λ ws. y ∷ ws) h)
 
   -- it is put before the first greater name
-  pub put_there : (ys : List (List ℕ × X)) → insert ys (position_or_len (λ (y : List ℕ × X). is_below name y.0) ys) (name, x) ≡ put_named name x ys
+  pub put_there : (ys : List (List ℕ × X)) → insert ys (position_or_len (λ (y : List ℕ × X). is_before name y.0) ys) (name, x) ≡ put_named name x ys
   put_there [] = refl
   put_there (y ∷ ys) =
-      put_case (is_below name y.0) (position_or_len (λ (z : List ℕ × X). is_below name z.0) ys) y ys (put_named name x ys) (put_there ys)
+      put_case (is_before name y.0) (position_or_len (λ (z : List ℕ × X). is_before name z.0) ys) y ys (put_named name x ys) (put_there ys)
 
 -- each item seen otherwise, under its name
 module _ {X Y : Type 0} (f : X → Y) where
@@ -57,7 +57,7 @@ module _ {X Y : Type 0} (f : X → Y) where
   pub put_under : (name : List ℕ) (x : X) (ys : List (List ℕ × X)) → map under (put_named name x ys) ≡ put_named name (f x) (map under ys)
   put_under name x [] = refl
   put_under name x (y ∷ ys) =
-      either_list (is_below name y.0) ((name, x) ∷ y ∷ ys) (y ∷ put_named name x ys) ((name, f x) ∷ under y ∷ map under ys) (under y ∷ put_named name (f x) (map under ys))
+      either_list (is_before name y.0) ((name, x) ∷ y ∷ ys) (y ∷ put_named name x ys) ((name, f x) ∷ under y ∷ map under ys) (under y ∷ put_named name (f x) (map under ys))
       refl (ap (λ zs. under y ∷ zs) (put_under name x ys))
 
   pub without_under : (name : List ℕ) (ys : List (List ℕ × X)) → map under (without_named name ys) ≡ without_named name (map under ys)
@@ -75,21 +75,21 @@ less_if Equal p = absurd (cc)
 less_if Greater p = absurd (cc)
 
 -- of two names that differ, one is below the other
-other_way : (o : Ordering) (a b : List ℕ) → order a b ≡ o → is_lt o ≡ false → same_text a b ≡ false → is_below b a ≡ true
+other_way : (o : Ordering) (a b : List ℕ) → order a b ≡ o → is_lt o ≡ false → same_text a b ≡ false → is_before b a ≡ true
 other_way Less a b e below apart = absurd (cc)
 other_way Equal a b e below apart = let tie : same_text a b ≡ true = texts_ties a b ∙ ap is_eq e in absurd (cc)
 other_way Greater a b e below apart = ap is_lt (nat_list_cmp_total.antisymm b a ∙ ap ordering_reverse e)
 
 -- a lower bound serves too
-lower : (low k : List ℕ) (ks : List (List ℕ)) → is_below low k ≡ true → ascend_above k ks ≡ true → ascend_above low ks ≡ true
+lower : (low k : List ℕ) (ks : List (List ℕ)) → is_before low k ≡ true → ascend_above k ks ≡ true → ascend_above low ks ≡ true
 lower low k [] p h = refl
 lower low k (j ∷ js) p h =
-    let parts = and_parts (is_below k j) (ascend_above j js) h in
-    and_from (is_below low j) (ascend_above j js) (ap is_lt (nat_list_cmp_total.trans low k j (less_if (order low k) p) (less_if (order k j) parts.0))) parts.1
+    let parts = and_parts (is_before k j) (ascend_above j js) h in
+    and_from (is_before low j) (ascend_above j js) (ap is_lt (nat_list_cmp_total.trans low k j (less_if (order low k) p) (less_if (order k j) parts.0))) parts.1
 
 above_ascends : (low : List ℕ) (ks : List (List ℕ)) → ascend_above low ks ≡ true → texts_ascend ks ≡ true
 above_ascends low [] h = refl
-above_ascends low (k ∷ ks) h = (and_parts (is_below low k) (ascend_above k ks) h).1
+above_ascends low (k ∷ ks) h = (and_parts (is_before low k) (ascend_above k ks) h).1
 
 -- under a name that nothing has
 module _ {X : Type 0} (name : List ℕ) where
@@ -102,32 +102,32 @@ module _ {X : Type 0} (name : List ℕ) where
   none_parts y ys e = none_case (same_text name y.0) y (find (λ (z : List ℕ × X). same_text name z.0) ys) e
 
   module _ (x : X) where
-    above_case : (b : Bool) (low : List ℕ) (y : List ℕ × X) (ys : List (List ℕ × X)) → is_below name y.0 ≡ b → is_below low name ≡ true → same_text name y.0 ≡ false
-        → ascend_above low (names (y ∷ ys)) ≡ true → (is_below y.0 name ≡ true → ascend_above y.0 (names ys) ≡ true → ascend_above y.0 (names (put_named name x ys)) ≡ true)
+    above_case : (b : Bool) (low : List ℕ) (y : List ℕ × X) (ys : List (List ℕ × X)) → is_before name y.0 ≡ b → is_before low name ≡ true → same_text name y.0 ≡ false
+        → ascend_above low (names (y ∷ ys)) ≡ true → (is_before y.0 name ≡ true → ascend_above y.0 (names ys) ≡ true → ascend_above y.0 (names (put_named name x ys)) ≡ true)
         → ascend_above low (names (cond b ((name, x) ∷ y ∷ ys) (y ∷ put_named name x ys))) ≡ true
     above_case true low y ys e p apart up more =
-        and_from (is_below low name) (is_below name y.0 && ascend_above y.0 (names ys)) p
-        (and_from (is_below name y.0) (ascend_above y.0 (names ys)) e ((and_parts (is_below low y.0) (ascend_above y.0 (names ys)) up).1))
+        and_from (is_before low name) (is_before name y.0 && ascend_above y.0 (names ys)) p
+        (and_from (is_before name y.0) (ascend_above y.0 (names ys)) e ((and_parts (is_before low y.0) (ascend_above y.0 (names ys)) up).1))
     above_case false low y ys e p apart up more =
-        let parts = and_parts (is_below low y.0) (ascend_above y.0 (names ys)) up in
-        and_from (is_below low y.0) (ascend_above y.0 (names (put_named name x ys))) parts.0 (more (other_way (order name y.0) name y.0 refl e apart) parts.1)
+        let parts = and_parts (is_before low y.0) (ascend_above y.0 (names ys)) up in
+        and_from (is_before low y.0) (ascend_above y.0 (names (put_named name x ys))) parts.0 (more (other_way (order name y.0) name y.0 refl e apart) parts.1)
 
-    put_above : (low : List ℕ) (ys : List (List ℕ × X)) → is_below low name ≡ true → named name ys ≡ None → ascend_above low (names ys) ≡ true → ascend_above low (names (put_named name x ys)) ≡ true
-    put_above low [] p none up = and_from (is_below low name) true p refl
+    put_above : (low : List ℕ) (ys : List (List ℕ × X)) → is_before low name ≡ true → named name ys ≡ None → ascend_above low (names ys) ≡ true → ascend_above low (names (put_named name x ys)) ≡ true
+    put_above low [] p none up = and_from (is_before low name) true p refl
     put_above low (y ∷ ys) p none up =
         let parts = none_parts y ys none in
-        above_case (is_below name y.0) low y ys refl p parts.0 up (λ q h. put_above y.0 ys q parts.1 h)
+        above_case (is_before name y.0) low y ys refl p parts.0 up (λ q h. put_above y.0 ys q parts.1 h)
 
-    front_case : (b : Bool) (y : List ℕ × X) (ys : List (List ℕ × X)) → is_below name y.0 ≡ b → same_text name y.0 ≡ false → ascend_above y.0 (names ys) ≡ true
-        → (is_below y.0 name ≡ true → ascend_above y.0 (names (put_named name x ys)) ≡ true) → texts_ascend (names (cond b ((name, x) ∷ y ∷ ys) (y ∷ put_named name x ys))) ≡ true
-    front_case true y ys e apart up more = and_from (is_below name y.0) (ascend_above y.0 (names ys)) e up
+    front_case : (b : Bool) (y : List ℕ × X) (ys : List (List ℕ × X)) → is_before name y.0 ≡ b → same_text name y.0 ≡ false → ascend_above y.0 (names ys) ≡ true
+        → (is_before y.0 name ≡ true → ascend_above y.0 (names (put_named name x ys)) ≡ true) → texts_ascend (names (cond b ((name, x) ∷ y ∷ ys) (y ∷ put_named name x ys))) ≡ true
+    front_case true y ys e apart up more = and_from (is_before name y.0) (ascend_above y.0 (names ys)) e up
     front_case false y ys e apart up more = more (other_way (order name y.0) name y.0 refl e apart)
 
     pub names_ascend-put : (ys : List (List ℕ × X)) → named name ys ≡ None → texts_ascend (names ys) ≡ true → texts_ascend (names (put_named name x ys)) ≡ true
     names_ascend-put [] none up = refl
     names_ascend-put (y ∷ ys) none up =
         let parts = none_parts y ys none in
-        front_case (is_below name y.0) y ys refl parts.0 up (λ q. put_above y.0 ys q parts.1 up)
+        front_case (is_before name y.0) y ys refl parts.0 up (λ q. put_above y.0 ys q parts.1 up)
 
     all_case : (q : List ℕ × X → Bool) (b : Bool) (y : List ℕ × X) (ys zs : List (List ℕ × X)) → q (name, x) ≡ true → list_all q (y ∷ ys) ≡ true → list_all q zs ≡ true
         → list_all q (cond b ((name, x) ∷ y ∷ ys) (y ∷ zs)) ≡ true
@@ -138,15 +138,15 @@ module _ {X : Type 0} (name : List ℕ) where
     pub list_all-put : (q : List ℕ × X → Bool) (ys : List (List ℕ × X)) → q (name, x) ≡ true → list_all q ys ≡ true → list_all q (put_named name x ys) ≡ true
     list_all-put q [] one all = and_from (q (name, x)) true one refl
     list_all-put q (y ∷ ys) one all =
-        all_case q (is_below name y.0) y ys (put_named name x ys) one all (list_all-put q ys one ((and_parts (q y) (list_all q ys) all).1))
+        all_case q (is_before name y.0) y ys (put_named name x ys) one all (list_all-put q ys one ((and_parts (q y) (list_all q ys) all).1))
 
   kept_case : (b : Bool) (low : List ℕ) (y : List ℕ × X) (ys zs : List (List ℕ × X)) → ascend_above low (names (y ∷ ys)) ≡ true
       → ((bound : List ℕ) → ascend_above bound (names ys) ≡ true → ascend_above bound (names zs) ≡ true) → ascend_above low (names (cond b (y ∷ zs) zs)) ≡ true
   kept_case true low y ys zs up more =
-      let parts = and_parts (is_below low y.0) (ascend_above y.0 (names ys)) up in
-      and_from (is_below low y.0) (ascend_above y.0 (names zs)) parts.0 (more y.0 parts.1)
+      let parts = and_parts (is_before low y.0) (ascend_above y.0 (names ys)) up in
+      and_from (is_before low y.0) (ascend_above y.0 (names zs)) parts.0 (more y.0 parts.1)
   kept_case false low y ys zs up more =
-      let parts = and_parts (is_below low y.0) (ascend_above y.0 (names ys)) up in
+      let parts = and_parts (is_before low y.0) (ascend_above y.0 (names ys)) up in
       more low (lower low y.0 (names ys) parts.0 parts.1)
 
   without_above : (low : List ℕ) (ys : List (List ℕ × X)) → ascend_above low (names ys) ≡ true → ascend_above low (names (without_named name ys)) ≡ true

@@ -26,13 +26,13 @@ abbrev pub named : {X : Type 0} → List ℕ → List (List ℕ × X) → Option
 named {X} name xs = option_map (λ (x : List ℕ × X). x.1) (find (λ x. same_text name x.0) xs)
 
 -- by bytes; a beginning is less
-abbrev pub is_below : List ℕ → List ℕ → Bool
-is_below a b = is_lt (slice_cmp nat_cmp a b)
+abbrev pub is_before : List ℕ → List ℕ → Bool
+is_before a b = is_lt (slice_cmp nat_cmp a b)
 
 -- among others in order, one more: before the first of a greater name
 abbrev pub put_named : {X : Type 0} → List ℕ → X → List (List ℕ × X) → List (List ℕ × X)
 put_named name x [] = (name, x) ∷ []
-put_named name x (y ∷ ys) = if is_below name y.0 then (name, x) ∷ y ∷ ys else y ∷ put_named name x ys
+put_named name x (y ∷ ys) = if is_before name y.0 then (name, x) ∷ y ∷ ys else y ∷ put_named name x ys
 
 abbrev pub without_named : {X : Type 0} → List ℕ → List (List ℕ × X) → List (List ℕ × X)
 without_named {X} name xs = filter (λ (x : List ℕ × X). not (same_text name x.0)) xs

@@ -3,7 +3,7 @@
 ghost use Rattle.std.specs.Prelude.{◌≡◌, ◌≤◌, OnOk, OnErr, length, position};
 ghost use Rattle.std.specs.Option.{option_copied};
 ghost use Rattle.std.specs.List.{position_or_len};
-ghost use Rattle.gql_graph.specs.Catalog.{named, is_below, put_named, without_named};
+ghost use Rattle.gql_graph.specs.Catalog.{named, is_before, put_named, without_named};
 
 use gql_values3::{OutOfMemory, Text};
 
@@ -40,7 +40,7 @@ pub fn take_named<T: Drop>(items: &mut Vec<(Text, T)>, name: &str)
 
 /// The place before the first greater name, or that behind all.
 fn place_for<T>(items: &[(Text, T)], name: &str) -> usize
-    ensures place { result ≡ position_or_len (λ i. is_below name.now i.0) items.now }
+    ensures place { result ≡ position_or_len (λ i. is_before name.now i.0) items.now }
     ensures within { result ≤ length items.now }
 {
     match first_greater(items, name) {
@@ -50,7 +50,7 @@ fn place_for<T>(items: &[(Text, T)], name: &str) -> usize
 }
 
 fn first_greater<T>(items: &[(Text, T)], name: &str) -> Option<usize>
-    ensures { result ≡ position (λ i. is_below name.now i.0) items.now }
+    ensures { result ≡ position (λ i. is_before name.now i.0) items.now }
 {
     items.iter().position(|item| name < item.0.as_str())
 }

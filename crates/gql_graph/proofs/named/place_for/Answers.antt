@@ -1,6 +1,6 @@
 use Rattle.std.proofs.Common.{◌∙◌, ◌≤◌, length, sym, arith}
 use Rattle.std.specs.List.{position_or_len}
-use Rattle.gql_graph.specs.Catalog.{is_below}
+use Rattle.gql_graph.specs.Catalog.{is_before}
 use Rattle.gql_graph.proofs.CatalogLemmas.{in_front, past_end}
 use Rattle.gql_graph.proofs.NamedLemmas.{within_len}
 use Rattle.gql_graph.proofs.named.place_for.Goals as goal
@@ -14,6 +14,6 @@ returns-in-Some g c =
 -- it is behind all
 pub returns-in-None : goal.returns-in-None
 returns-in-None g c =
-    let most = within_len (λ i. is_below c.args.name.now i.0) c.args.items.now in
-    let least : length c.args.items.now ≤ position_or_len (λ i. is_below c.args.name.now i.0) c.args.items.now = past_end _ _ (sym c.in-None.is ∙ c.first_greater.ensures) in
+    let most = within_len (λ i. is_before c.args.name.now i.0) c.args.items.now in
+    let least : length c.args.items.now ≤ position_or_len (λ i. is_before c.args.name.now i.0) c.args.items.now = past_end _ _ (sym c.in-None.is ∙ c.first_greater.ensures) in
     record { place = omega (arith, most, least); within = omega arith }
