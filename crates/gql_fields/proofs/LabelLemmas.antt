@@ -1,9 +1,9 @@
 -- Labels that are read were spelled, and labels that were spelled are read again.
-use Rattle.std.proofs.Common.{◌≡◌, ℕ, List, ◌++◌, Option, Some, None, refl, subst, cond}
+use Rattle.std.proofs.Common.{◌≡◌, ℕ, List, ◌++◌, Some, None, refl, subst, cond}
 use Rattle.gql_values3.specs.Texts.{texts_ascend}
 use Rattle.gql_fields.specs.Spelling.{spelled, labels_spelled}
 use Rattle.gql_fields.specs.Kept.{IsText, AreKeptLabels}
-use Rattle.gql_fields.specs.Machinery.Reading.{◌>>=◌, text_at, counted_at, labels_at}
+use Rattle.gql_fields.specs.Machinery.Reading.{text_at, counted_at, labels_at}
 use Rattle.gql_fields.proofs.FieldLemmas.{IsBytes, Takes, bind_some, when_some, text_takes, text_again}
 use Rattle.gql_fields.proofs.ItemLemmas.{counted_takes, counted_again}
 

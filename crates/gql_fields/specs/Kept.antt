@@ -2,7 +2,7 @@
 use Rattle.std.specs.Prelude.{ℕ, ◌<◌, ◌^◌, List, length, IsTrue}
 use Rattle.std.specs.List.{AllByRecursion}
 use Rattle.std.specs.Str.{IsUtf8}
-use Rattle.gql_values3.specs.Datum.{Datum, Data, null, boolean, integer, text, list, node, edge, path, no_data, more_data, items_of}
+use Rattle.gql_values3.specs.Datum.{Datum, Data, text, list, no_data, more_data, items_of}
 use Rattle.gql_values3.specs.PropertyGraph.{are_properties}
 use Rattle.gql_values3.specs.Texts.{texts_ascend}
 
