@@ -1,0 +1,4 @@
+pub mod KindLemmas
+pub mod BodyLemmas
+pub mod TypeLemmas
+mod OrderLemmas
