@@ -1,8 +1,9 @@
 //! Graph types: whether a property graph conforms to one, and which one a type's text means.
 //!
 //! The promise: `fits` answers nothing exactly where each node fits some node type and each edge some edge type, else the
-//! first element that fits none, nodes before edges, each by number. `node_fits` and `edge_fits` judge one element. `graph_type` gives the type that a
-//! text's tree means, and `parse_type` reads that tree: the longest front of some lexemes that derives one. It stands on gql_graph
+//! first element that fits none, nodes before edges, each by number; `node_fits` and `edge_fits` judge one element. None of
+//! them takes memory. `graph_type` gives the type that a text's tree means, `wrong_alias` and `repeated_property` what is
+//! refused of that tree, and `parse_type` reads it: the longest front of some lexemes that derives one. It stands on gql_graph
 //! (graphs and their types), gql_ast (the tree), gql_parts, gql_front and gql_lexer (reading) and gql_eval (what a stable sort is).
 #![tactic(auto)]
 

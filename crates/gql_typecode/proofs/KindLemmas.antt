@@ -7,10 +7,14 @@ use Rattle.gql_values3.specs.declared.prop_kind.PropKind.{PropKind}
 use Rattle.gql_values3.specs.declared.prop_kind.PropKind.TheVariants as kind
 use Rattle.gql_fields.specs.Spelling.{flag_spelled}
 use Rattle.gql_fields.specs.Machinery.Reading.{◌>>=◌, flag_at}
-use Rattle.gql_fields.proofs.FieldLemmas.{IsBytes, Takes, Takes-then, bind_some, some_is}
+use Rattle.gql_fields.proofs.FieldLemmas.{IsBytes, Takes, Takes-then, bind_some, done, some_is}
 use Rattle.gql_fields.proofs.ValueLemmas.{flag_takes}
 use Rattle.gql_typecode.specs.TypeSpelling.{scalar_spelled, kind_spelled}
 use Rattle.gql_typecode.specs.Machinery.TypeReading.{byte_at, scalar_told, items_kind_at, kind_behind, kind_at}
+
+-- what holds of a part and the bytes after it holds of what is read
+pub found_is : {A : Type 0} (Holds : A × List ℕ → Type 0) (a : A) (rest : List ℕ) (x : A × List ℕ) → done (a, rest) ≡ done x → Holds (a, rest) → Holds x
+found_is Holds a rest x e h = subst Holds (some_is (a, rest) x e) h
 
 -- the first byte stood in front
 pub byte_takes : (bytes : List ℕ) (x : ℕ × List ℕ) → IsBytes bytes → byte_at bytes ≡ Some x → Takes bytes (x.0 ∷ []) x.1
@@ -41,6 +45,9 @@ scalar_told_is n s e =
 scalar_takes : (bytes : List ℕ) (byte : ℕ × List ℕ) (s : Scalar) → Takes bytes (byte.0 ∷ []) byte.1 → scalar_told byte.0 ≡ Some s → Takes bytes (scalar_spelled s ∷ []) byte.1
 scalar_takes bytes byte s first e = subst (λ (n : ℕ). Takes bytes (n ∷ []) byte.1) (scalar_told_is byte.0 s e) first
 
+behind_four : (bytes text rest : List ℕ) → Takes bytes text rest → Takes (4 ∷ bytes) (4 ∷ text) rest
+behind_four bytes text rest taken = record { parts = ap (λ (t : List ℕ). 4 ∷ t) taken.parts; rest_fits = taken.rest_fits }
+
 -- behind the byte that tells of a list
 items_kind_takes : (bytes : List ℕ) (x : PropKind × List ℕ) → IsBytes bytes → items_kind_at bytes ≡ Some x → Takes (4 ∷ bytes) (kind_spelled x.0) x.1
 unfolding items_kind_at
@@ -51,9 +58,8 @@ items_kind_takes bytes x fits e =
     let first = scalar_takes bytes a.0 b.0 (byte_takes bytes a.0 fits a.1) b.1 in
     let second = flag_takes a.0.1 d.0 first.rest_fits d.1 in
     let both = Takes-then bytes (scalar_spelled b.0 ∷ []) a.0.1 (flag_spelled d.0.0 ∷ []) d.0.1 first second in
-    let whole : Takes (4 ∷ bytes) (kind_spelled (kind.Many b.0 d.0.0)) d.0.1 = record { parts = ap (λ (t : List ℕ). 4 ∷ t) both.parts; rest_fits = both.rest_fits } in
-    let found : PropKind × List ℕ = (kind.Many b.0 d.0.0, d.0.1) in
-    subst (λ (y : PropKind × List ℕ). Takes (4 ∷ bytes) (kind_spelled y.0) y.1) (some_is found x d.2) whole
+    let whole : Takes (4 ∷ bytes) (kind_spelled (kind.Many b.0 d.0.0)) d.0.1 = behind_four bytes (scalar_spelled b.0 ∷ flag_spelled d.0.0 ∷ []) d.0.1 both in
+    found_is (λ (y : PropKind × List ℕ). Takes (4 ∷ bytes) (kind_spelled y.0) y.1) (kind.Many b.0 d.0.0) d.0.1 x d.2 whole
 
 -- behind any first byte
 behind_takes : (bytes : List ℕ) (byte : ℕ × List ℕ) (x : PropKind × List ℕ) (b : Bool) → Takes bytes (byte.0 ∷ []) byte.1 → (b ≡ true → byte.0 ≡ 4)
@@ -63,8 +69,7 @@ behind_takes bytes byte x true first same e =
     subst (λ (t : List ℕ). Takes t (kind_spelled x.0) x.1) is (items_kind_takes byte.1 x first.rest_fits e)
 behind_takes bytes byte x false first same e =
     let b = bind_some (scalar_told byte.0) (λ item. Some (kind.One item, byte.1)) x e in
-    let found : PropKind × List ℕ = (kind.One b.0, byte.1) in
-    subst (λ (y : PropKind × List ℕ). Takes bytes (kind_spelled y.0) y.1) (some_is found x b.2) (scalar_takes bytes byte b.0 first b.1)
+    found_is (λ (y : PropKind × List ℕ). Takes bytes (kind_spelled y.0) y.1) (kind.One b.0) byte.1 x b.2 (scalar_takes bytes byte b.0 first b.1)
 
 -- a kind that is read was spelled
 pub kind_takes : (bytes : List ℕ) (x : PropKind × List ℕ) → IsBytes bytes → kind_at bytes ≡ Some x → Takes bytes (kind_spelled x.0) x.1

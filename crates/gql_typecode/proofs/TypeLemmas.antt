@@ -21,6 +21,7 @@ use Rattle.gql_typecode.specs.TypeSpelling.{body_spelled, node_type_spelled, edg
 use Rattle.gql_typecode.specs.KeptTypes.{IsKeptNodeType, IsKeptEdgeType, IsKeptType}
 use Rattle.gql_typecode.specs.declared.type_ends.TypeEnds.{TypeEnds}
 use Rattle.gql_typecode.specs.Machinery.TypeReading.{body_at, node_type_at, ends_at, edge_type_between, edge_type_at, graph_type_at, whole_type_at}
+use Rattle.gql_typecode.proofs.KindLemmas.{found_is}
 use Rattle.gql_typecode.proofs.BodyLemmas.{body_takes, body_again}
 
 -- ---- node types
@@ -28,6 +29,7 @@ use Rattle.gql_typecode.proofs.BodyLemmas.{body_takes, body_again}
 abbrev node_with : List (List ℕ) → List PropType → NodeType
 node_with labels body = record { labels = labels; body = body }
 
+-- a node type that is read was spelled
 pub node_type_takes : IsSpelled node_type_spelled IsKeptNodeType node_type_at
 unfolding node_type_at
 node_type_takes bytes x fits e =
@@ -36,9 +38,9 @@ node_type_takes bytes x fits e =
     let labels = labels_take bytes a.0 fits a.1 in
     let body = body_takes a.0.1 b.0 labels.0.rest_fits b.1 in
     let whole = Takes-then bytes (labels_spelled a.0.0) a.0.1 (body_spelled b.0.0) b.0.1 labels.0 body.0 in
-    let found : NodeType × List ℕ = (node_with a.0.0 b.0.0, b.0.1) in
-    subst (λ (y : NodeType × List ℕ). Takes bytes (node_type_spelled y.0) y.1 × IsKeptNodeType y.0) (some_is found x b.2) (whole, (labels.1, body.1))
+    found_is (λ (y : NodeType × List ℕ). Takes bytes (node_type_spelled y.0) y.1 × IsKeptNodeType y.0) (node_with a.0.0 b.0.0) b.0.1 x b.2 (whole, (labels.1, body.1))
 
+-- one that was spelled is read
 pub node_type_again : IsReadAgain node_type_spelled IsKeptNodeType node_type_at
 unfolding node_type_at
 node_type_again t rest kept =
@@ -60,6 +62,7 @@ not_twice : (b : Bool) → not (not b) ≡ b
 not_twice true = refl
 not_twice false = refl
 
+-- ends that are read were spelled
 ends_take : IsSpelled ends_spelled AreKeptEnds ends_at
 unfolding ends_at
 ends_take bytes x fits e =
@@ -72,9 +75,9 @@ ends_take bytes x fits e =
     let places = Takes-then a.0.1 (to_be_bytes w64 b.0.0) b.0.1 (to_be_bytes w64 d.0.0) d.0.1 first.0 second.0 in
     let all = Takes-then bytes (flag_spelled a.0.0 ∷ []) a.0.1 (to_be_bytes w64 b.0.0 ++ to_be_bytes w64 d.0.0) d.0.1 flag places in
     let whole : Takes bytes (ends_spelled (ends_with a.0.0 b.0.0 d.0.0)) d.0.1 = subst (λ (u : Bool). Takes bytes (flag_spelled u ∷ (to_be_bytes w64 b.0.0 ++ to_be_bytes w64 d.0.0)) d.0.1) (sym (not_twice a.0.0)) all in
-    let found : TypeEnds × List ℕ = (ends_with a.0.0 b.0.0 d.0.0, d.0.1) in
-    subst (λ (y : TypeEnds × List ℕ). Takes bytes (ends_spelled y.0) y.1 × AreKeptEnds y.0) (some_is found x d.2) (whole, (first.1, second.1))
+    found_is (λ (y : TypeEnds × List ℕ). Takes bytes (ends_spelled y.0) y.1 × AreKeptEnds y.0) (ends_with a.0.0 b.0.0 d.0.0) d.0.1 x d.2 (whole, (first.1, second.1))
 
+-- those that were spelled are read
 ends_again : IsReadAgain ends_spelled AreKeptEnds ends_at
 unfolding ends_at
 ends_again t rest kept =
@@ -87,6 +90,7 @@ ends_again t rest kept =
 abbrev ends_of : EdgeType → TypeEnds
 ends_of t = record { directed = t.directed; first = t.first; second = t.second }
 
+-- an edge type that is read was spelled
 pub edge_type_takes : IsSpelled edge_type_spelled IsKeptEdgeType edge_type_at
 unfolding edge_type_at
 edge_type_takes bytes x fits e =
@@ -99,9 +103,9 @@ edge_type_takes bytes x fits e =
     let two = Takes-then bytes (ends_spelled a.0.0) a.0.1 (labels_spelled b.0.0) b.0.1 ends.0 labels.0 in
     let whole = Takes-then bytes (ends_spelled a.0.0 ++ labels_spelled b.0.0) b.0.1 (body_spelled d.0.0) d.0.1 two body.0 in
     let kept : IsKeptEdgeType (edge_type_between a.0.0 b.0.0 d.0.0) = record { first = ends.1.0; second = ends.1.1; labels = labels.1; body = body.1 } in
-    let found : EdgeType × List ℕ = (edge_type_between a.0.0 b.0.0 d.0.0, d.0.1) in
-    subst (λ (y : EdgeType × List ℕ). Takes bytes (edge_type_spelled y.0) y.1 × IsKeptEdgeType y.0) (some_is found x d.2) (whole, kept)
+    found_is (λ (y : EdgeType × List ℕ). Takes bytes (edge_type_spelled y.0) y.1 × IsKeptEdgeType y.0) (edge_type_between a.0.0 b.0.0 d.0.0) d.0.1 x d.2 (whole, kept)
 
+-- one that was spelled is read
 pub edge_type_again : IsReadAgain edge_type_spelled IsKeptEdgeType edge_type_at
 unfolding edge_type_at
 edge_type_again t rest kept =
@@ -116,6 +120,7 @@ edge_type_again t rest kept =
 abbrev type_with : List NodeType → List EdgeType → GraphType
 type_with nodes edges = record { nodes = nodes; edges = edges }
 
+-- a graph type that is read was spelled
 pub graph_type_takes : IsSpelled graph_type_spelled IsKeptType graph_type_at
 unfolding graph_type_at
 graph_type_takes bytes x fits e =
@@ -127,9 +132,9 @@ graph_type_takes bytes x fits e =
     let both = Takes-then bytes front a.0.1 (counted_spelled edge_type_spelled b.0.0) b.0.1 nodes.0 edges.0 in
     let whole : Takes bytes (graph_type_spelled (type_with a.0.0 b.0.0)) b.0.1 = subst (λ (y : List ℕ). Takes bytes y b.0.1) (sym (append_assoc front (to_be_bytes w64 (length b.0.0)) (flat_map edge_type_spelled b.0.0))) both in
     let kept : IsKeptType (type_with a.0.0 b.0.0) = record { few_nodes = nodes.1.0; few_edges = edges.1.0; nodes = nodes.1.1; edges = edges.1.1 } in
-    let found : GraphType × List ℕ = (type_with a.0.0 b.0.0, b.0.1) in
-    subst (λ (y : GraphType × List ℕ). Takes bytes (graph_type_spelled y.0) y.1 × IsKeptType y.0) (some_is found x b.2) (whole, kept)
+    found_is (λ (y : GraphType × List ℕ). Takes bytes (graph_type_spelled y.0) y.1 × IsKeptType y.0) (type_with a.0.0 b.0.0) b.0.1 x b.2 (whole, kept)
 
+-- one that was spelled is read
 pub graph_type_again : IsReadAgain graph_type_spelled IsKeptType graph_type_at
 unfolding graph_type_at
 graph_type_again t rest kept =
