@@ -1,12 +1,12 @@
 -- The properties of a type: what is read was spelled, and what was spelled is read.
-use Rattle.std.proofs.Common.{◌≡◌, ℕ, Bool, true, false, cond, List, [], ◌∷◌, ◌++◌, map, Option, Some, None, refl, ap, subst, ◌∙◌, append_assoc}
+use Rattle.std.proofs.Common.{◌≡◌, ℕ, Bool, true, false, cond, List, [], ◌∷◌, ◌++◌, map, Some, None, refl, ap, subst, ◌∙◌, append_assoc}
 use Rattle.std.specs.Int.{w64}
 use Rattle.gql_values3.specs.Texts.{texts_ascend}
 use Rattle.gql_values3.specs.declared.prop_kind.PropKind.{PropKind}
 use Rattle.gql_graph.specs.declared.graph_type.PropType.{PropType}
 use Rattle.gql_fields.specs.Spelling.{spelled, flag_spelled}
 use Rattle.gql_fields.specs.Machinery.Reading.{◌>>=◌, number_at, text_at, flag_at, items_at, counted_at}
-use Rattle.gql_fields.proofs.FieldLemmas.{Takes, Takes-then, bind_some, when_some, some_is, text_takes, text_again}
+use Rattle.gql_fields.proofs.FieldLemmas.{Takes, Takes-then, bind_some, when_some, text_takes, text_again}
 use Rattle.gql_fields.proofs.ItemLemmas.{IsSpelled, IsReadAgain, counted_takes, counted_again}
 use Rattle.gql_fields.proofs.ValueLemmas.{flag_takes, flag_again}
 use Rattle.gql_typecode.specs.TypeSpelling.{kind_spelled, property_type_spelled, body_spelled}
@@ -37,7 +37,7 @@ unfolding property_type_at
 property_type_again t rest kept =
     let behind_kind : List ℕ = flag_spelled t.required ∷ rest in
     let regrouped : property_type_spelled t ++ rest ≡ spelled t.name ++ (kind_spelled t.kind ++ behind_kind) =
-        append_assoc (spelled t.name ++ kind_spelled t.kind) (flag_spelled t.required ∷ []) rest ∙ append_assoc (spelled t.name) (kind_spelled t.kind) behind_kind in
+    append_assoc (spelled t.name ++ kind_spelled t.kind) (flag_spelled t.required ∷ []) rest ∙ append_assoc (spelled t.name) (kind_spelled t.kind) behind_kind in
     ap property_type_at regrouped ∙ rw (text_again t.name (kind_spelled t.kind ++ behind_kind) kept, kind_again t.kind behind_kind, flag_again t.required rest) refl
 
 -- their names

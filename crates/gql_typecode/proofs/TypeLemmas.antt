@@ -111,7 +111,7 @@ unfolding edge_type_at
 edge_type_again t rest kept =
     let behind : List ℕ = body_spelled t.body ++ rest in
     let regrouped : edge_type_spelled t ++ rest ≡ ends_spelled (ends_of t) ++ (labels_spelled t.labels ++ behind) =
-        append_assoc (ends_spelled (ends_of t) ++ labels_spelled t.labels) (body_spelled t.body) rest ∙ append_assoc (ends_spelled (ends_of t)) (labels_spelled t.labels) behind in
+    append_assoc (ends_spelled (ends_of t) ++ labels_spelled t.labels) (body_spelled t.body) rest ∙ append_assoc (ends_spelled (ends_of t)) (labels_spelled t.labels) behind in
     ap edge_type_at regrouped
     ∙ rw (ends_again (ends_of t) (labels_spelled t.labels ++ behind) (kept.first, kept.second), labels_again t.labels behind kept.labels, body_again t.body rest kept.body) refl
 
@@ -141,7 +141,7 @@ graph_type_again t rest kept =
     let front : List ℕ = counted_spelled node_type_spelled t.nodes in
     let back : List ℕ = counted_spelled edge_type_spelled t.edges in
     let regrouped : graph_type_spelled t ++ rest ≡ front ++ (back ++ rest) =
-        ap (λ (y : List ℕ). y ++ rest) (append_assoc front (to_be_bytes w64 (length t.edges)) (flat_map edge_type_spelled t.edges)) ∙ append_assoc front back rest in
+    ap (λ (y : List ℕ). y ++ rest) (append_assoc front (to_be_bytes w64 (length t.edges)) (flat_map edge_type_spelled t.edges)) ∙ append_assoc front back rest in
     ap graph_type_at regrouped
     ∙ rw (counted_again node_type_spelled IsKeptNodeType node_type_at node_type_again t.nodes (back ++ rest) (kept.few_nodes, kept.nodes), counted_again edge_type_spelled IsKeptEdgeType edge_type_at edge_type_again t.edges rest (kept.few_edges, kept.edges)) refl
 

@@ -1,6 +1,6 @@
 -- Graph types that a record can keep: label sets and names of properties strictly ascend, texts are UTF-8, and nothing has 2 to the 64
 -- parts or more. Whether the ends of edge types are node types is asked elsewhere.
-use Rattle.std.specs.Prelude.{ℕ, ◌<◌, ◌^◌, List, map, length, IsTrue}
+use Rattle.std.specs.Prelude.{◌<◌, ◌^◌, List, map, length, IsTrue}
 use Rattle.std.specs.List.{AllByRecursion}
 use Rattle.gql_values3.specs.Texts.{texts_ascend}
 use Rattle.gql_graph.specs.declared.graph_type.PropType.{PropType}

@@ -1,5 +1,5 @@
 -- How a graph type is spelled in bytes: its node types, and then its edge types. Numbers stand high byte first.
-use Rattle.std.specs.Prelude.{ℕ, not, Bool, List, [], ◌∷◌, ◌++◌, length}
+use Rattle.std.specs.Prelude.{ℕ, not, List, [], ◌∷◌, ◌++◌, length}
 use Rattle.std.specs.Int.{to_be_bytes, w64}
 use Rattle.std.specs.List.{flat_map}
 use Rattle.gql_values3.specs.declared.prop_kind.Scalar.{Scalar}

@@ -27,11 +27,7 @@ pub fn body_of(alloc: Global, bytes: &[u8]) -> Result<(PropTypes, &[u8]), Misrea
 }
 
 // It ends at the first one that is missing, so that a count which is too high costs nothing.
-fn property_types_of(
-    alloc: Global,
-    count: u64,
-    bytes: &[u8],
-) -> Result<(PropTypes, &[u8]), Misread>
+fn property_types_of(alloc: Global, count: u64, bytes: &[u8]) -> Result<(PropTypes, &[u8]), Misread>
     ensures { Gives (λ x. (x.0, x.1.now)) result (items_at property_type_at count bytes.now) }
 {
     let mut found = PropTypes::new(alloc);
