@@ -1,6 +1,6 @@
 //! The records of a catalog's parts: its version, its graph types, and its graphs without their elements.
 
-ghost use Rattle.std.specs.Prelude.{◌≡◌, ◌++◌, IfOk, OnOk, IsTrue};
+ghost use Rattle.std.specs.Prelude.{◌≡◌, [], ◌∷◌, ◌++◌, IfOk, OnOk, IsTrue};
 ghost use Rattle.gql_type.specs.GraphTypes.{is_graph_type};
 ghost use Rattle.gql_rowcode.specs.Records.{version, graph_type, graph, type_name_spelled, IsKeptName};
 ghost use Rattle.gql_rowcode.specs.Machinery.Writing.{Says};

@@ -11,14 +11,14 @@ use Rattle.gql_type.specs.Conformance.{first_misfit}
 pub record TxnData : Type 0 where
   pub catalog : CatalogData
   pub kept : CatalogData
-  pub open : Option AccessMode
+  pub access : Option AccessMode
 
 -- both catalogs are one, and no transaction is open
 abbrev pub settled : CatalogData → TxnData
-settled c = record { catalog = c; kept = c; open = None }
+settled c = record { catalog = c; kept = c; access = None }
 
 abbrev pub with_catalog : TxnData → CatalogData → TxnData
-with_catalog t c = record { catalog = c; kept = t.kept; open = t.open }
+with_catalog t c = record { catalog = c; kept = t.kept; access = t.access }
 
 -- the type of the graph of this name, where it has one
 abbrev pub type_named : List (List ℕ × GraphType) → Option (List ℕ) → Option GraphType
