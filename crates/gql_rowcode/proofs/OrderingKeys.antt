@@ -1,17 +1,16 @@
 -- The records of a catalog have each a key of its own: the first byte tells what it is about, and behind it names or numbers differ.
-use Rattle.std.proofs.Common.{◌≡◌, ◌≢◌, ℕ, zero, suc, ◌+◌, ◌^◌, ◌<◌, Bool, true, false, ltb, ◌&&◌, List, [], ◌∷◌, ◌++◌, map, length, take, drop, Option, refl, sym, ap, subst, ◌∙◌, arith}
+use Rattle.std.proofs.Common.{◌≡◌, ◌≢◌, ℕ, ◌+◌, ◌^◌, ◌<◌, Bool, true, ltb, ◌&&◌, List, [], ◌∷◌, ◌++◌, map, length, take, drop, Option, refl, sym, ap, ◌∙◌, arith}
 use Rattle.std.specs.Int.{w32, from_be_bytes, to_be_bytes}
 use Rattle.std.specs.List.{AllByRecursion, flat_map, list_all}
 use Rattle.std.specs.declared.cmp.Ordering.{Ordering}
 use Rattle.std.specs.declared.cmp.Ordering.TheVariants.{Less, Equal, Greater}
-use Rattle.std.specs.Ordering.{is_lt, nat_cmp}
-use Rattle.std.specs.Cmp.Lexicographic.{slice_cmp}
+use Rattle.std.specs.Ordering.{is_lt}
 use Rattle.std.proofs.lemmas.Bool.{and_parts, ltb-true}
 use Rattle.std.proofs.lemmas.Cmp.{nat_list_cmp_total, tied_itself}
 use Rattle.std.proofs.lemmas.List.{append_cancel_left, take_at, length-append}
 use Rattle.std.proofs.lemmas.Nat.{from_be_bytes-to_be_bytes_4}
 use Rattle.gql_values3.specs.Texts.{ascend_above, texts_ascend}
-use Rattle.gql_values3.specs.PropertyGraph.{PropertyGraph, numbers_ascend, are_numbers, are_nodes, are_edges, is_node_record, is_edge_record, is_graph}
+use Rattle.gql_values3.specs.PropertyGraph.{numbers_ascend, are_numbers, are_nodes, are_edges, is_node_record, is_edge_record, is_graph}
 use Rattle.gql_values3.specs.declared.records.NodeRecord.{NodeRecord}
 use Rattle.gql_values3.specs.declared.records.EdgeRecord.{EdgeRecord}
 use Rattle.gql_graph.specs.Catalog.{CatalogGraph, CatalogData, is_catalog}
@@ -122,10 +121,12 @@ edges_apart name edges next h = elements_apart (λ (r : EdgeRecord). r.number.0)
 
 -- whatever holds of the three kinds of forms holds of all that is said of a graph
 pub all_of_graph : (P : Form → Type 0) (p : List ℕ × CatalogGraph) → P (graph p.0 p.1.kind p.1.graph.next_node p.1.graph.next_edge) → ((r : NodeRecord) → P (node p.0 r)) → ((r : EdgeRecord) → P (edge p.0 r)) → AllByRecursion P (graph_forms p)
-all_of_graph P p first nodes edges =
-    (first, all_append P (map (node p.0) p.1.graph.nodes) (map (edge p.0) p.1.graph.edges)
-    (all_map P (node p.0) p.1.graph.nodes (all_always (λ r. P (node p.0 r)) nodes p.1.graph.nodes))
-    (all_map P (edge p.0) p.1.graph.edges (all_always (λ r. P (edge p.0 r)) edges p.1.graph.edges)))
+all_of_graph P p first nodes edges = (
+  first,
+  all_append P (map (node p.0) p.1.graph.nodes) (map (edge p.0) p.1.graph.edges)
+      (all_map P (node p.0) p.1.graph.nodes (all_always (λ r. P (node p.0 r)) nodes p.1.graph.nodes))
+      (all_map P (edge p.0) p.1.graph.edges (all_always (λ r. P (edge p.0 r)) edges p.1.graph.edges)),
+)
 
 node_no_edge : (name : List ℕ) (r : NodeRecord) (s : EdgeRecord) → Apart (node name r) (edge name s)
 node_no_edge name r s e = absurd cc
@@ -145,11 +146,12 @@ graph_apart p h =
     let head : Form = graph p.0 p.1.kind g.next_node g.next_edge in
     let across : Across Apart (map (node p.0) g.nodes) (map (edge p.0) g.edges) =
     all_map (λ f. AllByRecursion (Apart f) (map (edge p.0) g.edges)) (node p.0) g.nodes
-    (all_always (λ (r : NodeRecord). AllByRecursion (Apart (node p.0 r)) (map (edge p.0) g.edges)) (λ r. all_map (Apart (node p.0 r)) (edge p.0) g.edges (all_always (λ (s : EdgeRecord). Apart (node p.0 r) (edge p.0 s)) (node_no_edge p.0 r) g.edges)) g.nodes) in
-    (all_append (Apart head) (map (node p.0) g.nodes) (map (edge p.0) g.edges)
-    (all_map (Apart head) (node p.0) g.nodes (all_always (λ (r : NodeRecord). Apart head (node p.0 r)) (graph_no_node p.0 p.0 p.1.kind g.next_node g.next_edge) g.nodes))
-    (all_map (Apart head) (edge p.0) g.edges (all_always (λ (r : EdgeRecord). Apart head (edge p.0 r)) (graph_no_edge p.0 p.0 p.1.kind g.next_node g.next_edge) g.edges)),
-    pairs_append Apart (map (node p.0) g.nodes) (map (edge p.0) g.edges) (nodes_apart p.0 g.nodes g.next_node nodes.0) (edges_apart p.0 g.edges g.next_edge edges.0) across)
+    (all_always (λ (r : NodeRecord). AllByRecursion (Apart (node p.0 r)) (map (edge p.0) g.edges)) (λ r. all_map (Apart (node p.0 r)) (edge p.0) g.edges (all_always (λ (s : EdgeRecord). Apart (node p.0 r) (edge p.0 s)) (node_no_edge p.0 r) g.edges)) g.nodes) in (
+      all_append (Apart head) (map (node p.0) g.nodes) (map (edge p.0) g.edges)
+          (all_map (Apart head) (node p.0) g.nodes (all_always (λ (r : NodeRecord). Apart head (node p.0 r)) (graph_no_node p.0 p.0 p.1.kind g.next_node g.next_edge) g.nodes))
+          (all_map (Apart head) (edge p.0) g.edges (all_always (λ (r : EdgeRecord). Apart head (edge p.0 r)) (graph_no_edge p.0 p.0 p.1.kind g.next_node g.next_edge) g.edges)),
+      pairs_append Apart (map (node p.0) g.nodes) (map (edge p.0) g.edges) (nodes_apart p.0 g.nodes g.next_node nodes.0) (edges_apart p.0 g.edges g.next_edge edges.0) across,
+    )
 
 -- ---- what is said of two graphs
 

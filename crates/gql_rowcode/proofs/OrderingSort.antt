@@ -1,5 +1,5 @@
 -- Records whose keys differ, sorted by key: the keys strictly ascend, and the records are the same.
-use Rattle.std.proofs.Common.{◌≡◌, ◌≢◌, ℕ, Bool, true, false, cond, ◌&&◌, List, [], ◌∷◌, map, refl, sym, ap, ◌∙◌}
+use Rattle.std.proofs.Common.{◌≡◌, ◌≢◌, ℕ, Bool, true, false, cond, ◌&&◌, List, [], ◌∷◌, map, refl, ap, ◌∙◌}
 use Rattle.std.specs.Cmp.{IsStrictWeakOrder}
 use Rattle.std.specs.List.{AllByRecursion}
 use Rattle.std.specs.declared.cmp.Ordering.{Ordering}
@@ -9,7 +9,7 @@ use Rattle.std.proofs.lemmas.Bool.{and_from, and_parts}
 use Rattle.std.proofs.lemmas.Cmp.{nat_list_cmp_total}
 use Rattle.std.proofs.lemmas.List.Sorted.{ranks_by}
 use Rattle.std.proofs.lemmas.Map.Lookups.{exact_bytes}
-use Rattle.gql_values3.specs.Texts.{ascend_above, texts_ascend}
+use Rattle.gql_values3.specs.Texts.{ascend_above}
 use Rattle.gql_ports.specs.Held.{keys_ascend}
 use Rattle.gql_ports.specs.declared.stored.Record.{Record}
 use Rattle.gql_eval.specs.StableSort.{inserted_in_order, stably_sorted}

@@ -1,10 +1,10 @@
 -- Records that are made one after the other say what is said of a catalog; in order by key they stand for it.
 use Rattle.std.proofs.Common.{◌≡◌, ℕ, zero, suc, ◌+◌, ◌<◌, ◌≤◌, Bool, true, false, ltb, ◌&&◌, List, [], ◌∷◌, ◌++◌, map, length, get_or, take, refl, sym, ap, subst, ◌∙◌, append_assoc, arith}
-use Rattle.std.specs.Prelude.{Contains}
+use Rattle.std.specs.Prelude.{Result, Ok, Err, OnOk, Option, Some, None, if◌then◌else◌}
 use Rattle.std.specs.List.{AllByRecursion, flat_map, list_all}
 use Rattle.std.specs.List.Sorted.{IsPermutation}
 use Rattle.std.proofs.lemmas.Bool.{and_parts}
-use Rattle.std.proofs.lemmas.List.{append-nil, map-append, map_push, take_more, take_all, length-map}
+use Rattle.std.proofs.lemmas.List.{append-nil, map-append, map_push, take_more, take_all}
 use Rattle.std.proofs.lemmas.List.Concat.{flat_map-append, flat_map-cons}
 use Rattle.std.proofs.lemmas.List.Sorted.{Contains-permutation, IsPermutation-sym, length_permutation}
 use Rattle.gql_values3.specs.Datum.{Datum}
@@ -22,10 +22,10 @@ use Rattle.gql_graph.specs.declared.graph_type.GraphType.{GraphType}
 use Rattle.gql_type.specs.GraphTypes.{is_content_type, is_node_type, is_edge_type, is_graph_type}
 use Rattle.gql_type.specs.SoundCatalog.{fits_kind, is_sound}
 use Rattle.gql_typecode.specs.TypeOrder.{IsNodeTypeInOrder, IsEdgeTypeInOrder, IsTypeInOrder}
-use Rattle.gql_rowcode.specs.Records.{Form, version, record_of, IsForm}
-use Rattle.gql_rowcode.specs.StandFor.{catalog_forms, AreRecordsOf, StandFor}
+use Rattle.gql_rowcode.specs.Records.{Form, version, graph_type, graph, node, edge, record_of, IsForm}
+use Rattle.gql_rowcode.specs.StandFor.{graph_forms, catalog_forms, AreRecordsOf, StandFor}
 use Rattle.gql_rowcode.specs.Machinery.Writing.{Says, SayAlso, key_before}
-use Rattle.gql_rowcode.proofs.OrderingLists.{all_append, Pairs, pairs_map, contains_of_map, contains_map}
+use Rattle.gql_rowcode.proofs.OrderingLists.{all_append, pairs_map, contains_of_map, contains_map}
 use Rattle.gql_rowcode.proofs.OrderingKeys.{catalog_apart}
 use Rattle.gql_rowcode.proofs.OrderingSort.{KeysDiffer, sorted_ascends}
 
@@ -36,9 +36,10 @@ say_none before = (tt, sym (append-nil before))
 
 -- those that say these, and behind them those that say more
 pub say_then : (fs gs : List Form) (a b c : List Record) → SayAlso fs a b → SayAlso gs b c → SayAlso (fs ++ gs) a c
-say_then fs gs a b c p q =
-    (all_append IsForm fs gs p.0 q.0,
-    q.1 ∙ ap (λ rs. rs ++ map record_of gs) p.1 ∙ append_assoc a (map record_of fs) (map record_of gs) ∙ ap (λ rs. a ++ rs) (sym (map-append record_of fs gs)))
+say_then fs gs a b c p q = (
+  all_append IsForm fs gs p.0 q.0,
+  q.1 ∙ ap (λ rs. rs ++ map record_of gs) p.1 ∙ append_assoc a (map record_of fs) (map record_of gs) ∙ ap (λ rs. a ++ rs) (sym (map-append record_of fs gs)),
+)
 
 -- one record more
 pub say_one : (f : Form) (r : Record) (a : List Record) → Says f r → SayAlso (f ∷ []) a (a ++ r ∷ [])
@@ -50,6 +51,19 @@ say_push fs f r a b p says = say_then fs (f ∷ []) a b (b ++ r ∷ []) p (say_o
 -- one record in front
 pub say_first : (f : Form) (fs : List Form) (r : Record) (a c : List Record) → Says f r → SayAlso fs (a ++ r ∷ []) c → SayAlso (f ∷ fs) a c
 say_first f fs r a c says rest = say_then (f ∷ []) fs a (a ++ r ∷ []) c (say_one f r a says) rest
+
+-- what is said of one graph
+pub say_graph : (p : List ℕ × CatalogGraph) (r : Record) (a b m c : List Record) → Says (graph p.0 p.1.kind p.1.graph.next_node p.1.graph.next_edge) r → b ≡ a ++ r ∷ [] → SayAlso (map (node p.0) p.1.graph.nodes) b m → SayAlso (map (edge p.0) p.1.graph.edges) m c → SayAlso (graph_forms p) a c
+say_graph p r a b m c says pushed nodes edges =
+    say_first (graph p.0 p.1.kind p.1.graph.next_node p.1.graph.next_edge) (map (node p.0) p.1.graph.nodes ++ map (edge p.0) p.1.graph.edges) r a c says
+    (subst (λ rs. SayAlso (map (node p.0) p.1.graph.nodes ++ map (edge p.0) p.1.graph.edges) rs c) pushed (say_then (map (node p.0) p.1.graph.nodes) (map (edge p.0) p.1.graph.edges) b m c nodes edges))
+
+-- what is said of a catalog
+pub say_catalog : (c : CatalogData) (r : Record) (b m all : List Record) → Says version r → b ≡ r ∷ [] → SayAlso (map (λ (t : List ℕ × GraphType). graph_type t.0 t.1) c.types) b m → SayAlso (flat_map graph_forms c.graphs) m all → SayAlso (catalog_forms c) [] all
+say_catalog c r b m all says pushed types graphs =
+    say_first version (map (λ (t : List ℕ × GraphType). graph_type t.0 t.1) c.types ++ flat_map graph_forms c.graphs) r [] all says
+    (subst (λ rs. SayAlso (map (λ (t : List ℕ × GraphType). graph_type t.0 t.1) c.types ++ flat_map graph_forms c.graphs) rs all) pushed
+    (say_then (map (λ (t : List ℕ × GraphType). graph_type t.0 t.1) c.types) (flat_map graph_forms c.graphs) b m all types graphs))
 
 -- ---- loops that make a record for each item, or several
 
@@ -166,3 +180,13 @@ stand_by c (r ∷ rs) h fit are some = (h, fit, are)
 pub stand_for : (c : CatalogData) (all sorted : List Record) → is_sound c ≡ true → SayAlso (catalog_forms c) [] all → IsPermutation all sorted → sorted ≡ stably_sorted key_before all → StandFor sorted c
 stand_for c all sorted h say same order =
     stand_by c sorted h say.0 (are_records c all sorted (sound_catalog c h) say same order) (some_records c all sorted say same)
+
+-- the records that were tested
+pub was_tested : (o : Option (List Record)) (b : Bool) (records found : List Record) → o ≡ (if b then Some records else None) → b ≡ true → o ≡ Some found → found ≡ records
+was_tested o true records found e t is = let one : Some records ≡ Some found = sym e ∙ is in cc
+was_tested o false records found e t is = absurd cc
+
+-- what follows from a promise of a call that went well
+pub on_ok : {A E : Type 0} (r : Result A E) (P Q : Type 0) → (P → Q) → OnOk r P → OnOk r Q
+on_ok (Ok x) P Q follows p = follows p
+on_ok (Err e) P Q follows p = p

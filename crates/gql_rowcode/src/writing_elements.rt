@@ -40,11 +40,7 @@ pub fn edge_record(alloc: Global, name: &str, element: &EdgeRecord) -> Result<Re
     Ok(Record { key, value })
 }
 
-fn put_content(
-    out: &mut Bytes,
-    labels: &Names,
-    properties: &Properties,
-) -> Result<(), OutOfMemory>
+fn put_content(out: &mut Bytes, labels: &Names, properties: &Properties) -> Result<(), OutOfMemory>
     requires labels { IsTrue (texts_ascend labels.now) }
     requires properties { IsTrue (are_properties properties.now) }
     ensures written { OnOk result (out.new ≡ out.old ++ content_spelled labels.now properties.now) }

@@ -21,12 +21,7 @@ pub fn name_key(alloc: Global, kind: u8, name: &str) -> Result<Bytes, OutOfMemor
 }
 
 /// The key of an element: a byte that tells its kind, the name of its graph, and its number.
-pub fn element_key(
-    alloc: Global,
-    kind: u8,
-    name: &str,
-    number: u32,
-) -> Result<Bytes, OutOfMemory>
+pub fn element_key(alloc: Global, kind: u8, name: &str, number: u32) -> Result<Bytes, OutOfMemory>
     ensures written { IfOk result (λ key. key ≡ kind ∷ (spelled name.now ++ to_be_bytes w32 number)) }
     ensures kept { OnOk result (IsText name.now × (number < 2 ^ 32)) }
 {

@@ -127,20 +127,6 @@ session_refused e = whole_refusal ((codes "p", integer (pos 1)) ∷ []) (stateme
 abbrev type_refused : List TypeElement → Option Refusal
 type_refused es = whole_refusal [] (statement.Catalog (catalog.CreateType false (codes "t") (record { elements = es })))
 
--- (x {k INT, k INT})
-abbrev twice : List ℕ → TypeElement
-twice x =
-    let k = record { name = codes "k"; kind = of_type.One scalar.Int; required = false } in
-    element.Node (Some x) (record { labels = None; properties = Some (k ∷ k ∷ []) })
-
--- {(a {k INT, k INT})}
-a_property_of_a_type_twice : type_refused (twice (codes "a") ∷ []) ≡ Some (refusal.Column (column.Property (codes "k")))
-a_property_of_a_type_twice = refl
-
--- {(a {k INT, k INT}), (a {k INT, k INT})}: aliases come before properties
-an_alias_twice : type_refused (twice (codes "a") ∷ twice (codes "a") ∷ []) ≡ Some (refusal.Variable (codes "a"))
-an_alias_twice = refl
-
 -- {(a)-[]->(b), (a)}
 an_unknown_end : type_refused (element.Edge (codes "a") arrow.Right blank (codes "b") ∷ element.Node (Some (codes "a")) blank ∷ []) ≡ Some (refusal.Variable (codes "b"))
 an_unknown_end = refl

@@ -1,12 +1,12 @@
 -- What the top call promises: what its ports tell as it begins, and the table of its endings.
-use Rattle.std.specs.Prelude.{◌≡◌, ℕ, ◌≤◌, ◌<◌, ◌⊎◌, Bool, true, false, List, length, Option, Some, None}
+use Rattle.std.specs.Prelude.{◌≡◌, ℕ, ◌≤◌, ◌<◌, ◌⊎◌, Bool, true, false, List, length, Option, Some}
 use Rattle.gql_ports.specs.Told.{Content}
 use Rattle.gql_ports.specs.Held.{Holding}
 use Rattle.gql_ports.specs.declared.stored.Record.{Record}
 use Rattle.gql_graph.specs.Catalog.{CatalogData}
 use Rattle.gql_rowcode.specs.StandFor.{StandFor}
 use Rattle.gql_rowcode.specs.FirstBad.{FirstBad}
-use Rattle.gql_machine.specs.SessionState.{SessionState, starting}
+use Rattle.gql_machine.specs.SessionState.{starting}
 use Rattle.gql_session.specs.Words.{Command, run, selftest, command_of, store_of}
 use Rattle.gql_session.specs.GeneratedText.{generated}
 use Rattle.gql_session.specs.Endings.{FaultCounts, RanWhole, RanFirst, RanAndFailed}

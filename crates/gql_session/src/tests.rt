@@ -18,7 +18,10 @@ use std::test::Fail;
 #[derive(Clone, Copy)]
 struct Case<'a> {
     shows: &'a str,
+    words: &'a str,
     text: &'a str,
+    /// The name of the store that the records are kept in, or none in memory.
+    store: Option<&'a str>,
     /// The records that are kept, keys and values in hex.
     records: &'a [(&'a str, &'a str)],
     fails: Fails,
@@ -40,7 +43,9 @@ const NONE: Fails = Fails {
     keeper: 0,
 };
 
-const WORDS: [&str; 3] = ["gql", "run", "s"];
+const WORDS: &str = "gql run s";
+
+const OVER_K: &str = "gql run s --store k";
 
 const QUERY: &str = "FOR x IN [] RETURN x;";
 
@@ -100,9 +105,10 @@ fn numbers_of(alloc: Global, number: u64) -> Result<Numbers, Fail> {
     Ok(numbers)
 }
 
-fn words_of(alloc: Global, words: &[&str]) -> Result<Vec<String>, Fail> {
+/// The words, which stand apart by one space each.
+fn words_of(alloc: Global, words: &str) -> Result<Vec<String>, Fail> {
     let mut all = Vec::new(alloc);
-    for word in words {
+    for word in words.split(' ') {
         all.push(String::from_str(alloc, word)?)?;
     }
     Ok(all)
@@ -130,9 +136,21 @@ fn sink_of(alloc: Global, fails: u64) -> Result<MemSink, Fail> {
     })
 }
 
-fn keeper_of(alloc: Global, records: Records, fails: u64) -> Result<MemKeeper, Fail> {
+fn name_of(alloc: Global, store: Option<&str>) -> Result<Option<Text>, Fail> {
+    match store {
+        Some(store) => Ok(Some(Text::from_str(alloc, store)?)),
+        None => Ok(None),
+    }
+}
+
+fn keeper_of(
+    alloc: Global,
+    name: Option<Text>,
+    records: Records,
+    fails: u64,
+) -> Result<MemKeeper, Fail> {
     Ok(MemKeeper {
-        name: None,
+        name,
         records,
         fails: numbers_of(alloc, fails)?,
         calls: 0,
@@ -144,27 +162,31 @@ fn keeper_of(alloc: Global, records: Records, fails: u64) -> Result<MemKeeper, F
 fn outcome_of<M: Matcher<Graph>>(
     alloc: Global,
     matcher: &M,
-    words: &[&str],
     case: &Case<'_>,
 ) -> Result<(u8, Bytes), Fail> {
     let text = Bytes::from_vec(Vec::from_slice(alloc, case.text.as_bytes())?);
-    let words = words_of(alloc, words)?;
-    let records = records_of(alloc, case.records)?;
+    let words = words_of(alloc, case.words)?;
     let mut source = source_of(alloc, text, case.fails.source)?;
     let mut sink = sink_of(alloc, case.fails.sink)?;
-    let mut keeper = keeper_of(alloc, records, case.fails.keeper)?;
+    let mut keeper = kept_by(alloc, case)?;
     let status = run(alloc, matcher, &words, &mut source, &mut sink, &mut keeper);
     Ok((code(&status), sink.bytes))
+}
+
+/// The keeper of the case's records.
+fn kept_by(alloc: Global, case: &Case<'_>) -> Result<MemKeeper, Fail> {
+    let records = records_of(alloc, case.records)?;
+    let name = name_of(alloc, case.store)?;
+    keeper_of(alloc, name, records, case.fails.keeper)
 }
 
 fn check<M: Matcher<Graph>>(
     rt: &impl Abort,
     alloc: Global,
     matcher: &M,
-    words: &[&str],
     case: &Case<'_>,
 ) -> Result<(), Fail> {
-    let (status, written) = outcome_of(alloc, matcher, words, case)?;
+    let (status, written) = outcome_of(alloc, matcher, case)?;
     assert_eq!(rt; status, case.status, "{}", case.shows);
     assert_eq!(rt;
         written.as_slice(),
@@ -190,11 +212,37 @@ const fn failing<'a>(
 ) -> Case<'a> {
     Case {
         shows,
+        words: WORDS,
         text,
+        store: None,
         records: &TWO_NODES,
         fails,
         status,
         written,
+    }
+}
+
+/// These words, over the two nodes.
+const fn by_words<'a>(shows: &'a str, words: &'a str, status: u8, written: &'a str) -> Case<'a> {
+    Case {
+        words,
+        ..plain(shows, QUERY, status, written)
+    }
+}
+
+/// An insertion over a full graph, which is kept under that name.
+const fn in_store<'a>(
+    shows: &'a str,
+    words: &'a str,
+    store: Option<&'a str>,
+    status: u8,
+    written: &'a str,
+) -> Case<'a> {
+    Case {
+        words,
+        store,
+        records: &FULL,
+        ..plain(shows, INSERT, status, written)
     }
 }
 
@@ -218,12 +266,18 @@ fn check_all<M: Matcher<Graph>>(
     cases: &[Case<'_>],
 ) -> Result<(), Fail> {
     for case in cases {
-        check(rt, alloc, matcher, &WORDS, case)?;
+        check(rt, alloc, matcher, case)?;
     }
     Ok(())
 }
 
 const SYNTAX: &str = "refused E03 SYNTAX\n";
+
+const INSERT: &str = "INSERT (:A);";
+
+const FULL_NODE: &str = "refused E24 FULL NODE\n";
+
+const ROWS: &str = "x\nrows 0\n";
 
 #[test]
 fn faults_have_their_statuses(rt: HostRuntime) -> Result<(), Fail> {
@@ -246,33 +300,54 @@ fn faults_have_their_statuses(rt: HostRuntime) -> Result<(), Fail> {
         failing("the output fails later", "a;b;c", sink(2), 4, SYNTAX),
         failing("the store can't be opened", QUERY, keeper(1), 5, ""),
         failing("the store can't be read", QUERY, keeper(4), 5, ""),
+        failing(
+            "the store refuses what is kept",
+            "INSERT (:A); FOR x IN [] RETURN x;",
+            keeper(6),
+            1,
+            "refused E22 STORE\nx\nrows 0\n",
+        ),
     ];
     check_all(&rt, rt.alloc(), &NoMatcher::<HostRuntime>::new(), &cases)
 }
 
 #[test]
-fn words_and_records_have_their_statuses(rt: HostRuntime) -> Result<(), Fail> {
-    let alloc = rt.alloc();
-    let matcher = NoMatcher::<HostRuntime>::new();
-    let usage = plain("no command", QUERY, 2, "");
-    check(&rt, alloc, &matcher, &["gql", "run", "a", "b"], &usage)?;
-    check(&rt, alloc, &matcher, &["gql", "go", "s"], &usage)?;
+fn words_have_their_statuses(rt: HostRuntime) -> Result<(), Fail> {
+    let fails = Fails { source: 1, ..NONE };
+    let selftest = Case {
+        words: "gql selftest 1",
+        ..failing("the source isn't asked", QUERY, fails, 6, "ok\n")
+    };
+    let cases = [
+        by_words("no session", "gql run", 2, ""),
+        by_words("two sessions", "gql run s t", 2, ""),
+        by_words("another command", "gql go s", 2, ""),
+        by_words("help", "gql run --help", 2, ""),
+        by_words("an option", "gql run s --fast", 2, ""),
+        by_words("a store without a name", "gql run s --store", 2, ""),
+        by_words("no worker", "gql run s --workers 0", 2, ""),
+        by_words("64 workers", "gql run s --workers 64", 0, ROWS),
+        by_words("65 workers", "gql run s --workers 65", 2, ""),
+        by_words("no size", "gql selftest", 2, ""),
+        by_words("too large a size", "gql selftest 5001", 2, ""),
+        selftest,
+    ];
+    check_all(&rt, rt.alloc(), &NoMatcher::<HostRuntime>::new(), &cases)
+}
+
+#[test]
+fn records_have_their_statuses(rt: HostRuntime) -> Result<(), Fail> {
     let all = TWO_NODES;
     let cases = [
         over("records without a version", &all[1..], 8, ""),
         over("no graph home", &all[..1], 1, "refused E06 NO_SUCH home\n"),
-        over("no records", &[], 0, "x\nrows 0\n"),
-        Case {
-            records: &FULL,
-            ..plain(
-                "no number is left",
-                "INSERT (:A);",
-                1,
-                "refused E24 FULL NODE\n",
-            )
-        },
+        over("no records", &[], 0, ROWS),
+        in_store("no number is left", WORDS, None, 1, FULL_NODE),
+        in_store("the store of that name", OVER_K, Some("k"), 1, FULL_NODE),
+        in_store("another store", OVER_K, Some("l"), 0, "ok\n"),
+        in_store("no store", WORDS, Some("k"), 0, "ok\n"),
     ];
-    check_all(&rt, alloc, &matcher, &cases)
+    check_all(&rt, rt.alloc(), &NoMatcher::<HostRuntime>::new(), &cases)
 }
 
 /// One byte more than a session may have, and all white space.
@@ -283,8 +358,8 @@ fn a_text_past_the_limit_is_not_run(rt: HostRuntime) -> Result<(), Fail> {
     let mut source = source_of(alloc, text, 0)?;
     source.piece = 1 << 20;
     let mut sink = sink_of(alloc, 0)?;
-    let mut keeper = keeper_of(alloc, Records::new(alloc), 0)?;
-    let words = words_of(alloc, &WORDS)?;
+    let mut keeper = keeper_of(alloc, None, Records::new(alloc), 0)?;
+    let words = words_of(alloc, WORDS)?;
     let matcher = NoMatcher::<HostRuntime>::new();
     let status = run(alloc, &matcher, &words, &mut source, &mut sink, &mut keeper);
     assert_eq!(rt; code(&status), 7);
