@@ -4,6 +4,7 @@ pub mod StateRefusals
 pub mod SessionState
 pub mod Reading
 pub mod Outcomes
+pub mod PieceRun
 pub mod Causes
 pub mod Choices
 pub mod TypedGraphs

@@ -3,7 +3,7 @@
 -- Behind an answered statement with no transaction open there is a commit point: behind each statement outside a transaction, and
 -- behind COMMIT and ROLLBACK. Where the catalog is the kept one nothing happens there. Otherwise it becomes the kept one; or the
 -- store refuses (E22), and then the catalog is the kept one again.
-use Rattle.std.specs.Prelude.{◌≡◌, ◌≢◌, ◌⊎◌, Bool, true, false, not, ◌&&◌, is_some, if◌then◌else◌, ℕ, List, [], ◌∷◌, ◌++◌}
+use Rattle.std.specs.Prelude.{◌≡◌, ◌≢◌, ◌⊎◌, Bool, true, false, not, ◌&&◌, is_some, ℕ, List, [], ◌∷◌, ◌++◌}
 use Rattle.gql_ast.specs.declared.refusal.Outcome.{Outcome}
 use Rattle.gql_ast.specs.declared.refusal.Outcome.TheVariants as outcome
 use Rattle.gql_ast.specs.declared.refusal.Refusal.{Refusal}
@@ -16,7 +16,7 @@ use Rattle.gql_machine.specs.StatementRun.{StatementEnd, StatementMayRun}
 
 -- the statement was answered, and no transaction is open behind it
 abbrev pub is_commit_point : StatementEnd → Bool
-is_commit_point end = not (is_refusal end.outcome) && not (is_some end.after.open)
+is_commit_point end = not (is_refusal end.outcome) && not (is_some end.after.access)
 
 -- what was changed is kept
 abbrev pub IsKept : StatementEnd → Outcome → SessionState → Type 0
@@ -26,13 +26,16 @@ IsKept end made after = (made ≡ end.outcome) × (after ≡ record end.after { 
 pub record IsRefusedByStore (end : StatementEnd) (made : Outcome) (after : SessionState) : Type 0 where
   pub changed : end.after.catalog ≢ end.after.kept
   pub outcome : made ≡ outcome.Refused refusal.Store
-  pub after : after ≡ record end.after { catalog = end.after.kept }
+  pub undone : after ≡ record end.after { catalog = end.after.kept }
+
+-- at a commit point it is kept or refused; elsewhere it stays as it ended
+abbrev pub SettlesAt : Bool → StatementEnd → Outcome → SessionState → Type 0
+SettlesAt true end made after = IsKept end made after ⊎ IsRefusedByStore end made after
+SettlesAt false end made after = (made ≡ end.outcome) × (after ≡ end.after)
 
 -- how a statement that ended so is answered, and the state behind it
 abbrev pub Settles : StatementEnd → Outcome → SessionState → Type 0
-Settles end made after =
-    if is_commit_point end then IsKept end made after ⊎ IsRefusedByStore end made after
-    else ((made ≡ end.outcome) × (after ≡ end.after))
+Settles end made after = SettlesAt (is_commit_point end) end made after
 
 -- a piece that is no statement is refused
 abbrev pub IsRefused : SessionState → Refusal → List Outcome → SessionState → Type 0

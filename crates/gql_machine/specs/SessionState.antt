@@ -15,7 +15,7 @@ ParameterList = List (List ℕ × Datum)
 pub record SessionState : Type 0 where
   pub catalog : CatalogData
   pub kept : CatalogData
-  pub open : Option AccessMode
+  pub access : Option AccessMode
   pub graph : List ℕ
   pub parameters : ParameterList
   pub is_closed : Bool
@@ -26,7 +26,7 @@ home = codes "home"
 
 -- at the start both catalogs are one, no transaction is open, and no parameter is set
 abbrev pub starting : CatalogData → SessionState
-starting c = record { catalog = c; kept = c; open = None; graph = home; parameters = []; is_closed = false }
+starting c = record { catalog = c; kept = c; access = None; graph = home; parameters = []; is_closed = false }
 
 abbrev pub with_parameters : SessionState → ParameterList → SessionState
 with_parameters s ps = record s { parameters = ps }
@@ -35,7 +35,7 @@ abbrev pub with_catalog : SessionState → CatalogData → SessionState
 with_catalog s c = record s { catalog = c }
 
 abbrev pub with_open : SessionState → Option AccessMode → SessionState
-with_open s t = record s { open = t }
+with_open s t = record s { access = t }
 
 abbrev pub with_current : SessionState → List ℕ → SessionState
 with_current s name = record s { graph = name }
@@ -46,7 +46,7 @@ with_graph s g = with_catalog s (replaced s.graph g s.catalog)
 
 -- the catalog is the kept one again, and no transaction is open
 abbrev pub rolled_back : SessionState → SessionState
-rolled_back s = record s { catalog = s.kept; open = None }
+rolled_back s = record s { catalog = s.kept; access = None }
 
 abbrev pub closed : SessionState → SessionState
 closed s = record (rolled_back s) { is_closed = true }

@@ -1,12 +1,10 @@
 -- The static refusals that look at the state: what isn't there (E06), what is there already (E07), and what the open transaction does
 -- not allow (E17).
-use Rattle.std.specs.Prelude.{ℕ, Bool, true, false, ◌&&◌, is_some, if◌then◌else◌, List, Option, Some, None, option_map, find}
-use Rattle.gql_values3.specs.Texts.{same_text}
+use Rattle.std.specs.Prelude.{ℕ, Bool, true, false, not, ◌&&◌, is_some, if◌then◌else◌, List, Option, Some, None, option_map, find}
 use Rattle.gql_ast.specs.declared.refusal.Refusal.{Refusal}
 use Rattle.gql_ast.specs.declared.refusal.Refusal.TheVariants as refusal
 use Rattle.gql_ast.specs.declared.statement.AccessMode.{AccessMode}
-use Rattle.gql_ast.specs.declared.statement.AccessMode.TheVariants as access
-use Rattle.gql_ast.specs.declared.statement.TransactionStatement.{TransactionStatement}
+use Rattle.gql_ast.specs.declared.statement.AccessMode.TheVariants as mode
 use Rattle.gql_ast.specs.declared.statement.TransactionStatement.TheVariants as transaction
 use Rattle.gql_ast.specs.declared.statement.GraphKind.{GraphKind}
 use Rattle.gql_ast.specs.declared.statement.GraphKind.TheVariants as kind
@@ -18,6 +16,7 @@ use Rattle.gql_ast.specs.declared.statement.Statement.{Statement}
 use Rattle.gql_ast.specs.declared.statement.Statement.TheVariants as statement
 use Rattle.gql_graph.specs.Catalog.{CatalogGraph, CatalogData, held_in, type_in}
 use Rattle.gql_linear.specs.QueryRun.{changes_data}
+use Rattle.gql_txn.specs.Edits.{is_named}
 use Rattle.gql_machine.specs.SessionState.{SessionState}
 
 -- ---- E06 NO_SUCH
@@ -67,12 +66,9 @@ abbrev pub taken_if : {X : Type 0} → Bool → List ℕ → Option X → Option
 taken_if lenient name None = None
 taken_if lenient name (Some x) = unless lenient (Some (refusal.Exists name))
 
+-- the graph's type has this name
 abbrev pub has_type : List ℕ → CatalogGraph → Bool
-has_type name g = holds g.kind
-  where
-    holds : Option (List ℕ) → Bool
-    holds None = false
-    holds (Some kind) = same_text name kind
+has_type name g = is_named name g.kind
 
 -- the least graph of the type, as graphs stand by ascending name
 abbrev pub graph_of_type : CatalogData → List ℕ → Option (List ℕ)
@@ -92,19 +88,17 @@ taken_refusal s _ = None
 -- ---- E17 TRANSACTION
 
 abbrev pub is_read_only : Option AccessMode → Bool
-is_read_only (Some access.ReadOnly) = true
+is_read_only (Some mode.ReadOnly) = true
 is_read_only _ = false
 
 -- START where a transaction is open, COMMIT and ROLLBACK where none is, and what changes something in a READ ONLY transaction
 abbrev pub is_out_of_place : Option AccessMode → Statement → Bool
-is_out_of_place open (statement.Query q) = changes_data q && is_read_only open
-is_out_of_place open (statement.Session t) = false
-is_out_of_place open (statement.Transaction (transaction.Start mode)) = is_some open
-is_out_of_place None (statement.Transaction transaction.Commit) = true
-is_out_of_place (Some mode) (statement.Transaction transaction.Commit) = false
-is_out_of_place None (statement.Transaction transaction.Rollback) = true
-is_out_of_place (Some mode) (statement.Transaction transaction.Rollback) = false
-is_out_of_place open (statement.Catalog t) = is_read_only open
+is_out_of_place access (statement.Query q) = changes_data q && is_read_only access
+is_out_of_place access (statement.Session t) = false
+is_out_of_place access (statement.Transaction (transaction.Start m)) = is_some access
+is_out_of_place access (statement.Transaction transaction.Commit) = not (is_some access)
+is_out_of_place access (statement.Transaction transaction.Rollback) = not (is_some access)
+is_out_of_place access (statement.Catalog t) = is_read_only access
 
 abbrev pub transaction_refusal : SessionState → Statement → Option Refusal
-transaction_refusal s t = if is_out_of_place s.open t then Some refusal.Transaction else None
+transaction_refusal s t = if is_out_of_place s.access t then Some refusal.Transaction else None

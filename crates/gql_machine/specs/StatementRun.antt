@@ -8,7 +8,6 @@ use Rattle.std.specs.Prelude.{◌≡◌, ℕ, ℤ, List, [], Option, Some, None,
 use Rattle.std.specs.Fmt.{signed_decimal}
 use Rattle.std.specs.Option.{option_or}
 use Rattle.gql_values3.specs.Datum.{Datum}
-use Rattle.gql_values3.specs.PropertyGraph.{PropertyGraph}
 use Rattle.gql_values3.specs.declared.element.Elem.{Elem}
 use Rattle.gql_values3.specs.declared.table.Table.{Table}
 use Rattle.gql_ast.specs.Meaning.{tree_of}
@@ -16,7 +15,6 @@ use Rattle.gql_ast.specs.Evaluation.{value_of}
 use Rattle.gql_ast.specs.NumberLiterals.{wide_number}
 use Rattle.gql_ast.specs.declared.clause.Query.{Query}
 use Rattle.gql_ast.specs.declared.fault.DataFault.{DataFault}
-use Rattle.gql_ast.specs.declared.graph_type.TypeBody.{TypeBody}
 use Rattle.gql_ast.specs.declared.refusal.Outcome.{Outcome}
 use Rattle.gql_ast.specs.declared.refusal.Outcome.TheVariants as outcome
 use Rattle.gql_ast.specs.declared.refusal.Refusal.{Refusal}
@@ -31,7 +29,8 @@ use Rattle.gql_ast.specs.declared.statement.TransactionStatement.{TransactionSta
 use Rattle.gql_ast.specs.declared.statement.TransactionStatement.TheVariants as transaction
 use Rattle.gql_ast.specs.declared.statement.Statement.{Statement}
 use Rattle.gql_ast.specs.declared.statement.Statement.TheVariants as statement
-use Rattle.gql_graph.specs.Catalog.{CatalogData, held_in, type_in, with_graph, without_graph, with_type, without_type} as in_catalog
+use Rattle.gql_graph.specs.Catalog as in_catalog
+use Rattle.gql_graph.specs.Catalog.{CatalogData, held_in, type_in, without_graph, with_type, without_type}
 use Rattle.gql_linear.specs.QueryRun.{Working, answer_table, changes_data, QueryMayRun}
 use Rattle.gql_scope.specs.StatementBounds.{bound_of_statement}
 use Rattle.gql_scope.specs.WholePatterns.{whole_refusal}

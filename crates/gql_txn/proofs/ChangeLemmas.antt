@@ -1,5 +1,5 @@
 -- What is put and what is dropped leads from the one list of records to the other, and no key is told twice.
-use Rattle.std.proofs.Common.{◌≡◌, ◌≢◌, ℕ, Bool, true, false, cond, not, List, [], ◌∷◌, ◌++◌, map, Option, Some, None, refl, sym, ap, ◌∙◌}
+use Rattle.std.proofs.Common.{◌≡◌, ◌≢◌, Bool, true, false, cond, not, ℕ, zero, suc, ◌+◌, List, [], ◌∷◌, ◌++◌, map, take, slice_get, Option, Some, None, refl, sym, ap, ◌∙◌, add-one}
 use Rattle.std.specs.Prelude.{filter, is_some, ◌&&◌, ◌||◌, if◌then◌else◌}
 use Rattle.std.specs.List.{AllByRecursion, list_any}
 use Rattle.std.proofs.lemmas.Bool.{and_from, and_parts}
@@ -8,6 +8,9 @@ use Rattle.gql_ports.specs.Held.{keys_ascend, value_at, value_after}
 use Rattle.gql_ports.specs.declared.stored.Record.{Record}
 use Rattle.gql_rowcode.proofs.OrderingLists.{all_weaker}
 use Rattle.gql_txn.specs.Machinery.Changes.{is_value, has_record, has_key, puts_of, drops_of}
+use Rattle.std.proofs.lemmas.List.{append-nil}
+use Rattle.std.proofs.lemmas.List.Elements.{filter-append}
+use Rattle.gql_txn.proofs.LoadLemmas.{take-next}
 use Rattle.gql_txn.proofs.ValueLemmas.{record_with, same_itself, same_is, rest_ascends, value_first, value_behind, first_once}
 
 -- ---- what stands at a key among the records that pass a test
@@ -175,3 +178,26 @@ changes_differ before after up up' =
     (passed_differ (λ (r : Record). not (has_record before r)) after up') (passed_differ (λ (r : Record). not (has_key after r)) before up)
     (all_weaker (HasValue after) (λ (r : Record). list_any (same_text r.key) (drops_of before after) ≡ false) (λ r there. not_dropped before after r up there) (puts_of before after)
     (all_of_filter (HasValue after) (λ (r : Record). not (has_record before r)) after (all_have_value after)))
+
+-- ---- one record more
+
+pub passes_more : (test : Record → Bool) (xs : List Record) (i : ℕ) (x : Record) → slice_get xs i ≡ Some x → test x ≡ true → filter test (take (i + 1) xs) ≡ filter test (take i xs) ++ x ∷ []
+passes_more test xs i x here passes =
+    ap (filter test) (take-next xs i x here) ∙ filter-append test (take i xs) (x ∷ []) ∙ ap (λ (b : Bool). filter test (take i xs) ++ cond b (x ∷ []) []) passes
+
+pub fails_more : (test : Record → Bool) (xs : List Record) (i : ℕ) (x : Record) → slice_get xs i ≡ Some x → test x ≡ false → filter test (take (i + 1) xs) ≡ filter test (take i xs)
+fails_more test xs i x here fails =
+    ap (filter test) (take-next xs i x here) ∙ filter-append test (take i xs) (x ∷ []) ∙ ap (λ (b : Bool). filter test (take i xs) ++ cond b (x ∷ []) []) fails ∙ append-nil (filter test (take i xs))
+
+pub ends_more : (xs : List Record) (i : ℕ) → slice_get xs i ≡ None → take (i + 1) xs ≡ take i xs
+ends_more xs i none = rw add-one (ends_at xs i none)
+  where
+    ends_at : (xs : List Record) (i : ℕ) → slice_get xs i ≡ None → take (suc i) xs ≡ take i xs
+    ends_at [] zero h = refl
+    ends_at [] (suc i) h = refl
+    ends_at (x ∷ xs) zero h = absurd cc
+    ends_at (x ∷ xs) (suc i) h = ap (λ (rs : List Record). x ∷ rs) (ends_at xs i h)
+
+-- those that were made so
+pub differ_by : (before after puts : List Record) (drops : List (List ℕ)) → keys_ascend before ≡ true → keys_ascend after ≡ true → puts ≡ puts_of before after → drops ≡ drops_of before after → texts_differ (keys puts ++ drops) ≡ true
+differ_by before after puts drops up up' are are' = (λ i. texts_differ (keys (are i) ++ are' i)) ∙ changes_differ before after up up'

@@ -1,5 +1,5 @@
 -- Each change of a sound catalog leaves a sound one.
-use Rattle.std.proofs.Common.{◌≡◌, ◌≢◌, ℕ, Bool, true, false, cond, not, ◌&&◌, List, [], ◌∷◌, map, Option, Some, None, refl, sym, ap, ◌∙◌}
+use Rattle.std.proofs.Common.{◌≡◌, ◌≢◌, ℕ, Bool, true, false, cond, not, ◌&&◌, List, [], ◌∷◌, map, Option, Some, None, refl, sym, ap, ◌∙◌, IsTrue}
 use Rattle.std.specs.Prelude.{find, filter, is_some, option_map, if◌then◌else◌}
 use Rattle.std.specs.Option.{option_or}
 use Rattle.std.specs.List.{AllByRecursion, list_all}
@@ -10,7 +10,7 @@ use Rattle.gql_values3.specs.declared.element.Elem.{Elem}
 use Rattle.gql_values3.specs.declared.element.Elem.TheVariants as elem
 use Rattle.gql_values3.specs.declared.records.NodeRecord.{NodeRecord}
 use Rattle.gql_values3.specs.declared.records.EdgeRecord.{EdgeRecord}
-use Rattle.gql_graph.specs.Catalog.{CatalogGraph, CatalogData, is_catalog, named, put_named, without_named, is_below, held_in, type_in, with_graph, without_graph, with_type, without_type, replaced, empty_graph}
+use Rattle.gql_graph.specs.Catalog.{CatalogGraph, CatalogData, is_catalog, named, put_named, without_named, is_before, held_in, type_in, with_graph, without_graph, with_type, without_type, replaced, empty_graph}
 use Rattle.gql_graph.specs.declared.graph_type.GraphType.{GraphType}
 use Rattle.gql_graph.proofs.CatalogLemmas.{names}
 use Rattle.gql_graph.proofs.NamedLemmas.{list_all-put, list_all-without}
@@ -19,8 +19,9 @@ use Rattle.gql_type.specs.GraphTypes.{is_graph_type}
 use Rattle.gql_type.specs.SoundCatalog.{conforms_to, fits_kind, is_sound}
 use Rattle.gql_rowcode.proofs.OrderingLists.{Pairs, all_of_map}
 use Rattle.gql_rowcode.proofs.OrderingKeys.{names_differ}
-use Rattle.gql_txn.specs.TxnData.{type_named, type_of_held, misfit_under, misfit_in, new_graph}
+use Rattle.gql_txn.specs.TxnData.{type_named, type_of_held, type_of_graph, misfit_under, misfit_in, new_graph}
 use Rattle.gql_txn.specs.Edits.{is_named, is_unused}
+use Rattle.gql_txn.specs.Machinery.Meaning.{kept_of}
 use Rattle.gql_txn.proofs.ValueLemmas.{same_itself, same_is, other_key}
 
 -- ---- soundness, part by part
@@ -60,6 +61,13 @@ all_both_too p r q too (x ∷ xs) h k =
     let parts = and_parts (p x) (list_all p xs) h in
     let others = and_parts (r x) (list_all r xs) k in
     and_from (q x) (list_all q xs) (too x parts.0 others.0) (all_both_too p r q too xs parts.1 others.1)
+
+-- what a change made is sound, and so is the kept catalog, which is a copy now
+pub sound_after : (new made : CatalogData) → new ≡ made → is_catalog new ≡ true → (is_catalog made ≡ true → is_sound made ≡ true) → is_sound new ≡ true
+sound_after new made e one sound = ap is_sound e ∙ sound (ap is_catalog (sym e) ∙ one)
+
+pub both_sound : (old new : CatalogData) (kept copied : Option CatalogData) → is_sound new ≡ true → is_sound (kept_of old kept) ≡ true → copied ≡ Some (kept_of old kept) → IsTrue (is_sound new) × IsTrue (is_sound (kept_of new copied))
+both_sound old new kept copied sound was e = (sound, ap (λ (k : Option CatalogData). is_sound (kept_of new k)) e ∙ was)
 
 -- ---- graphs come and go
 
@@ -106,7 +114,7 @@ either_named n o false ys zs p q = q
 named_put : {X : Type 0} (n name : List ℕ) (x : X) (ys : List (List ℕ × X)) → same_text n name ≡ false → named n (put_named name x ys) ≡ named n ys
 named_put n name x [] apart = named_behind n (name, x) [] apart
 named_put n name x (y ∷ ys) apart =
-    either_named n (named n (y ∷ ys)) (is_below name y.0) ((name, x) ∷ y ∷ ys) (y ∷ put_named name x ys)
+    either_named n (named n (y ∷ ys)) (is_before name y.0) ((name, x) ∷ y ∷ ys) (y ∷ put_named name x ys)
     (named_behind n (name, x) (y ∷ ys) apart) (named_step n y (put_named name x ys) ys (named_put n name x ys apart))
 
 named_without : {X : Type 0} (n name : List ℕ) (ys : List (List ℕ × X)) → n ≢ name → named n (without_named name ys) ≡ named n ys
@@ -150,6 +158,32 @@ sound_without_type name c h unused one =
     let parts = parts_of c h in
     sound_by (without_type name c) one (list_all-without name is_type c.types parts.types)
     (all_both_too (fits c.types) (λ (p : List ℕ × CatalogGraph). not (is_named name p.1.kind)) (fits (without_named name c.types)) (λ g fit free. without_fits c.types name g.1.graph g.1.kind fit free) c.graphs parts.graphs unused)
+
+-- a type that is found by its name is one
+found_passes : (n : List ℕ) (ts : List (List ℕ × GraphType)) (t : GraphType) → named n ts ≡ Some t → list_all is_type ts ≡ true → is_graph_type t ≡ true
+found_passes n [] t e all = absurd cc
+found_passes n (s ∷ ts) t e all =
+    let parts = and_parts (is_type s) (list_all is_type ts) all in
+    by_case (same_text n s.0) refl parts.0 (λ behind. found_passes n ts t behind parts.1)
+  where
+    by_case : (b : Bool) → same_text n s.0 ≡ b → is_type s ≡ true → (named n ts ≡ Some t → is_graph_type t ≡ true) → is_graph_type t ≡ true
+    by_case true h here more =
+        let one : Some s.1 ≡ Some t = sym (named_first n s ts h) ∙ e in
+        let same : s.1 ≡ t = cc in
+        ap is_graph_type (sym same) ∙ here
+    by_case false h here more = more (sym (named_behind n s ts h) ∙ e)
+
+kind_passes : (types : List (List ℕ × GraphType)) (kind : Option (List ℕ)) (t : GraphType) → list_all is_type types ≡ true → type_named types kind ≡ Some t → is_graph_type t ≡ true
+kind_passes types None t all e = absurd cc
+kind_passes types (Some n) t all e = found_passes n types t e all
+
+held_passes : (c : CatalogData) (o : Option CatalogGraph) (t : GraphType) → list_all is_type c.types ≡ true → type_of_held c o ≡ Some t → is_graph_type t ≡ true
+held_passes c None t all e = absurd cc
+held_passes c (Some g) t all e = kind_passes c.types g.kind t all e
+
+-- the type of a graph is one
+pub type_passes : (c : CatalogData) (name : List ℕ) (t : GraphType) → is_sound c ≡ true → type_of_graph c name ≡ Some t → is_graph_type t ≡ true
+type_passes c name t h e = held_passes c (held_in c name) t (parts_of c h).types e
 
 -- ---- a graph in the place of another
 

@@ -1,6 +1,9 @@
 -- A store that was told what leads from the records of one catalog to those of another keeps the other.
 use Rattle.std.proofs.Common.{◌≡◌, ◌≢◌, ◌⊎◌, ℕ, zero, suc, ◌<◌, Bool, true, false, cond, not, List, [], ◌∷◌, ◌++◌, map, length, get_or, Option, Some, None, inl, inr, refl, sym, ap, subst, ◌∙◌, arith, IsTrue}
-use Rattle.std.specs.Prelude.{Contains, filter, is_some, IfSome}
+use Rattle.std.specs.Prelude.{Contains, filter, is_some, IfSome, Result, OnOk, ◌==◌, ◌&&◌}
+use Rattle.std.proofs.lemmas.Bool.{and_parts}
+use Rattle.std.proofs.lemmas.Bool.Decides.{nat_tests}
+use Rattle.std.proofs.lemmas.List.{nil_from_length}
 use Rattle.std.specs.List.{AllByRecursion}
 use Rattle.std.proofs.lemmas.List.Elements.{Contains-get_or, recursion_from_All}
 use Rattle.gql_graph.specs.Catalog.{CatalogData, initial_catalog}
@@ -10,6 +13,7 @@ use Rattle.gql_ports.specs.declared.stored.Record.{Record}
 use Rattle.gql_rowcode.specs.Records.{Form, record_of}
 use Rattle.gql_rowcode.specs.StandFor.{catalog_forms, AreRecordsOf, StandFor}
 use Rattle.gql_rowcode.proofs.OrderingLists.{all_weaker}
+use Rattle.gql_rowcode.proofs.ReadLemmas.{stand_for_one}
 use Rattle.gql_txn.specs.Keeps.{Keeps, IsSameStore}
 use Rattle.gql_txn.specs.Machinery.Changes.{is_value, has_record, has_key, puts_of, gone_of, drops_of}
 use Rattle.gql_txn.specs.Machinery.Storing.{AppliesInOrder, Leads}
@@ -61,7 +65,7 @@ leads_empty before after h k up none told =
     record { name = told.0.name; held = λ e. all; empty = λ e. inl all }
 
 -- where nothing is to be told, both are the same records
-nothing_told : (before after puts : List Record) (drops : List (List ℕ)) → keys_ascend before ≡ true → keys_ascend after ≡ true → puts ≡ [] → drops ≡ [] → puts ≡ puts_of before after → drops ≡ drops_of before after → after ≡ before
+pub nothing_told : (before after puts : List Record) (drops : List (List ℕ)) → keys_ascend before ≡ true → keys_ascend after ≡ true → puts ≡ [] → drops ≡ [] → puts ≡ puts_of before after → drops ≡ drops_of before after → after ≡ before
 nothing_told before after puts drops up up' none none' are are' =
     same_records after before up' up (λ key.
     sym (changes_lead before after up up' key)
@@ -115,32 +119,66 @@ pub told_itself : {A : Type 0} (R : A → A → Type 0) (a : Option A) → ((x :
 told_itself R None all = tt
 told_itself R (Some x) all = all x
 
+-- what was told by other names
+pub told_as : {E : Type 0} (r : Result (Unit {0}) E) (a b : Option Holding) (ps qs : List Record) (ks ls : List (List ℕ)) → ps ≡ qs → ks ≡ ls → OnOk r (MatchTold a b (AppliesInOrder ps ks)) → OnOk r (MatchTold a b (AppliesInOrder qs ls))
+told_as r a b ps qs ks ls p q told =
+    subst (λ (xs : List Record). OnOk r (MatchTold a b (AppliesInOrder xs ls))) p (subst (λ (ys : List (List ℕ)). OnOk r (MatchTold a b (AppliesInOrder ps ys))) q told)
+
 -- a store of which nothing changed is the same one
 pub same_store : (a b : Option Holding) → b ≡ a → IsSameStore a b
 same_store a b e = subst (IsSameStore a) (sym e) (told_itself (λ (x y : Holding). y.name ≡ x.name) a (λ x. refl))
 
+-- a store that tells that it has no records
+pub told_empty : (a : Option Holding) (n : ℕ) (h : Holding) → IfSome a (λ (k : Holding). n ≡ length k.records) → n ≡ 0 → a ≡ Some h → h.records ≡ []
+told_empty None n h count none e = absurd cc
+told_empty (Some k) n h count none e =
+    let same : k ≡ h = cc in
+    ap (λ (x : Holding). x.records) (sym same) ∙ nil_from_length k.records (sym count ∙ none)
+
+-- and one that tells that it has some
+pub told_some : (a : Option Holding) (n : ℕ) (h : Holding) → IfSome a (λ (k : Holding). n ≡ length k.records) → (n ≡ 0 → ⊥) → a ≡ Some h → h.records ≡ [] → ⊥
+told_some None n h count some e none = absurd cc
+told_some (Some k) n h count some e none =
+    let same : k ≡ h = cc in
+    some (count ∙ ap (λ (x : Holding). length x.records) same ∙ ap (λ (rs : List Record). length rs) none)
+
+-- a list without items
+pub is_empty : {A : Type 0} (xs : List A) → (length xs == 0) ≡ true → xs ≡ []
+is_empty [] h = refl
+is_empty (x ∷ xs) h = nil_from_length (x ∷ xs) (grind (arith, nat_tests))
+
+-- both lists have no items
+pub both_empty : {A B : Type 0} (xs : List A) (ys : List B) (b : Bool) → b ≡ ((length xs == 0) && (length ys == 0)) → b ≡ true → (xs ≡ []) × (ys ≡ [])
+both_empty xs ys b e t =
+    let parts = and_parts (length xs == 0) (length ys == 0) (sym e ∙ t) in
+    (is_empty xs parts.0, is_empty ys parts.1)
+
+pub not_both_empty : {A B : Type 0} (xs : List A) (ys : List B) (b : Bool) → b ≡ ((length xs == 0) && (length ys == 0)) → b ≡ false → xs ≡ [] → ys ≡ [] → ⊥
+not_both_empty xs ys b e f p q =
+    let never : true ≡ false = (λ i. (length (sym p i) == 0) && (length (sym q i) == 0)) ∙ sym e ∙ f in
+    cc
+
 -- ---- the store keeps the other catalog
 
-module _ (single : (rs : List Record) (c d : CatalogData) → StandFor rs c → StandFor rs d → c ≡ d) where
-  kept_case : (rs : List Record) (before after : List Record) (h k : Holding) (kept catalog : CatalogData) → h.records ≡ rs → AreRecordsOf before kept → StandFor before kept → StandFor after catalog
-      → StandFor rs kept → Leads before after h k → StandFor k.records catalog
-  kept_case [] before after h k kept catalog e are was is stands leads = by_case (leads.empty e)
-    where
-      by_case : (k.records ≡ after) ⊎ ((k.records ≡ []) × (after ≡ before)) → StandFor k.records catalog
-      by_case (inl all) = subst (λ (rs : List Record). StandFor rs catalog) (sym all) is
-      by_case (inr same) =
-          let one : catalog ≡ kept = single before catalog kept (subst (λ (rs : List Record). StandFor rs catalog) same.1 is) was in
-          subst (λ (rs : List Record). StandFor rs catalog) (sym same.0) (one ∙ stands)
-  kept_case (r ∷ rs) before after h k kept catalog e are was is stands leads =
-      let held : h.records ≡ before = e ∙ are_one (r ∷ rs) before kept (stand_as r rs kept stands) are in
-      subst (λ (rs : List Record). StandFor rs catalog) (sym (leads.held held)) is
+kept_case : (rs : List Record) (before after : List Record) (h k : Holding) (kept catalog : CatalogData) → h.records ≡ rs → AreRecordsOf before kept → StandFor before kept → StandFor after catalog
+    → StandFor rs kept → Leads before after h k → StandFor k.records catalog
+kept_case [] before after h k kept catalog e are was is stands leads = by_case (leads.empty e)
+  where
+    by_case : (k.records ≡ after) ⊎ ((k.records ≡ []) × (after ≡ before)) → StandFor k.records catalog
+    by_case (inl all) = subst (λ (rs : List Record). StandFor rs catalog) (sym all) is
+    by_case (inr same) =
+        let one : catalog ≡ kept = stand_for_one before catalog kept (subst (λ (rs : List Record). StandFor rs catalog) same.1 is) was in
+        subst (λ (rs : List Record). StandFor rs catalog) (sym same.0) (one ∙ stands)
+kept_case (r ∷ rs) before after h k kept catalog e are was is stands leads =
+    let held : h.records ≡ before = e ∙ are_one (r ∷ rs) before kept (stand_as r rs kept stands) are in
+    subst (λ (rs : List Record). StandFor rs catalog) (sym (leads.held held)) is
 
-  pub keeps_other : (a b : Option Holding) (before after : List Record) (kept catalog : CatalogData) → 0 < length before → StandFor before kept → StandFor after catalog → Keeps a kept → MatchTold a b (Leads before after) → Keeps b catalog
-  keeps_other None None before after kept catalog some was is keeps told = tt
-  keeps_other None (Some k) before after kept catalog some was is keeps told = absurd told
-  keeps_other (Some h) None before after kept catalog some was is keeps told = absurd told
-  keeps_other (Some h) (Some k) before after kept catalog some was is keeps told =
-      kept_case h.records before after h k kept catalog refl (some_stand before kept some was) was is keeps told
+pub keeps_other : (a b : Option Holding) (before after : List Record) (kept catalog : CatalogData) → 0 < length before → StandFor before kept → StandFor after catalog → Keeps a kept → MatchTold a b (Leads before after) → Keeps b catalog
+keeps_other None None before after kept catalog some was is keeps told = tt
+keeps_other None (Some k) before after kept catalog some was is keeps told = absurd told
+keeps_other (Some h) None before after kept catalog some was is keeps told = absurd told
+keeps_other (Some h) (Some k) before after kept catalog some was is keeps told =
+    kept_case h.records before after h k kept catalog refl (some_stand before kept some was) was is keeps told
 
 -- records of one catalog are one list
 pub same_catalog : (before after : List Record) (kept catalog : CatalogData) → 0 < length before → 0 < length after → StandFor before kept → StandFor after catalog → catalog ≡ kept → after ≡ before

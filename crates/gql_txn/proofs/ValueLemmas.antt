@@ -70,9 +70,10 @@ first_once x xs key up h =
 -- a key below all has no value
 below_absent : (x y : Record) (ys : List Record) → keys_ascend (y ∷ ys) ≡ true → text_cmp x.key y.key ≡ Less → value_at (y ∷ ys) x.key ≡ None
 below_absent x y ys up less =
-    value_absent (y ∷ ys) x.key
-    (less_differs x.key y.key less,
-    all_weaker (λ (r : Record). text_cmp y.key r.key ≡ Less) (λ (r : Record). x.key ≢ r.key) (λ r above. less_differs x.key r.key (nat_list_cmp_total.trans x.key y.key r.key less above)) ys (first_below y ys up))
+    value_absent (y ∷ ys) x.key (
+      less_differs x.key y.key less,
+      all_weaker (λ (r : Record). text_cmp y.key r.key ≡ Less) (λ (r : Record). x.key ≢ r.key) (λ r above. less_differs x.key r.key (nat_list_cmp_total.trans x.key y.key r.key less above)) ys (first_below y ys up),
+    )
 
 abbrev SameValues : List Record → List Record → Type 0
 SameValues xs ys = (key : List ℕ) → value_at xs key ≡ value_at ys key

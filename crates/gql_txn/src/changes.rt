@@ -1,7 +1,7 @@
 //! What a store is told so that it holds other records.
 
-ghost use Rattle.std.specs.Prelude.{◌≡◌, ◌++◌, [], ◌×◌, IfOk, IsTrue, map};
-ghost use Rattle.gql_values3.specs.Texts.{texts_differ};
+ghost use Rattle.std.specs.Prelude.{◌≡◌, ◌==◌, ◌&&◌, length, IfOk, IsTrue};
+ghost use Rattle.gql_ports.specs.Held.{keys_ascend};
 ghost use Rattle.gql_txn.specs.Machinery.Changes.{has_record, has_key, puts_of, drops_of};
 
 use gql_ports::{Key, Record, Records};
@@ -15,15 +15,24 @@ pub struct Changes {
     pub drops: Vec<Key>,
 }
 
+impl Changes {
+    /// Whether there are none.
+    pub fn is_none(&self) -> bool
+        ensures { result ≡ ((length self.now.puts.items == 0) && (length self.now.drops.items == 0)) }
+    {
+        self.puts.is_empty() && self.drops.is_empty()
+    }
+}
+
 /// What leads from the one list of records to the other.
-pub fn changes_of(
-    alloc: Global,
-    before: &Records,
-    after: &Records,
-) -> Result<Changes, OutOfMemory>
+pub fn changes_of(alloc: Global, before: &Records, after: &Records) -> Result<Changes, OutOfMemory>
     ensures puts { IfOk result (λ all. all.puts.items ≡ puts_of before.now after.now) }
     ensures drops { IfOk result (λ all. all.drops.items ≡ drops_of before.now after.now) }
+    ensures before { IsTrue (keys_ascend before.now) }
+    ensures after { IsTrue (keys_ascend after.now) }
 {
+    // The lengths' clauses say that the records are in order.
+    let (_, _) = (before.len(), after.len());
     Ok(Changes {
         puts: puts_of(alloc, before, after)?,
         drops: drops_of(alloc, before, after)?,
@@ -31,11 +40,7 @@ pub fn changes_of(
 }
 
 /// The records that are new or differ.
-fn puts_of(
-    alloc: Global,
-    before: &Records,
-    after: &Records,
-) -> Result<Vec<Record>, OutOfMemory>
+fn puts_of(alloc: Global, before: &Records, after: &Records) -> Result<Vec<Record>, OutOfMemory>
     ensures { IfOk result (λ puts. puts.items ≡ puts_of before.now after.now) }
 {
     let mut puts = Vec::new(alloc);

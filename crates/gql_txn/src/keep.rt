@@ -6,11 +6,7 @@ use gql_values3::OutOfMemory;
 use std::alloc::Global;
 
 /// A copy of the catalog as it is kept, made before the first change.
-pub fn keep(
-    alloc: Global,
-    catalog: &Catalog,
-    kept: &mut Option<Catalog>,
-) -> Result<(), OutOfMemory>
+pub fn keep(alloc: Global, catalog: &Catalog, kept: &mut Option<Catalog>) -> Result<(), OutOfMemory>
     ensures ok { OnOk result (kept.new ≡ Some (kept_of catalog.now kept.old)) }
     ensures err { OnErr result (kept.new ≡ kept.old) }
 {

@@ -1,12 +1,13 @@
 //! The records of a catalog into a store.
 
-ghost use Rattle.std.specs.Prelude.{◌≡◌, ◌≢◌, ◌≤◌, ◌<◌, ◌++◌, Err, length, map, OnOk, OnErr, IsTrue};
+ghost use Rattle.std.specs.Prelude.{◌≡◌, ◌≢◌, ◌≤◌, [], ◌++◌, Err, map, OnOk, OnErr, IsTrue};
 ghost use Rattle.gql_values3.specs.Texts.{texts_differ};
 ghost use Rattle.gql_ports.specs.Causes.{Rose};
+ghost use Rattle.gql_ports.specs.Held.{keys_ascend};
 ghost use Rattle.gql_ports.specs.Told.{MatchTold};
-ghost use Rattle.gql_ports.specs.declared.stored.Record.{Record as Stored};
 ghost use Rattle.gql_type.specs.SoundCatalog.{is_sound};
 ghost use Rattle.gql_txn.specs.Keeps.{Keeps, IsSameStore};
+ghost use Rattle.gql_txn.specs.Machinery.Changes.{puts_of, drops_of};
 ghost use Rattle.gql_txn.specs.Machinery.Storing.{AppliesInOrder, Leads};
 
 use crate::changes::{Changes, changes_of};
@@ -37,7 +38,7 @@ pub fn store<K: Keeper>(
     store_records(alloc, keeper, &before, &after)
 }
 
-/// Leads the store from the one list of records to the other. A store without records gets all of them.
+/// Leads the store from the one list of records to the other.
 fn store_records<K: Keeper>(
     alloc: Global,
     keeper: &mut K,
@@ -51,14 +52,45 @@ fn store_records<K: Keeper>(
     ensures failed { result ≡ Err CommitFault.Store → Rose (K.faults keeper.old) (K.faults keeper.new) }
 {
     let changes = changes_of(alloc, before, after)?;
-    if changes.puts.is_empty() && changes.drops.is_empty() {
+    if changes.is_none() {
         return Ok(());
     }
+    store_changes(alloc, keeper, before, after, &changes)
+}
+
+/// Tells the store the changes. A store without records gets all of those after.
+fn store_changes<K: Keeper>(
+    alloc: Global,
+    keeper: &mut K,
+    before: &Records,
+    after: &Records,
+    changes: &Changes,
+) -> Result<(), CommitFault>
+    requires before { IsTrue (keys_ascend before.now) }
+    requires after { IsTrue (keys_ascend after.now) }
+    requires puts { changes.now.puts.items ≡ puts_of before.now after.now }
+    requires drops { changes.now.drops.items ≡ drops_of before.now after.now }
+    ensures ok { OnOk result (MatchTold (K.held keeper.old) (K.held keeper.new) (Leads before.now after.now)) }
+    ensures stays { OnErr result (K.held keeper.new ≡ K.held keeper.old) }
+    ensures later { K.faults keeper.old ≤ K.faults keeper.new }
+    ensures failed { result ≡ Err CommitFault.Store → Rose (K.faults keeper.old) (K.faults keeper.new) }
+{
     if keeper.len() == 0 {
-        let all = changes_of(alloc, &Records::new(alloc), after)?;
-        return tell(keeper, &all);
+        tell_all(alloc, keeper, after)
+    } else {
+        tell(keeper, changes)
     }
-    tell(keeper, &changes)
+}
+
+/// Tells the store all of the records.
+fn tell_all<K: Keeper>(alloc: Global, keeper: &mut K, after: &Records) -> Result<(), CommitFault>
+    ensures ok { OnOk result (MatchTold (K.held keeper.old) (K.held keeper.new) (AppliesInOrder (puts_of [] after.now) (drops_of [] after.now))) }
+    ensures stays { OnErr result (K.held keeper.new ≡ K.held keeper.old) }
+    ensures later { K.faults keeper.old ≤ K.faults keeper.new }
+    ensures failed { result ≡ Err CommitFault.Store → Rose (K.faults keeper.old) (K.faults keeper.new) }
+{
+    let all = changes_of(alloc, &Records::new(alloc), after)?;
+    tell(keeper, &all)
 }
 
 /// Tells the store all at once.

@@ -6,7 +6,7 @@ use Rattle.gql_ports.specs.declared.stored.Record.{Record}
 
 abbrev pub is_value : List ℕ → Option (List ℕ) → Bool
 is_value value None = false
-is_value value (Some other) = same_text other value
+is_value value (Some other) = same_text value other
 
 -- the record's key has its value among the records
 abbrev pub has_record : List Record → Record → Bool
