@@ -9,18 +9,24 @@ use gql_keep_sql::SqlKeeper;
 use gql_match::PathMatcher;
 use gql_ports::{FileSource, StdoutSink};
 use gql_session::{Status, code, run};
+use std::marker::Sync;
 use std::process::ExitCode;
+use std::rt::{Env, Files};
+use std::thread::Threads;
 use std::{env, io};
 
 fn main(rt: HostRuntime) -> ExitCode {
-    let status = run_words(&rt);
+    let status = run_words(&rt, &rt);
     // A complaint that can't be written changes nothing: the exit status says the same.
     let _ = complain(&rt, &status);
     ExitCode::from(code(&status))
 }
 
-/// Runs the command line. Path patterns are searched on this thread alone.
-fn run_words(rt: &HostRuntime) -> Status {
+/// Runs the command line; the store's file is the host's. Path patterns are searched on this thread alone.
+fn run_words<R: Env + Files + Print + AllocGlobal + Threads + Sync>(
+    rt: &R,
+    host: &HostRuntime,
+) -> Status {
     // A word that is no UTF-8 is no word of a command.
     let Ok(words) = env::args(rt) else {
         return Status::Usage;
@@ -28,10 +34,10 @@ fn run_words(rt: &HostRuntime) -> Status {
     let Ok(words) = words.collect(rt.alloc()) else {
         return Status::NoMemory;
     };
-    let mut keeper = SqlKeeper::new(rt, rt.alloc());
+    let mut keeper = SqlKeeper::new(host, host.alloc());
     let mut source = FileSource::new(rt);
     let mut sink = StdoutSink::new(rt);
-    let matcher = PathMatcher::new(Serial::<HostRuntime>::new());
+    let matcher = PathMatcher::new(Serial::<R>::new());
     let status = run(
         rt.alloc(),
         &matcher,

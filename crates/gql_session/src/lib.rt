@@ -15,8 +15,6 @@ mod run_pieces;
 mod session;
 mod size;
 mod status;
-#[cfg(test)]
-mod tests;
 mod top_call;
 mod words;
 

@@ -2,4 +2,4 @@ use Rattle.gql_match.proofs.SharedMatcher.{prepared_sync}
 use Rattle.gql.proofs.run_words.Goals as goal
 
 pub run-requires-sync-M-Prepared : goal.run-requires-sync-M-Prepared
-run-requires-sync-M-Prepared c κs within = record { shared = prepared_sync.shared }
+run-requires-sync-M-Prepared g c κs within = record { shared = prepared_sync.shared }
