@@ -1,6 +1,4 @@
--- What mirrors the code for its proofs. A reader of the promises may skip it.
+-- What mirrors the code for its proofs: reading as functions on lists. A reader of the promises may skip it.
 pub mod Said
-pub mod FormReading
-pub mod KeyOrder
-pub mod Noted
-pub mod Writing
+pub mod Reading
+pub mod Walk

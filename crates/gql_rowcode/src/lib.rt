@@ -1,24 +1,18 @@
-//! The records that a catalog is kept as, and how they are read and written.
+//! The records that a catalog is kept as, and how they are read.
 //!
 //! The promise of `read`: the catalog is the one that the records stand for, each byte of them, and a fault is the first
-//! record that cannot stand where it stands. That of `records`: they stand for the catalog. Which records a catalog has is
-//! said in `specs/`, by a spelling of each record. It stands on gql_graph, gql_type, gql_fields, gql_typecode and gql_ports.
+//! record that cannot stand where it stands. Which records a catalog has is said in `specs/`, by a spelling of each
+//! record. It stands on gql_graph, gql_ports and gql_values3.
 #![tactic(auto)]
 
-mod catalog;
+mod bytes;
 mod fault;
 mod form;
-mod joining;
-mod noting;
-mod parts;
-mod places;
+mod labels;
+mod misread;
 mod reading;
 mod seen;
-mod writing;
-mod writing_elements;
-mod writing_keys;
-mod writing_parts;
+mod subject;
 
 pub use fault::ReadFault;
 pub use reading::read;
-pub use writing::records;

@@ -8,7 +8,6 @@ pub mod JoinLemmas
 pub mod GatheringLemmas
 pub mod SoundLemmas
 pub mod EndpointLemmas
-mod TypeLemmas
 mod RefusalExamples
 mod ChangeExamples
 mod PatternExamples

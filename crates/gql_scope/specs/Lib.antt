@@ -1,5 +1,4 @@
 pub mod StaticRefusals
-pub mod CatalogRefusals
 pub mod StatementBounds
 pub mod WholePatterns
 pub mod SoundMatches

@@ -1,4 +1,3 @@
-pub mod WordLaws
 pub mod ClauseLaws
 pub mod PageLaws
 pub mod ReturnLaws
@@ -8,11 +7,5 @@ pub mod InsertLaws
 pub mod ChangeLaws
 pub mod FirstWords
 pub mod QueryLaws
-pub mod GraphWordLaws
-pub mod SessionLaws
-pub mod TransactionLaws
-pub mod GraphKindLaws
-pub mod CatalogNameLaws
-pub mod CatalogLaws
 pub mod StatementLaws
 pub mod QueryLoops

@@ -3,7 +3,6 @@ mod SetLemmas
 mod MatchingLemmas
 mod ConformanceLemmas
 mod BodyLemmas
-mod FaultLemmas
 mod BodyExamples
 pub mod TypeLaws
 mod TypeExamples

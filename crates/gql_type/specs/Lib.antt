@@ -1,7 +1,6 @@
 pub mod PropertyKinds
 pub mod GraphTypes
 pub mod Conformance
-pub mod SoundCatalog
 pub mod BodyFaults
 pub mod BodyMeaning
 pub mod TypeWords

@@ -1,3 +1,0 @@
-pub mod Spelling
-pub mod Kept
-pub mod Machinery

@@ -1,2 +1,0 @@
--- What mirrors the code for its proofs: reading as functions on lists. A reader of the promises may skip it.
-pub mod Reading

@@ -1,5 +1,0 @@
-pub mod TxnData
-pub mod Edits
-pub mod Keeps
-pub mod Loads
-pub mod Machinery

@@ -1,5 +1,0 @@
-pub mod KindLemmas
-pub mod BodyLemmas
-pub mod TypeLemmas
-mod OrderLemmas
-mod WritingLemmas

@@ -1,4 +1,0 @@
-pub mod TypeSpelling
-pub mod KeptTypes
-pub mod TypeOrder
-pub mod Machinery
