@@ -1,14 +1,14 @@
-//! The program `gql`: its words, the session's file, standard output, a store in memory, and a matcher of path patterns.
+//! The program `gql`: its words, the session's file, standard output, a store in SQLite, and a matcher of path patterns.
 //!
 //! It makes the ports and the matcher, calls `gql_session::run`, whose contract is the product's promise, says on standard error how a
 //! run failed, and ends with the status's number.
 #![tactic(auto)]
 
 use gql_fan::Serial;
+use gql_keep_sql::SqlKeeper;
 use gql_match::PathMatcher;
-use gql_ports::{FileSource, MemKeeper, Records, StdoutSink};
+use gql_ports::{FileSource, StdoutSink};
 use gql_session::{Status, code, run};
-use gql_values3::Numbers;
 use std::marker::Sync;
 use std::process::ExitCode;
 use std::rt::{Env, Files};
@@ -16,14 +16,17 @@ use std::thread::Threads;
 use std::{env, io};
 
 fn main(rt: HostRuntime) -> ExitCode {
-    let status = run_words(&rt);
+    let status = run_words(&rt, &rt);
     // A complaint that can't be written changes nothing: the exit status says the same.
     let _ = complain(&rt, &status);
     ExitCode::from(code(&status))
 }
 
-/// Runs the command line. Path patterns are searched on this thread alone.
-fn run_words<R: Env + Files + Print + AllocGlobal + Threads + Sync>(rt: &R) -> Status {
+/// Runs the command line; the store's file is the host's. Path patterns are searched on this thread alone.
+fn run_words<R: Env + Files + Print + AllocGlobal + Threads + Sync>(
+    rt: &R,
+    host: &HostRuntime,
+) -> Status {
     // A word that is no UTF-8 is no word of a command.
     let Ok(words) = env::args(rt) else {
         return Status::Usage;
@@ -31,24 +34,21 @@ fn run_words<R: Env + Files + Print + AllocGlobal + Threads + Sync>(rt: &R) -> S
     let Ok(words) = words.collect(rt.alloc()) else {
         return Status::NoMemory;
     };
-    let mut keeper = MemKeeper {
-        name: None,
-        records: Records::new(rt.alloc()),
-        fails: Numbers::new(rt.alloc()),
-        calls: 0,
-        faults: 0,
-    };
+    let mut keeper = SqlKeeper::new(host, host.alloc());
     let mut source = FileSource::new(rt);
     let mut sink = StdoutSink::new(rt);
     let matcher = PathMatcher::new(Serial::<R>::new());
-    run(
+    let status = run(
         rt.alloc(),
         &matcher,
         &words,
         &mut source,
         &mut sink,
         &mut keeper,
-    )
+    );
+    // A log that can't be copied stays beside the store, and the next opening reads both.
+    let _ = keeper.close();
+    status
 }
 
 /// Says on standard error how the run failed, where it did.

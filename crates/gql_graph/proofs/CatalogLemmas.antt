@@ -56,6 +56,20 @@ is_one g = is_graph g.1.graph
 behind_first : {A : Type 0} (p : A → Bool) (a : A) (xs : List A) → p a ≡ false → position_or_len p (a ∷ xs) ≡ suc (position_or_len p xs)
 behind_first p a xs fails = rw fails (omega arith)
 
+-- what a position says
+below : (l n : ℕ) → nat_lt l n ≡ true → l < n
+below l n lt = grind (arith, nat_tests)
+
+pub past_end : (l n : ℕ) → None ≡ cond (nat_lt l n) (Some l) None → n ≤ l
+past_end l n none = grind (arith, nat_tests)
+
+pub in_front : (l n i : ℕ) → Some i ≡ cond (nat_lt l n) (Some l) None → (l < n) × (i ≡ l)
+in_front l n i found = told (nat_lt l n) refl found
+  where
+    told : (b : Bool) → b ≡ nat_lt l n → Some i ≡ cond b (Some l) None → (l < n) × (i ≡ l)
+    told true is found = (below l n (sym is), cc)
+    told false is found = absurd (cc)
+
 module _ (name : List ℕ) (graph : PropertyGraph) where
   -- behind the name no graph has it
   rest_stays : (low : List ℕ) (gs : List (List ℕ × Held)) → ((c : List ℕ) → is_lt (order low c) ≡ true → is_lt (order name c) ≡ true) → ascend_above low (names gs) ≡ true → put name graph (map bare gs) ≡ map bare gs
@@ -98,19 +112,6 @@ module _ (name : List ℕ) (graph : PropertyGraph) where
           let far : position_or_len named gs < length gs = let lt = rw past at within in omega (arith, lt) in
           let rest = further far (rw past at here) in
           rw (past, apart) (ap (λ xs. bare g ∷ xs) rest)
-
-  below : (l n : ℕ) → nat_lt l n ≡ true → l < n
-  below l n lt = grind (arith, nat_tests)
-
-  past_end : (l n : ℕ) → None ≡ cond (nat_lt l n) (Some l) None → n ≤ l
-  past_end l n none = grind (arith, nat_tests)
-
-  in_front : (l n i : ℕ) → Some i ≡ cond (nat_lt l n) (Some l) None → (l < n) × (i ≡ l)
-  in_front l n i found = told (nat_lt l n) refl found
-    where
-      told : (b : Bool) → b ≡ nat_lt l n → Some i ≡ cond b (Some l) None → (l < n) × (i ≡ l)
-      told true is found = (below l n (sym is), cc)
-      told false is found = absurd (cc)
 
   -- where no graph has the name, all stay
   pub put_nowhere : (gs : List (List ℕ × Held)) → None ≡ position named gs → map bare gs ≡ put name graph (map bare gs)

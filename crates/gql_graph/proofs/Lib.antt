@@ -3,6 +3,8 @@ pub mod SearchLemmas
 pub mod PropertyLemmas
 pub mod GraphLemmas
 pub mod CatalogLemmas
+pub mod NamedLemmas
+pub mod CatalogEdits
 pub mod EditLemmas
 pub mod UndoLemmas
 pub mod RoomLemmas

@@ -3,6 +3,9 @@ use Rattle.std.specs.Prelude.{ℕ, List}
 use Rattle.gql_graph.specs.Catalog.{CatalogGraph}
 use Rattle.gql_graph.specs.declared.held.Held.{Held}
 
+abbrev pub bare_held : Held → CatalogGraph
+bare_held h = record { graph = h.graph.graph; kind = h.kind }
+
 -- with its name
 abbrev pub bare : List ℕ × Held → List ℕ × CatalogGraph
-bare g = (g.0, record { graph = g.1.graph.graph; kind = g.1.kind })
+bare g = (g.0, bare_held g.1)

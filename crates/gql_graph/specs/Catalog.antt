@@ -1,6 +1,8 @@
 -- The catalog: graphs by name, and graph types by name.
-use Rattle.std.specs.Prelude.{ℕ, Bool, true, false, ◌&&◌, if◌then◌else◌, List, [], ◌∷◌, map, Option, None, option_map, is_some, not, find, codes}
+use Rattle.std.specs.Prelude.{ℕ, Bool, ◌&&◌, if◌then◌else◌, List, [], ◌∷◌, map, Option, None, option_map, not, find, filter, codes}
 use Rattle.std.specs.List.{list_all}
+use Rattle.std.specs.Ordering.{is_lt, nat_cmp}
+use Rattle.std.specs.Cmp.Lexicographic.{slice_cmp}
 use Rattle.gql_values3.specs.Texts.{same_text, texts_ascend}
 use Rattle.gql_values3.specs.PropertyGraph.{PropertyGraph, is_graph}
 use Rattle.gql_graph.specs.declared.graph_type.GraphType.{GraphType}
@@ -19,24 +21,53 @@ pub record CatalogData : Type 0 where
 abbrev pub untyped : PropertyGraph → CatalogGraph
 untyped g = record { graph = g; kind = None }
 
-abbrev pub is_untyped : CatalogGraph → Bool
-is_untyped g = not (is_some g.kind)
+-- what stands under a name, where something does
+abbrev pub named : {X : Type 0} → List ℕ → List (List ℕ × X) → Option X
+named {X} name xs = option_map (λ (x : List ℕ × X). x.1) (find (λ x. same_text name x.0) xs)
 
-abbrev pub are_none : List (List ℕ × GraphType) → Bool
-are_none [] = true
-are_none (t ∷ ts) = false
+-- by bytes; a beginning is less
+abbrev pub is_before : List ℕ → List ℕ → Bool
+is_before a b = is_lt (slice_cmp nat_cmp a b)
+
+-- among others in order, one more: before the first of a greater name
+abbrev pub put_named : {X : Type 0} → List ℕ → X → List (List ℕ × X) → List (List ℕ × X)
+put_named name x [] = (name, x) ∷ []
+put_named name x (y ∷ ys) = if is_before name y.0 then (name, x) ∷ y ∷ ys else y ∷ put_named name x ys
+
+abbrev pub without_named : {X : Type 0} → List ℕ → List (List ℕ × X) → List (List ℕ × X)
+without_named {X} name xs = filter (λ (x : List ℕ × X). not (same_text name x.0)) xs
 
 -- the graph of a name, where there is one
 abbrev pub graph_of : CatalogData → List ℕ → Option PropertyGraph
 graph_of c name = option_map (λ (g : List ℕ × CatalogGraph). g.1.graph) (find (λ g. same_text name g.0) c.graphs)
 
+-- the same with the name of its type
+abbrev pub held_in : CatalogData → List ℕ → Option CatalogGraph
+held_in c name = named name c.graphs
+
+-- the graph type of a name, where there is one
+abbrev pub type_in : CatalogData → List ℕ → Option GraphType
+type_in c name = named name c.types
+
 -- the names of the graphs and those of the types strictly ascend, and each graph is one
 abbrev pub is_catalog : CatalogData → Bool
 is_catalog c = texts_ascend (map (λ g. g.0) c.graphs) && texts_ascend (map (λ t. t.0) c.types) && list_all (λ g. is_graph g.1.graph) c.graphs
 
--- until statements make graph types there are none, and no graph has one
-abbrev pub is_sound : CatalogData → Bool
-is_sound c = is_catalog c && list_all (λ g. is_untyped g.1) c.graphs && are_none c.types
+-- with a graph of a name that no graph has
+abbrev pub with_graph : List ℕ → CatalogGraph → CatalogData → CatalogData
+with_graph name g c = record { graphs = put_named name g c.graphs; types = c.types }
+
+-- without the graph of the name; where there is none, all stays
+abbrev pub without_graph : List ℕ → CatalogData → CatalogData
+without_graph name c = record { graphs = without_named name c.graphs; types = c.types }
+
+-- with a graph type of a name that no graph type has
+abbrev pub with_type : List ℕ → GraphType → CatalogData → CatalogData
+with_type name t c = record { graphs = c.graphs; types = put_named name t c.types }
+
+-- without the graph type of the name; where there is none, all stays
+abbrev pub without_type : List ℕ → CatalogData → CatalogData
+without_type name c = record { graphs = c.graphs; types = without_named name c.types }
 
 -- with another graph in the place of the one of the name, which keeps its type
 abbrev pub replaced : List ℕ → PropertyGraph → CatalogData → CatalogData

@@ -1,14 +1,17 @@
-ghost use Rattle.std.specs.Prelude.{◌≡◌, [], IfOk, IsTrue, map, option_map, find, position};
+ghost use Rattle.std.specs.Prelude.{◌≡◌, [], None, Some, IfOk, OnOk, OnErr, IsTrue, if◌then◌else◌, map, option_map, find, position};
+ghost use Rattle.std.specs.List.{list_all};
 ghost use Rattle.std.specs.Option.{option_copied};
+ghost use Rattle.gql_values3.specs.PropertyGraph.{is_graph};
 ghost use Rattle.gql_values3.specs.Texts.{same_text, texts_ascend};
-ghost use Rattle.gql_graph.specs.Bare.{bare};
-ghost use Rattle.gql_graph.specs.Catalog.{graph_of, is_catalog, catalog_with, initial_catalog, replaced};
+ghost use Rattle.gql_graph.specs.Bare.{bare, bare_held};
+ghost use Rattle.gql_graph.specs.Catalog.{graph_of, held_in, type_in, is_catalog, catalog_with, initial_catalog, replaced, with_graph, without_graph, with_type, without_type};
 
 use crate::graph::Graph;
 use crate::graph_type::GraphType;
 use crate::held::Held;
+use crate::named::{find_named, put_named, take_named};
 use crate::type_copies::copy_types;
-use gql_values3::{OutOfMemory, Text};
+use gql_values3::{OutOfMemory, Text, keys_ascend};
 use std::alloc::Global;
 use std::marker::Model;
 
@@ -69,6 +72,17 @@ impl Catalog {
         })
     }
 
+    /// The catalog of these, where their names ascend.
+    pub fn of(graphs: Vec<(Text, Held)>, types: Vec<(Text, GraphType)>) -> Option<Catalog>
+        ensures { result ≡ (if is_catalog (record { graphs = map bare graphs.items; types = types.items }) then Some (record { graphs = map bare graphs.items; types = types.items }) else None) }
+    {
+        if is_catalog(graphs.as_slice(), types.as_slice()) {
+            Some(Catalog { graphs, types })
+        } else {
+            None
+        }
+    }
+
     /// An equal catalog.
     pub fn try_copy(&self, alloc: Global) -> Result<Catalog, OutOfMemory>
         ensures { IfOk result (λ copy. copy ≡ self.now) }
@@ -94,6 +108,86 @@ impl Catalog {
         ensures catalog { IsTrue (is_catalog self.now) }
     {
         find_graph(self.graphs.as_slice(), name)
+    }
+
+    /// The graph of that name, with the name of its type.
+    pub fn held(&self, name: &str) -> Option<&Held>
+        ensures value { option_map bare_held (option_copied result) ≡ held_in self.now name.now }
+        ensures catalog { IsTrue (is_catalog self.now) }
+    {
+        find_named(self.graphs.as_slice(), name)
+    }
+
+    /// The graph type of that name.
+    pub fn graph_type(&self, name: &str) -> Option<&GraphType>
+        ensures { option_copied result ≡ type_in self.now name.now }
+    {
+        find_named(self.types.as_slice(), name)
+    }
+
+    /// All graphs, by ascending name.
+    pub fn graphs(&self) -> &[(Text, Held)]
+        ensures graphs { map bare result.now ≡ self.now.graphs }
+        ensures catalog { IsTrue (is_catalog self.now) }
+    {
+        self.graphs.as_slice()
+    }
+
+    /// All graph types, by ascending name.
+    pub fn types(&self) -> &[(Text, GraphType)]
+        ensures { result.now ≡ self.now.types }
+    {
+        self.types.as_slice()
+    }
+
+    /// Adds a graph of a name that no graph has.
+    pub fn insert_graph(&mut self, name: Text, held: Held) -> Result<(), OutOfMemory>
+        requires { held_in self.old name ≡ None }
+        ensures ok { OnOk result (self.new ≡ with_graph name (bare_held held) self.old) }
+        ensures err { OnErr result (self.new ≡ self.old) }
+    {
+        // The count's clause says that the graph is one.
+        let _count = held.graph.count_nodes();
+        put_named(&mut self.graphs, name, held)
+    }
+
+    /// Takes the graph of that name away. Where there is none, all stays.
+    pub fn remove_graph(&mut self, name: &str)
+        ensures { self.new ≡ without_graph name.now self.old }
+    {
+        take_named(&mut self.graphs, name);
+    }
+
+    /// Adds a graph type of a name that no graph type has.
+    pub fn insert_type(&mut self, name: Text, kind: GraphType) -> Result<(), OutOfMemory>
+        requires { type_in self.old name ≡ None }
+        ensures ok { OnOk result (self.new ≡ with_type name kind self.old) }
+        ensures err { OnErr result (self.new ≡ self.old) }
+    {
+        put_named(&mut self.types, name, kind)
+    }
+
+    /// Takes the graph type of that name away. Where there is none, all stays.
+    pub fn remove_type(&mut self, name: &str)
+        ensures { self.new ≡ without_type name.now self.old }
+    {
+        take_named(&mut self.types, name);
+    }
+}
+
+fn is_catalog(graphs: &[(Text, Held)], types: &[(Text, GraphType)]) -> bool
+    ensures { result ≡ is_catalog (record { graphs = map bare graphs.now; types = types.now }) }
+{
+    show_graphs(graphs);
+    keys_ascend(graphs) & keys_ascend(types)
+}
+
+// The count's clause says of each that it is one.
+fn show_graphs(graphs: &[(Text, Held)])
+    ensures { IsTrue (list_all (λ g. is_graph g.1.graph) (map bare graphs.now)) }
+{
+    for (_, held) in graphs {
+        let _count = held.graph.count_nodes();
     }
 }
 

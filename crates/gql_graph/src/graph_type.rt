@@ -1,4 +1,4 @@
-//! Graph types: what the nodes and edges of a graph may be. No catalog has one before CREATE GRAPH TYPE is a statement.
+//! Graph types: what the nodes and edges of a graph may be.
 
 use gql_values3::{Names, PropKind, Sequence, Text};
 

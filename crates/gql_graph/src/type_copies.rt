@@ -14,18 +14,21 @@ pub fn copy_types(
 {
     let mut copies = Vec::with_capacity(alloc, types.len())?;
     for (name, graph_type) in types {
-        copies.push((name.try_copy(alloc)?, copy_graph_type(alloc, graph_type)?))?;
+        copies.push((name.try_copy(alloc)?, graph_type.try_copy(alloc)?))?;
     }
     Ok(copies)
 }
 
-fn copy_graph_type(alloc: Global, graph_type: &GraphType) -> Result<GraphType, OutOfMemory>
-    ensures { IfOk result (λ copy. copy ≡ graph_type.now) }
-{
-    Ok(GraphType {
-        nodes: Sequence::from_vec(copy_node_types(alloc, graph_type.nodes.as_slice())?),
-        edges: Sequence::from_vec(copy_edge_types(alloc, graph_type.edges.as_slice())?),
-    })
+impl GraphType {
+    /// An equal graph type.
+    pub fn try_copy(&self, alloc: Global) -> Result<GraphType, OutOfMemory>
+        ensures { IfOk result (λ copy. copy ≡ self.now) }
+    {
+        Ok(GraphType {
+            nodes: Sequence::from_vec(copy_node_types(alloc, self.nodes.as_slice())?),
+            edges: Sequence::from_vec(copy_edge_types(alloc, self.edges.as_slice())?),
+        })
+    }
 }
 
 fn copy_node_types(alloc: Global, types: &[NodeType]) -> Result<Vec<NodeType>, OutOfMemory>

@@ -1,248 +1,243 @@
--- What the records before a place say, and which record may stand behind them.
-use Rattle.std.proofs.Common.{◌≡◌, ◌≢◌, ℕ, zero, suc, ◌^◌, ◌<◌, Bool, true, false, ltb, ◌&&◌, List, [], ◌∷◌, ◌++◌, length, map, get_or, Option, Some, None, refl, sym, ap, subst, ◌∙◌, arith}
-use Rattle.std.specs.Prelude.{Contains}
-use Rattle.std.specs.Int.{w32, to_be_bytes}
+-- What is known of records of which each is good behind those before it: their forms, and the catalog that these describe.
+use Rattle.std.proofs.Common.{◌≡◌, ℕ, zero, suc, ◌+◌, ◌∙◌, ◌<◌, Bool, true, false, List, [], ◌∷◌, ◌++◌, map, length, take, Option, Some, None, refl, sym, ap, subst, append_assoc, arith, inl, inr, ◌⊎◌}
+use Rattle.std.specs.Prelude.{slice_get, Contains}
 use Rattle.std.specs.List.{AllByRecursion}
-use Rattle.std.specs.Ordering.{is_lt, nat_cmp}
-use Rattle.std.specs.Cmp.Lexicographic.{slice_cmp}
-use Rattle.std.proofs.lemmas.Bool.{ltb-true, lt-ltb, and_parts, and_from, both_ways}
-use Rattle.std.proofs.lemmas.List.{map_push, get_or-map, length-map}
-use Rattle.gql_values3.specs.Texts.{ascend_above}
-use Rattle.gql_values3.specs.PropertyGraph.{numbers_ascend}
-use Rattle.gql_values3.specs.declared.records.NodeRecord.{NodeRecord}
+use Rattle.std.proofs.lemmas.List.{append-nil, map_push}
 use Rattle.gql_ports.specs.Held.{keys_ascend}
 use Rattle.gql_ports.specs.declared.stored.Record.{Record}
-use Rattle.gql_rowcode.specs.Records.{Form, version, home_graph, home_node, home, spelled, record_of, IsForm}
-use Rattle.gql_rowcode.specs.StandFor.{node_record, IsKeptNode}
-use Rattle.gql_rowcode.specs.FirstBad.{Follows, IsGood}
-use Rattle.gql_rowcode.specs.Machinery.Walk.{node, graph_after, seen_after}
-use Rattle.gql_rowcode.specs.declared.seen.Seen.{Seen}
-use Rattle.gql_rowcode.specs.declared.seen.Seen.TheVariants.{Nothing, Version, Graph}
-use Rattle.gql_rowcode.proofs.FieldLemmas.{when_some}
+use Rattle.gql_graph.specs.Catalog.{CatalogData}
+use Rattle.gql_rowcode.specs.Records.{Form, version, record_of, IsForm}
+use Rattle.gql_rowcode.specs.StandFor.{catalog_forms, AreRecordsOf, StandFor}
+use Rattle.gql_rowcode.specs.FirstBad.{described, Follows, IsGood}
+use Rattle.gql_rowcode.proofs.MemberLemmas.{Has, has_from, contains_from, has_left, has_right, has_either, has_map, has_map_back, has_push, each_has, each_from, order_parts}
+use Rattle.gql_rowcode.proofs.NameLemmas.{below_itself, below_chain}
+use Rattle.gql_rowcode.proofs.KeyLemmas.{ComesBefore, forms_in_order, all_before, keys_front}
+use Rattle.gql_rowcode.proofs.SoundLemmas.{Sound, sound_facts, sound_from}
+use Rattle.gql_rowcode.proofs.SaidLemmas.{Says, says_form, form_says}
+use Rattle.gql_rowcode.proofs.DescribedLemmas.{Describes, describes_more, describes_nothing}
+use Rattle.gql_rowcode.proofs.ToldLemmas.{follows_told}
+use Rattle.gql_rowcode.proofs.OneCatalog.{one_catalog}
 use Rattle.gql_rowcode.proofs.FormLemmas.{form_same}
-use Rattle.gql_rowcode.proofs.OrderLemmas.{be_order}
+use Rattle.gql_rowcode.specs.Records as records
 
--- the numbers of nodes
-abbrev pub numbers : List NodeRecord → List ℕ
-numbers nodes = map (λ (r : NodeRecord). r.number.0) nodes
+pub record Known (before : List Record) : Type 0 where
+  pub forms : List Form
+  pub are : before ≡ map record_of forms
+  pub fit : AllByRecursion IsForm forms
+  pub ordered : keys_ascend before ≡ true
+  pub describes : Describes forms (described forms)
 
--- low and the numbers strictly ascend
-abbrev pub ascends : ℕ → List ℕ → Bool
-ascends low [] = true
-ascends low (n ∷ ns) = ltb low n && ascends n ns
+-- each record is good behind those before it
+abbrev pub AllGood : List Record → List Record → Type 0
+AllGood before rs = (i : ℕ) (r : Record) → slice_get rs i ≡ Some r → IsGood (before ++ take i rs) r
 
--- the numbers strictly ascend
-abbrev ascend : List ℕ → Bool
-ascend [] = true
-ascend (n ∷ ns) = ascends n ns
+-- ---- records that are spelled alike
 
--- the last number, or low
-abbrev pub last_of : ℕ → List ℕ → ℕ
-last_of low [] = low
-last_of low (n ∷ ns) = last_of n ns
-
--- the graph home as it was seen so far
-pub record IsGraphSeen (next_node next_edge last : ℕ) (nodes : List NodeRecord) : Type 0 where
-  pub node_small : next_node < 2 ^ 32
-  pub edge_small : next_edge < 2 ^ 32
-  pub edge_some : 0 < next_edge
-  pub kept : AllByRecursion IsKeptNode nodes
-  pub in_order : ascends 0 (numbers nodes) ≡ true
-  pub last_is : last_of 0 (numbers nodes) ≡ last
-  pub below : last < next_node
-
--- the records of the version and of the graph home
-abbrev pub graph_said : ℕ → ℕ → List NodeRecord → List Record
-graph_said next_node next_edge nodes = record_of version ∷ record_of (home_graph next_node next_edge) ∷ map node_record nodes
-
--- the records say this
-abbrev pub Knows : List Record → Seen → Type 0
-Knows before Nothing = before ≡ []
-Knows before Version = before ≡ record_of version ∷ []
-Knows before (Graph next_node next_edge last nodes) = IsGraphSeen next_node next_edge last nodes × (before ≡ graph_said next_node next_edge nodes)
-
--- ---- numbers in order
-
-ascends-push : (low : ℕ) (ns : List ℕ) (x : ℕ) → ascends low ns ≡ true → last_of low ns < x → ascends low (ns ++ x ∷ []) ≡ true
-ascends-push low [] x h lt = and_from (ltb low x) true (lt-ltb low x lt) refl
-ascends-push low (n ∷ ns) x h lt =
-    let p = and_parts (ltb low n) (ascends n ns) h in
-    and_from (ltb low n) (ascends n (ns ++ x ∷ [])) p.0 (ascends-push n ns x p.1 lt)
-
-ascends_last : (low : ℕ) (ns : List ℕ) (x : ℕ) → ascends low (ns ++ x ∷ []) ≡ true → last_of low ns < x
-ascends_last low [] x h = ltb-true low x (and_parts (ltb low x) true h).0
-ascends_last low (n ∷ ns) x h = ascends_last n ns x (and_parts (ltb low n) (ascends n (ns ++ x ∷ [])) h).1
-
-last_of-push : (low : ℕ) (ns : List ℕ) (x : ℕ) → last_of low (ns ++ x ∷ []) ≡ x
-last_of-push low [] x = refl
-last_of-push low (n ∷ ns) x = last_of-push n ns x
-
-ascend_from : (low : ℕ) (ns : List ℕ) → ascends low ns ≡ true → ascend ns ≡ true
-ascend_from low [] h = refl
-ascend_from low (n ∷ ns) h = (and_parts (ltb low n) (ascends n ns) h).1
-
-ascend_last : (ns : List ℕ) (x : ℕ) → ascend (ns ++ x ∷ []) ≡ true → 0 < x → last_of 0 ns < x
-ascend_last [] x h lt = lt
-ascend_last (n ∷ ns) x h lt = ascends_last n ns x h
-
--- numbers in order, the last below high
-pub range_from : (low : ℕ) (ns : List ℕ) (high : ℕ) → ascends low ns ≡ true → last_of low ns < high → numbers_ascend low ns high ≡ true
-range_from low [] high h lt = lt-ltb low high lt
-range_from low (n ∷ ns) high h lt =
-    let p = and_parts (ltb low n) (ascends n ns) h in
-    and_from (ltb low n) (numbers_ascend n ns high) p.0 (range_from n ns high p.1 lt)
-
--- one element more
-pub AllByRecursion-push : {X : Type 0} (P : X → Type 0) (xs : List X) (x : X) → AllByRecursion P xs → P x → AllByRecursion P (xs ++ x ∷ [])
-AllByRecursion-push P [] x all here = (here, tt)
-AllByRecursion-push P (y ∷ ys) x all here = (all.0, AllByRecursion-push P ys x all.1 here)
-
--- ---- keys in order
-
-abbrev graph_key : List ℕ
-graph_key = 2 ∷ spelled home
-
-abbrev node_key : ℕ → List ℕ
-node_key number = 3 ∷ (spelled home ++ to_be_bytes w32 number)
-
-abbrev keys : List NodeRecord → List (List ℕ)
-keys nodes = map (λ (r : Record). r.key) (map node_record nodes)
-
-keys_behind : (low : ℕ) (nodes : List NodeRecord) → low < 2 ^ 32 → AllByRecursion IsKeptNode nodes → ascend_above (node_key low) (keys nodes) ≡ ascends low (numbers nodes)
-keys_behind low [] small kept = refl
-keys_behind low (r ∷ rs) small kept =
-    let one : is_lt (slice_cmp nat_cmp (node_key low) (node_key r.number.0)) ≡ ltb low r.number.0 = be_order low r.number.0 small kept.0.1.0 in
-    ap (λ (b : Bool). b && ascend_above (node_key r.number.0) (keys rs)) one
-    ∙ ap (λ (b : Bool). ltb low r.number.0 && b) (keys_behind r.number.0 rs kept.0.1.0 kept.1)
-
-keys_of_graph : (next_node next_edge : ℕ) (nodes : List NodeRecord) → AllByRecursion IsKeptNode nodes → keys_ascend (graph_said next_node next_edge nodes) ≡ ascend (numbers nodes)
-keys_of_graph n e [] kept = refl
-keys_of_graph n e (r ∷ rs) kept = keys_behind r.number.0 rs kept.0.1.0 kept.1
-
-graph_twice : (low : List ℕ) (nodes : List NodeRecord) (n e : ℕ) → is_lt (slice_cmp nat_cmp low graph_key) ≡ false → ascend_above low (map (λ (r : Record). r.key) (map node_record nodes ++ record_of (home_graph n e) ∷ [])) ≡ true → ⊥
-graph_twice low [] n e h g = both_ways (is_lt (slice_cmp nat_cmp low graph_key)) h (and_parts (is_lt (slice_cmp nat_cmp low graph_key)) true g).0
-graph_twice low (r ∷ rs) n e h g =
-    graph_twice (node_key r.number.0) rs n e refl (and_parts (is_lt (slice_cmp nat_cmp low (node_key r.number.0))) (ascend_above (node_key r.number.0) (map (λ (r : Record). r.key) (map node_record rs ++ record_of (home_graph n e) ∷ []))) g).1
-
--- ---- the graph among the records
-
-graph_there : (n e : ℕ) (nodes : List NodeRecord) → Contains (graph_said n e nodes) (record_of (home_graph n e))
-graph_there n e nodes = (1, omega arith, refl)
-
-graph_number_at : (n e n' e' : ℕ) (nodes : List NodeRecord) (k : ℕ) → IsForm (home_graph n e) → IsForm (home_graph n' e') → k < length (graph_said n e nodes)
-    → get_or (graph_said n e nodes) k (record_of (home_graph n' e')) ≡ record_of (home_graph n' e') → n ≡ n'
-graph_number_at n e n' e' nodes zero fits fits' lt h =
-    let differ : 0 ∷ [] ≡ graph_key = ap (λ (r : Record). r.key) h in
-    absurd cc
-graph_number_at n e n' e' nodes (suc zero) fits fits' lt h =
-    let same : home_graph n e ≡ home_graph n' e' = form_same (home_graph n e) (home_graph n' e') fits fits' h in
-    cc
-graph_number_at n e n' e' nodes (suc (suc k)) fits fits' lt h =
-    let there : get_or (map node_record nodes) k (record_of (home_graph n' e')) ≡ node_record (get_or nodes k (node 0 [])) = get_or-map node_record nodes k (node 0 []) (record_of (home_graph n' e')) (omega (arith, lt, length-map nodes node_record)) in
-    let differ : node_key (get_or nodes k (node 0 [])).number.0 ≡ graph_key = ap (λ (r : Record). r.key) (sym there ∙ h) in
-    absurd cc
-
-version_is_no_graph : (n e k : ℕ) → k < 1 → get_or (record_of version ∷ []) k (record_of (home_graph n e)) ≡ record_of (home_graph n e) → ⊥
-version_is_no_graph n e zero lt h =
-    let differ : 0 ∷ [] ≡ graph_key = ap (λ (r : Record). r.key) h in
-    cc
-version_is_no_graph n e (suc k) lt h = omega arith
+forms_same : (fs gs : List Form) → AllByRecursion IsForm fs → AllByRecursion IsForm gs → map record_of fs ≡ map record_of gs → fs ≡ gs
+forms_same [] [] hf hg e = refl
+forms_same [] (g ∷ gs) hf hg e = absurd (cc)
+forms_same (f ∷ fs) [] hf hg e = absurd (cc)
+forms_same (f ∷ fs) (g ∷ gs) hf hg e =
+    let parts = heads (record_of f) (record_of g) (map record_of fs) (map record_of gs) e in
+    let one : f ≡ g = form_same f g hf.0 hg.0 parts.0 in
+    let rest : fs ≡ gs = forms_same fs gs hf.1 hg.1 parts.1 in
+    ap (λ (h : Form). h ∷ fs) one ∙ ap (λ (t : List Form). g ∷ t) rest
+  where
+    heads : (a b : Record) (xs ys : List Record) → a ∷ xs ≡ b ∷ ys → (a ≡ b) × (xs ≡ ys)
+    heads a b xs ys e = (cc, cc)
 
 -- ---- one record more
 
-abbrev some : Seen → Option Seen
-some s = Some s
+pub fit_push : (fs : List Form) (f : Form) → AllByRecursion IsForm fs → IsForm f → AllByRecursion IsForm (fs ++ f ∷ [])
+fit_push fs f all one = each_from IsForm (fs ++ f ∷ []) each
+  where
+    each : (g : Form) → Has (fs ++ f ∷ []) g → IsForm g
+    each g h = elim (has_push fs f g h) [ inl a ↦ each_has IsForm fs g all a | inr a ↦ subst IsForm (sym a) one ]
 
-abbrev Stands : List Record → Form → Seen → Type 0
-Stands before f next = Knows (before ++ record_of f ∷ []) next × IsGood before (record_of f)
+-- a record that may stand there is good, and known behind it
+module _ (before : List Record) (k : Known before) (r : Record) (f : Form) (fits : IsForm f) (is : r ≡ record_of f) (ordered : keys_ascend (before ++ r ∷ []) ≡ true) (follows : Follows k.forms f) where
+  pub is_good : IsGood before r
+  is_good = record { forms = k.forms; earlier = k.are; earlier_fit = k.fit; form = f; fits = fits; spelled = is; ordered = ordered; follows = follows }
 
-version_first : (before : List Record) → before ≡ [] → Stands before version Version
-version_first before k =
-    let one : before ++ record_of version ∷ [] ≡ record_of version ∷ [] = ap (λ (b : List Record). b ++ record_of version ∷ []) k in
-    (one, record { form = version; fits = tt; spelled = refl; ordered = ap keys_ascend one; follows = k })
+  abbrev pub known_more : Known (before ++ r ∷ [])
+  known_more =
+      let all : before ++ r ∷ [] ≡ map record_of k.forms ++ record_of f ∷ [] = ap (λ (b : List Record). b ++ r ∷ []) k.are ∙ ap (λ (x : Record). map record_of k.forms ++ x ∷ []) is in
+      let up : keys_ascend (map record_of k.forms ++ record_of f ∷ []) ≡ true = ap keys_ascend (sym all) ∙ ordered in
+      record {
+        forms = k.forms ++ f ∷ [];
+        are = all ∙ sym (map_push record_of k.forms f);
+        fit = fit_push k.forms f k.fit fits;
+        ordered = ordered;
+        describes = describes_more k.forms k.describes (λ g h. each_has IsForm k.forms g k.fit h) f (λ g h. all_before k.forms f up g h) fits follows;
+      }
 
-graph_second : (before : List Record) (n e : ℕ) → before ≡ record_of version ∷ [] → IsForm (home_graph n e) → 0 < n → 0 < e → Stands before (home_graph n e) (Graph n e 0 [])
-graph_second before n e k fits n_some e_some =
-    let one : before ++ record_of (home_graph n e) ∷ [] ≡ graph_said n e [] = ap (λ (b : List Record). b ++ record_of (home_graph n e) ∷ []) k in
-    let some : before ≢ [] = λ none. let both : record_of version ∷ [] ≡ [] = sym k ∙ none in cc in (
-      (record { node_small = fits.0; edge_small = fits.1; edge_some = e_some; kept = tt; in_order = refl; last_is = refl; below = n_some }, one),
-      record { form = home_graph n e; fits = fits; spelled = refl; ordered = ap keys_ascend one; follows = (some, n_some, e_some) },
-    )
+-- a good record's form may follow those that are known
+pub good_form : (before : List Record) (k : Known before) (r : Record) → IsGood before r → (f : Form) × IsForm f × (r ≡ record_of f) × (keys_ascend (before ++ r ∷ []) ≡ true) × Follows k.forms f
+good_form before k r good =
+    let same : good.forms ≡ k.forms = forms_same good.forms k.forms good.earlier_fit k.fit (sym good.earlier ∙ k.are) in
+    (good.form, good.fits, good.spelled, good.ordered, subst (λ (fs : List Form). Follows fs good.form) same good.follows)
 
-node_more : (before : List Record) (n e last : ℕ) (nodes : List NodeRecord) (x : ℕ) (labels : List (List ℕ)) → IsGraphSeen n e last nodes → before ≡ graph_said n e nodes → IsForm (home_node x labels) → last < x → x < n
-    → Stands before (home_node x labels) (Graph n e x (nodes ++ node x labels ∷ []))
-node_more before n e last nodes x labels seen k fits above below =
-    let push : map node_record (nodes ++ node x labels ∷ []) ≡ map node_record nodes ++ record_of (home_node x labels) ∷ [] = map_push node_record nodes (node x labels) in
-    let one : before ++ record_of (home_node x labels) ∷ [] ≡ graph_said n e (nodes ++ node x labels ∷ []) = ap (λ (b : List Record). b ++ record_of (home_node x labels) ∷ []) k ∙ ap (λ (rs : List Record). record_of version ∷ record_of (home_graph n e) ∷ rs) (sym push) in
-    let more : numbers (nodes ++ node x labels ∷ []) ≡ numbers nodes ++ x ∷ [] = map_push (λ (r : NodeRecord). r.number.0) nodes (node x labels) in
-    let kept : AllByRecursion IsKeptNode (nodes ++ node x labels ∷ []) = AllByRecursion-push IsKeptNode nodes (node x labels) seen.kept (refl, fits) in
-    let in_order : ascends 0 (numbers (nodes ++ node x labels ∷ [])) ≡ true = ap (ascends 0) more ∙ ascends-push 0 (numbers nodes) x seen.in_order (omega (arith, seen.last_is)) in
-    let last_is : last_of 0 (numbers (nodes ++ node x labels ∷ [])) ≡ x = ap (last_of 0) more ∙ last_of-push 0 (numbers nodes) x in
-    let ordered : keys_ascend (before ++ record_of (home_node x labels) ∷ []) ≡ true = ap keys_ascend one ∙ keys_of_graph n e (nodes ++ node x labels ∷ []) kept ∙ ascend_from 0 (numbers (nodes ++ node x labels ∷ [])) in_order in
-    let there : Contains before (record_of (home_graph n e)) = subst (λ (b : List Record). Contains b (record_of (home_graph n e))) (sym k) (graph_there n e nodes) in (
-      (record { node_small = seen.node_small; edge_small = seen.edge_small; edge_some = seen.edge_some; kept = kept; in_order = in_order; last_is = last_is; below = below }, one),
-      record { form = home_node x labels; fits = fits; spelled = refl; ordered = ordered; follows = (omega arith, (n, e, seen.node_small, seen.edge_small, below, there)) },
-    )
+-- none is known of no records
+abbrev pub known_nothing : Known []
+known_nothing = record { forms = []; are = refl; fit = tt; ordered = refl; describes = describes_nothing }
 
-some_seen : (a b : Seen) → some a ≡ some b → a ≡ b
-some_seen a b e = cc
+-- ---- one after the other
 
--- a record that the walk passes is good, and known behind it
-pub step_stands : (before : List Record) (seen : Seen) (f : Form) (next : Seen) → Knows before seen → IsForm f → seen_after seen f ≡ Some next → Stands before f next
-unfolding seen_after
-step_stands before Nothing version next k fits e = subst (Stands before version) (some_seen Version next e) (version_first before k)
-step_stands before Nothing (home_graph n d) next k fits e = absurd cc
-step_stands before Nothing (home_node x labels) next k fits e = absurd cc
-step_stands before Version version next k fits e = absurd cc
-step_stands before Version (home_graph n d) next k fits e =
-    let w = when_some (ltb 0 n && ltb 0 d) (Graph n d 0 []) next e in
-    let p = and_parts (ltb 0 n) (ltb 0 d) w.0 in
-    subst (Stands before (home_graph n d)) w.1 (graph_second before n d k fits (ltb-true 0 n p.0) (ltb-true 0 d p.1))
-step_stands before Version (home_node x labels) next k fits e = absurd cc
-step_stands before (Graph n d last nodes) version next k fits e = absurd cc
-step_stands before (Graph n d last nodes) (home_graph n' d') next k fits e = absurd cc
-step_stands before (Graph n d last nodes) (home_node x labels) next k fits e =
-    let w = when_some (ltb last x && ltb x n) (Graph n d x (nodes ++ node x labels ∷ [])) next e in
-    let p = and_parts (ltb last x) (ltb x n) w.0 in
-    subst (Stands before (home_node x labels)) w.1 (node_more before n d last nodes x labels k.0 k.1 fits (ltb-true last x p.0) (ltb-true x n p.1))
+good_more : (before : List Record) (r : Record) (rs : List Record) (i : ℕ) (s : Record) → (slice_get rs i ≡ Some s → IsGood ((before ++ r ∷ []) ++ take i rs) s) → slice_get rs i ≡ Some s → IsGood (before ++ take (suc i) (r ∷ rs)) s
+good_more before r rs i s rest e = subst (λ (b : List Record). IsGood b s) (append_assoc before (r ∷ []) (take i rs)) (rest e)
 
--- ---- a record that can't stand there
+record_is : (a b : Record) → slice_get (a ∷ []) 0 ≡ Some b → a ≡ b
+record_is a b e = cc
 
-node_fault : (before : List Record) (n e last : ℕ) (nodes : List NodeRecord) (x : ℕ) (labels : List (List ℕ)) → IsGraphSeen n e last nodes → before ≡ graph_said n e nodes → IsForm (home_node x labels)
-    → keys_ascend (before ++ record_of (home_node x labels) ∷ []) ≡ true → Follows before (home_node x labels) → (last < x) × (x < n)
-node_fault before n e last nodes x labels seen k fits ordered follows =
-    let push : map node_record (nodes ++ node x labels ∷ []) ≡ map node_record nodes ++ record_of (home_node x labels) ∷ [] = map_push node_record nodes (node x labels) in
-    let one : before ++ record_of (home_node x labels) ∷ [] ≡ graph_said n e (nodes ++ node x labels ∷ []) = ap (λ (b : List Record). b ++ record_of (home_node x labels) ∷ []) k ∙ ap (λ (rs : List Record). record_of version ∷ record_of (home_graph n e) ∷ rs) (sym push) in
-    let more : numbers (nodes ++ node x labels ∷ []) ≡ numbers nodes ++ x ∷ [] = map_push (λ (r : NodeRecord). r.number.0) nodes (node x labels) in
-    let kept : AllByRecursion IsKeptNode (nodes ++ node x labels ∷ []) = AllByRecursion-push IsKeptNode nodes (node x labels) seen.kept (refl, fits) in
-    let in_order : ascend (numbers nodes ++ x ∷ []) ≡ true = sym (ap keys_ascend one ∙ keys_of_graph n e (nodes ++ node x labels ∷ []) kept ∙ ap ascend more) ∙ ordered in
-    let above : last_of 0 (numbers nodes) < x = ascend_last (numbers nodes) x in_order follows.0 in
-    let there : Contains (graph_said n e nodes) (record_of (home_graph follows.1.0 follows.1.1)) = subst (λ (b : List Record). Contains b (record_of (home_graph follows.1.0 follows.1.1))) k follows.1.5 in
-    let same : n ≡ follows.1.0 = graph_number_at n e follows.1.0 follows.1.1 nodes there.0 (seen.node_small, seen.edge_small) (follows.1.2, follows.1.3) there.1 there.2 in
-    (omega (arith, seen.last_is, above), omega (arith, same, follows.1.4))
+good_first : (before : List Record) (r s : Record) (rs : List Record) → IsGood before r → slice_get (r ∷ rs) 0 ≡ Some s → IsGood (before ++ []) s
+good_first before r s rs good e =
+    let here : IsGood before s = subst (IsGood before) (record_is r s e) good in
+    subst (λ (b : List Record). IsGood b s) (sym (append-nil before)) here
 
-no_step : (before : List Record) (seen : Seen) (f : Form) → Knows before seen → IsForm f → seen_after seen f ≡ None → keys_ascend (before ++ record_of f ∷ []) ≡ true → Follows before f → ⊥
-unfolding seen_after
-no_step before Nothing version k fits e ordered follows = cc
-no_step before Nothing (home_graph n d) k fits e ordered follows = follows.0 k
-no_step before Nothing (home_node x labels) k fits e ordered follows = omega (arith, follows.1.5.1, ap length k)
-no_step before Version version k fits e ordered follows = let both : [] ≡ record_of version ∷ [] = sym follows ∙ k in cc
-no_step before Version (home_graph n d) k fits e ordered follows =
-    let goes : graph_after n d ≡ Some (Graph n d 0 []) = rw (lt-ltb 0 n follows.1, lt-ltb 0 d follows.2) refl in
-    let both : some (Graph n d 0 []) ≡ None = sym goes ∙ e in
-    cc
-no_step before Version (home_node x labels) k fits e ordered follows =
-    let there : Contains (record_of version ∷ []) (record_of (home_graph follows.1.0 follows.1.1)) = subst (λ (b : List Record). Contains b (record_of (home_graph follows.1.0 follows.1.1))) k follows.1.5 in
-    version_is_no_graph follows.1.0 follows.1.1 there.0 there.1 there.2
-no_step before (Graph n d last nodes) version k fits e ordered follows = let both : [] ≡ graph_said n d nodes = sym follows ∙ k.1 in cc
-no_step before (Graph n d last nodes) (home_graph n' d') k fits e ordered follows =
-    graph_twice graph_key nodes n' d' refl (sym (ap (λ (b : List Record). keys_ascend (b ++ record_of (home_graph n' d') ∷ [])) k.1) ∙ ordered)
-no_step before (Graph n d last nodes) (home_node x labels) k fits e ordered follows =
-    let p = node_fault before n d last nodes x labels k.0 k.1 fits ordered follows in
-    let goes : seen_after (Graph n d last nodes) (home_node x labels) ≡ Some (Graph n d x (nodes ++ node x labels ∷ [])) = rw (lt-ltb last x p.0, lt-ltb x n p.1) refl in
-    let both : some (Graph n d x (nodes ++ node x labels ∷ [])) ≡ None = sym goes ∙ e in
-    cc
+pub all_good : (before : List Record) (r : Record) (rs : List Record) → IsGood before r → AllGood (before ++ r ∷ []) rs → AllGood before (r ∷ rs)
+all_good before r rs good rest zero s e = good_first before r s rs good e
+all_good before r rs good rest (suc i) s e = good_more before r rs i s (rest i s) e
 
--- a record that the walk stops at is not good
-pub step_fails : (before : List Record) (seen : Seen) (r : Record) (good : IsGood before r) → Knows before seen → seen_after seen good.form ≡ None → ⊥
-step_fails before seen r good k e = no_step before seen good.form k good.fits e (subst (λ (s : Record). keys_ascend (before ++ s ∷ []) ≡ true) good.spelled good.ordered) good.follows
+-- ---- known records stand for what they describe
+
+module _ (r : Record) (rs : List Record) (k : Known (r ∷ rs)) where
+  abbrev c : CatalogData
+  c = described k.forms
+
+  version_there : Has k.forms version
+  version_there = elim k.describes.begins [ inr h ↦ h | inl e ↦ none (k.are ∙ ap (map record_of) e) ]
+    where
+      none : r ∷ rs ≡ [] → Has k.forms version
+      none e = absurd (cc)
+
+  form_there : (f : Form) → Has (catalog_forms c) f → Has k.forms f
+  form_there f h = elim (k.describes.says f (says_form c f h)) [ inl e ↦ subst (Has k.forms) (sym e) version_there | inr there ↦ there ]
+
+  pub known_stand : StandFor (r ∷ rs) c
+  known_stand = (
+    sound_from c k.describes.sound,
+    each_from IsForm (catalog_forms c) (λ f h. each_has IsForm k.forms f k.fit (form_there f h)),
+    record {
+      ascend = k.ordered;
+      said = λ s h.
+          let b = has_map_back record_of k.forms s (subst (λ (xs : List Record). Has xs s) k.are (has_from (r ∷ rs) s h)) in
+          (b.0, contains_from (catalog_forms c) b.0 (form_says c b.0 (k.describes.said b.0 b.1)), b.2);
+      kept = λ f h. contains_from (r ∷ rs) (record_of f) (subst (λ (xs : List Record). Has xs (record_of f)) (sym k.are) (has_map record_of k.forms f (form_there f (has_from (catalog_forms c) f h))));
+    },
+  )
+
+-- ---- records that stand for a catalog are known, and describe it
+
+-- these forms are what is said of the catalog
+pub record Tells (c : CatalogData) (forms : List Form) : Type 0 where
+  pub up : keys_ascend (map record_of forms) ≡ true
+  pub fits : (g : Form) → Has forms g → IsForm g
+  pub there : (g : Form) → Has forms g → Says c g
+  pub back : (g : Form) → Says c g → Has forms g
+
+module _ (c : CatalogData) (sound : Sound c) where
+  map_both : (fs gs : List Form) → map record_of (fs ++ gs) ≡ map record_of fs ++ map record_of gs
+  map_both [] gs = refl
+  map_both (f ∷ fs) gs = ap (λ (rs : List Record). record_of f ∷ rs) (map_both fs gs)
+
+  module _ (before : List Form) (f : Form) (more : List Form) (tells : Tells c (before ++ f ∷ more)) where
+    order : ((g : Form) → Has before g → ComesBefore g f) × ((g : Form) → Has more g → ComesBefore f g)
+    order = order_parts ComesBefore before f more (forms_in_order (before ++ f ∷ more) tells.up)
+
+    earlier : (g : Form) → Says c g → ComesBefore g f → Has before g
+    earlier g s lt = elim (has_either before (f ∷ more) g (tells.back g s)) [
+      | inl h ↦ h
+      | inr h ↦ behind h
+    ]
+      where
+        behind : Has (f ∷ more) g → Has before g
+        behind (inl e) = absurd (below_itself (records.key_of f) (subst (λ (x : Form). ComesBefore x f) e lt))
+        behind (inr h) = absurd (below_itself (records.key_of f) (below_chain (records.key_of f) (records.key_of g) (records.key_of f) (order.1 g h) lt))
+
+    follows : Describes before (described before) → Follows before f
+    follows so_far = follows_told c sound before so_far (λ g h. tells.there g (has_left before (f ∷ more) g h)) f order.0 earlier (tells.there f (has_right before (f ∷ more) f (inl refl)))
+
+    abbrev ordered : keys_ascend (map record_of before ++ record_of f ∷ []) ≡ true
+    ordered =
+        let all : map record_of (before ++ f ∷ more) ≡ (map record_of before ++ record_of f ∷ []) ++ map record_of more = map_both before (f ∷ more) ∙ sym (append_assoc (map record_of before) (record_of f ∷ []) (map record_of more)) in
+        keys_front (map record_of before ++ record_of f ∷ []) (map record_of more) (ap keys_ascend (sym all) ∙ tells.up)
+
+    abbrev known_before : Describes before (described before) → Known (map record_of before)
+    known_before so_far = record {
+      forms = before;
+      are = refl;
+      fit = each_from IsForm before (λ g h. tells.fits g (has_left before (f ∷ more) g h));
+      ordered = keys_front (map record_of before) (record_of f ∷ []) ordered;
+      describes = so_far;
+    }
+
+    step_good : Describes before (described before) → IsGood (map record_of before) (record_of f)
+    step_good so_far = is_good (map record_of before) (known_before so_far) (record_of f) f (tells.fits f (has_right before (f ∷ more) f (inl refl))) refl ordered (follows so_far)
+
+    step_describes : Describes before (described before) → Describes (before ++ f ∷ []) (described (before ++ f ∷ []))
+    step_describes so_far = (known_more (map record_of before) (known_before so_far) (record_of f) f (tells.fits f (has_right before (f ∷ more) f (inl refl))) refl ordered (follows so_far)).describes
+
+  goes : (rest before : List Form) → Tells c (before ++ rest) → Describes before (described before) → AllGood (map record_of before) (map record_of rest) × Describes (before ++ rest) (described (before ++ rest))
+  goes [] before tells so_far = (λ i r e. absurd (cc), subst (λ (fs : List Form). Describes fs (described fs)) (sym (append-nil before)) so_far)
+  goes (f ∷ more) before tells so_far =
+      let assoc : (before ++ f ∷ []) ++ more ≡ before ++ f ∷ more = append_assoc before (f ∷ []) more in
+      let rest = goes more (before ++ f ∷ []) (subst (Tells c) (sym assoc) tells) (step_describes before f more tells so_far) in
+      let good : AllGood (map record_of before ++ record_of f ∷ []) (map record_of more) = subst (λ (b : List Record). AllGood b (map record_of more)) (map_push record_of before f) rest.0 in
+      (all_good (map record_of before) (record_of f) (map record_of more) (step_good before f more tells so_far) good, subst (λ (fs : List Form). Describes fs (described fs)) assoc rest.1)
+
+  -- what is described by all of it is the catalog
+  tells_one : (forms : List Form) → Tells c forms → Describes forms (described forms) → described forms ≡ c
+  tells_one forms tells so_far = one_catalog (described forms) c so_far.sound sound (λ g s. elim (so_far.says g s) [ inl e ↦ subst (Says c) (sym e) tt | inr h ↦ tells.there g h ]) (λ g s. so_far.said g (tells.back g s))
+
+choose : (c : CatalogData) (rs : List Record) → ((r : Record) → Has rs r → (f : Form) × Has (catalog_forms c) f × (r ≡ record_of f)) → (forms : List Form) × (rs ≡ map record_of forms) × ((g : Form) → Has forms g → Has (catalog_forms c) g)
+choose c [] said = ([], refl, λ g h. absurd h)
+choose c (r ∷ rs) said =
+    let one = said r (inl refl) in
+    let rest = choose c rs (λ s h. said s (inr h)) in
+    (one.0 ∷ rest.0, ap (λ (x : Record). x ∷ rs) one.2 ∙ ap (λ (xs : List Record). record_of one.0 ∷ xs) rest.1, each one.0 rest.0 one.1 rest.2)
+  where
+    each : (f : Form) (fs : List Form) → Has (catalog_forms c) f → ((g : Form) → Has fs g → Has (catalog_forms c) g) → (g : Form) → Has (f ∷ fs) g → Has (catalog_forms c) g
+    each f fs here there g (inl e) = subst (Has (catalog_forms c)) (sym e) here
+    each f fs here there g (inr h) = there g h
+
+module _ (rs : List Record) (c : CatalogData) (fit : AllByRecursion IsForm (catalog_forms c)) (are : AreRecordsOf rs c) where
+  pub chosen : (forms : List Form) × (rs ≡ map record_of forms) × ((g : Form) → Has forms g → Has (catalog_forms c) g)
+  chosen = choose c rs (λ r h. let s = are.said r (contains_from rs r h) in (s.0, has_from (catalog_forms c) s.0 s.1, s.2))
+
+  fits_form : (g : Form) → Has (catalog_forms c) g → IsForm g
+  fits_form g h = each_has IsForm (catalog_forms c) g fit h
+
+  told_back : (g : Form) → Says c g → Has chosen.0 g
+  told_back g s =
+      let there : Has (catalog_forms c) g = form_says c g s in
+      let in_records : Has (map record_of chosen.0) (record_of g) = subst (λ (xs : List Record). Has xs (record_of g)) chosen.1 (has_from rs (record_of g) (are.kept g (contains_from (catalog_forms c) g there))) in
+      let b = has_map_back record_of chosen.0 (record_of g) in_records in
+      subst (Has chosen.0) (sym (form_same g b.0 (fits_form g there) (fits_form b.0 (chosen.2 b.0 b.1)) b.2)) b.1
+
+  pub told : Tells c chosen.0
+  told = record {
+    up = ap keys_ascend (sym chosen.1) ∙ are.ascend;
+    fits = λ g h. fits_form g (chosen.2 g h);
+    there = λ g h. says_form c g (chosen.2 g h);
+    back = told_back;
+  }
+
+-- each record is good, and what is known of them all describes the catalog
+pub record Stands (rs : List Record) (c : CatalogData) : Type 0 where
+  pub good : AllGood [] rs
+  pub known : Known rs
+  pub one : (k : Known rs) → described k.forms ≡ c
+
+pub stand_known : (r : Record) (rs : List Record) (c : CatalogData) → StandFor (r ∷ rs) c → Stands (r ∷ rs) c
+stand_known r rs c stands =
+    let sound = sound_facts c stands.0 in
+    let some = chosen (r ∷ rs) c stands.1 stands.2 in
+    let tells = told (r ∷ rs) c stands.1 stands.2 in
+    let all = goes c sound some.0 [] tells describes_nothing in
+    record {
+      good = subst (AllGood []) (sym some.1) all.0;
+      known = record { forms = some.0; are = some.1; fit = each_from IsForm some.0 tells.fits; ordered = stands.2.ascend; describes = all.1 };
+      one = λ k.
+          let same : k.forms ≡ some.0 = forms_same k.forms some.0 k.fit (each_from IsForm some.0 tells.fits) (sym k.are ∙ some.1) in
+          ap described same ∙ tells_one c sound some.0 tells all.1;
+    }

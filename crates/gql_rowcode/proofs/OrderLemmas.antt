@@ -18,7 +18,7 @@ cmp_greater : (a b : ℕ) → b < a → nat_cmp a b ≡ Greater
 cmp_greater a b h = rw (le-ltb a b (omega arith), ne_eqb a b (λ e. omega arith)) refl
 
 -- one digit more
-one_more : (h k x y : ℕ) (o : Ordering) → x < 256 → y < 256 → ordering_then (nat_cmp h k) (ordering_then (nat_cmp x y) o) ≡ ordering_then (nat_cmp (h * 256 + x) (k * 256 + y)) o
+pub one_more : (h k x y : ℕ) (o : Ordering) → x < 256 → y < 256 → ordering_then (nat_cmp h k) (ordering_then (nat_cmp x y) o) ≡ ordering_then (nat_cmp (h * 256 + x) (k * 256 + y)) o
 one_more h k x y o hx hy =
     elim (cases_order h k) [
       | inl e ↦
@@ -31,7 +31,7 @@ one_more h k x y o hx hy =
       | inr (inr e) ↦ rw (cmp_greater h k e, cmp_greater (h * 256 + x) (k * 256 + y) (omega arith)) refl
     ]
 
-then_equal : (o : Ordering) → ordering_then o Equal ≡ o
+pub then_equal : (o : Ordering) → ordering_then o Equal ≡ o
 then_equal Less = refl
 then_equal Equal = refl
 then_equal Greater = refl

@@ -1,283 +1,249 @@
--- The walk over records: what it passes stands for a catalog, what it stops at is the first fault, and the records of
--- a catalog are passed.
-use Rattle.std.proofs.Common.{◌≡◌, ℕ, zero, suc, ◌+◌, ◌^◌, ◌<◌, ◌≤◌, Bool, true, false, ◌&&◌, not, is_some, ltb, List, [], ◌∷◌, ◌++◌, length, map, take, Option, Some, None, Result, Ok, Err, refl, sym, ap, subst, ◌∙◌, append_assoc, arith, inl, inr, ◌⊎◌}
+-- Going over records from the first on: behind a record that may stand there all is known that was known before, and it; a record that may
+-- not is at fault.
+use Rattle.std.proofs.Common.{◌≡◌, ◌≢◌, ◌∙◌, ℕ, zero, suc, ◌+◌, ◌<◌, ◌≤◌, eqb, cond, Bool, true, false, ◌&&◌, List, [], ◌∷◌, ◌++◌, map, length, get_or, take, Option, Some, None, Result, Err, refl, sym, ap, subst, arith, inl, inr, ◌⊎◌}
 use Rattle.std.specs.Prelude.{slice_get}
-use Rattle.std.specs.List.{AllByRecursion, list_all}
-use Rattle.std.proofs.lemmas.Bool.{ltb-true, lt-ltb, and_parts, and_from}
-use Rattle.std.proofs.lemmas.List.{append-nil}
-use Rattle.gql_values3.specs.Texts.{texts_ascend}
-use Rattle.gql_values3.specs.PropertyGraph.{PropertyGraph, numbers_ascend, are_numbers, are_properties, is_node_record, is_edge_record, are_nodes, are_edges, is_graph}
-use Rattle.gql_values3.specs.declared.records.NodeRecord.{NodeRecord}
-use Rattle.gql_graph.specs.Catalog.{CatalogGraph, CatalogData, is_sound, catalog_with, initial_catalog}
+use Rattle.std.specs.List.{list_all, AllByRecursion}
+use Rattle.std.proofs.lemmas.Bool.{cases_lt, and_parts, and_from, eqb-true, ne_eqb, eq-eqb}
+use Rattle.std.proofs.lemmas.List.{take_more, take_all, append-nil}
+use Rattle.std.proofs.lemmas.Option.{get_or_from_slice_get, slice_get_within}
+use Rattle.gql_values3.specs.PropertyGraph.{are_numbers, are_nodes, is_node_record, numbers_ascend}
+use Rattle.gql_values3.specs.Texts.{ascend_above, texts_ascend}
+use Rattle.gql_fields.specs.Machinery.Reading.{◌>>=◌}
+use Rattle.gql_graph.specs.Catalog.{CatalogGraph, CatalogData, is_before}
 use Rattle.gql_graph.specs.declared.graph_type.GraphType.{GraphType}
+use Rattle.gql_type.specs.GraphTypes.{is_graph_type}
+use Rattle.gql_ports.specs.Held.{keys_ascend}
 use Rattle.gql_ports.specs.declared.stored.Record.{Record}
-use Rattle.gql_rowcode.specs.Records.{Form, version, home_graph, home_node, home, record_of, IsForm}
-use Rattle.gql_rowcode.specs.StandFor.{node_record, graph_records, catalog_records, IsKeptNode, AreKept, StandFor}
-use Rattle.gql_rowcode.specs.FirstBad.{IsGood}
-use Rattle.gql_rowcode.specs.Machinery.Reading.{◌>>=◌, form_at}
-use Rattle.gql_rowcode.specs.Machinery.Walk.{node, seen_after, record_after, or_fault, walk, IsSpelled, catalog_of}
-use Rattle.gql_rowcode.specs.declared.seen.Seen.{Seen}
-use Rattle.gql_rowcode.specs.declared.seen.Seen.TheVariants.{Nothing, Version, Graph}
+use Rattle.gql_rowcode.specs.Records.{Form, version, graph_type, graph, node, edge, key_of, value_of, record_of, IsForm}
+use Rattle.gql_rowcode.specs.StandFor.{StandFor}
+use Rattle.gql_rowcode.specs.FirstBad.{described, Follows, IsGood, FirstBad}
+use Rattle.gql_rowcode.specs.declared.fault.ReadFault.{ReadFault}
+use Rattle.gql_rowcode.specs.declared.fault.ReadFault.TheVariants.{BadRecord}
+use Rattle.gql_rowcode.specs.Machinery.FormReading.{form_at}
+use Rattle.gql_rowcode.specs.Machinery.KeyOrder.{AreListed}
+use Rattle.gql_rowcode.specs.Machinery.Noted.{note, may_join, noted_after, record_after, in_order, IsNoted, WasRead}
+use Rattle.gql_rowcode.proofs.MemberLemmas.{Has, all_from, each_has}
+use Rattle.gql_rowcode.proofs.SortedLemmas.{has_sorted}
+use Rattle.gql_rowcode.proofs.SoundLemmas.{IsGraph, Sound, node_number}
+use Rattle.gql_rowcode.proofs.KeyLemmas.{record_key, forms_in_order}
 use Rattle.gql_rowcode.proofs.FormLemmas.{form_again}
-use Rattle.gql_rowcode.proofs.StepLemmas.{walk-more}
-use Rattle.gql_rowcode.proofs.KnownLemmas.{numbers, last_of, IsGraphSeen, graph_said, Knows, range_from, step_stands, step_fails}
+use Rattle.gql_rowcode.proofs.NotedLemmas.{noted, noted-push, described-noted, follows_joins, joins_follow}
+use Rattle.gql_rowcode.proofs.KeyOrderLemmas.{types_are_listed, graphs_are_listed}
+use Rattle.gql_rowcode.proofs.KnownLemmas.{Known, known_nothing, known_more, known_stand, is_good, good_form}
 
--- a walk that went to the end
-abbrev pub passed : Seen → Result Seen ℕ
-passed s = Ok s
+-- ---- keys in order
 
--- a walk that stopped
-abbrev pub stopped : ℕ → Result Seen ℕ
-stopped n = Err n
+-- the key of the last record, or low
+abbrev last_text : List ℕ → List Record → List ℕ
+last_text low [] = low
+last_text low (r ∷ rs) = last_text r.key rs
 
-abbrev found : Record → Option Record
-found r = Some r
+-- no key is below no bytes
+abbrev pub last_key : List Record → List ℕ
+last_key rs = last_text [] rs
 
--- what was seen at the end is one value
-pub passed_same : (a b : Seen) → passed a ≡ passed b → a ≡ b
-passed_same a b e = cc
+last_push : (low : List ℕ) (rs : List Record) (r : Record) → last_text low (rs ++ r ∷ []) ≡ r.key
+last_push low [] r = refl
+last_push low (s ∷ rs) r = last_push s.key rs r
 
-stopped_same : (a b : ℕ) → stopped a ≡ stopped b → a ≡ b
-stopped_same a b e = cc
+push_to : (low : List ℕ) (rs : List Record) (r : Record) → ascend_above low (map record_key rs) ≡ true → is_before (last_text low rs) r.key ≡ true → ascend_above low (map record_key (rs ++ r ∷ [])) ≡ true
+push_to low [] r up lt = and_from (is_before low r.key) true lt refl
+push_to low (s ∷ rs) r up lt =
+    let p = and_parts (is_before low s.key) (ascend_above s.key (map record_key rs)) up in
+    and_from (is_before low s.key) (ascend_above s.key (map record_key (rs ++ r ∷ []))) p.0 (push_to s.key rs r p.1 lt)
 
-found_same : (a b : Record) → found a ≡ found b → a ≡ b
-found_same a b e = cc
+push_from : (low : List ℕ) (rs : List Record) (r : Record) → ascend_above low (map record_key (rs ++ r ∷ [])) ≡ true → is_before (last_text low rs) r.key ≡ true
+push_from low [] r up = (and_parts (is_before low r.key) true up).0
+push_from low (s ∷ rs) r up = push_from s.key rs r (and_parts (is_before low s.key) (ascend_above s.key (map record_key (rs ++ r ∷ []))) up).1
 
--- a step of a walk to the end
-step_passed : (place : ℕ) (o : Option Seen) (go : Seen → Result Seen ℕ) (final : Seen) → or_fault place o go ≡ Ok final → (next : Seen) × (o ≡ Some next) × (go next ≡ Ok final)
-step_passed place (Some next) go final e = (next, refl, e)
-step_passed place None go final e = absurd cc
+keys_to : (rs : List Record) (r : Record) → keys_ascend rs ≡ true → is_before (last_key rs) r.key ≡ true → keys_ascend (rs ++ r ∷ []) ≡ true
+keys_to [] r up lt = refl
+keys_to (s ∷ rs) r up lt = push_to s.key rs r up lt
 
--- a step of a walk to a fault
-step_stopped : (place : ℕ) (o : Option Seen) (go : Seen → Result Seen ℕ) (at : ℕ) → or_fault place o go ≡ Err at → ((next : Seen) × (o ≡ Some next) × (go next ≡ Err at)) ⊎ ((o ≡ None) × (place ≡ at))
-step_stopped place (Some next) go at e = inl (next, refl, e)
-step_stopped place None go at e = inr (refl, stopped_same place at e)
+some_key : (f : Form) → is_before [] (key_of f) ≡ true
+some_key version = refl
+some_key (graph_type name t) = refl
+some_key (graph name k n e) = refl
+some_key (node name r) = refl
+some_key (edge name r) = refl
 
--- what follows a form's record
-after_form : (seen : Seen) (r : Record) (f : Form) (o : Option Seen) → IsForm f → r ≡ record_of f → record_after seen r ≡ o → seen_after seen f ≡ o
-after_form seen r f o fits is e =
-    let said : form_at r ≡ Some f = ap form_at is ∙ form_again f fits in
-    sym (ap (λ (x : Option Form). x >>= seen_after seen) said) ∙ e
+keys_from : (rs : List Record) (r : Record) (f : Form) → r ≡ record_of f → keys_ascend (rs ++ r ∷ []) ≡ true → is_before (last_key rs) r.key ≡ true
+keys_from [] r f is up = ap (λ (s : Record). is_before [] s.key) is ∙ some_key f
+keys_from (s ∷ rs) r f is up = push_from s.key rs r up
 
--- and the other way round
-after_record : (seen : Seen) (f : Form) (o : Option Seen) → IsForm f → seen_after seen f ≡ o → record_after seen (record_of f) ≡ o
-after_record seen f o fits e = ap (λ (x : Option Form). x >>= seen_after seen) (form_again f fits) ∙ e
+-- ---- one record
 
--- each record is good behind those before it
-abbrev pub AllGood : List Record → List Record → Type 0
-AllGood before rs = (i : ℕ) (r : Record) → slice_get rs i ≡ Some r → IsGood (before ++ take i rs) r
+when : {X : Type 0} (b : Bool) (x y : X) → b ≡ true → cond b x y ≡ x
+when true x y e = refl
+when false x y e = absurd (cc)
 
--- each record is a form's
-abbrev pub AllSpelled : List Record → Type 0
-AllSpelled rs = (i : ℕ) (r : Record) → slice_get rs i ≡ Some r → IsSpelled r
+when_some : {X : Type 0} (b : Bool) (x : Option X) (y : X) → cond b x None ≡ Some y → (b ≡ true) × (x ≡ Some y)
+when_some true x y e = (refl, e)
+when_some false x y e = absurd (cc)
 
-good_more : (before : List Record) (r : Record) (rs : List Record) (i : ℕ) (s : Record) → IsGood before r → (slice_get rs i ≡ Some s → IsGood ((before ++ r ∷ []) ++ take i rs) s) → slice_get rs i ≡ Some s → IsGood (before ++ take (suc i) (r ∷ rs)) s
-good_more before r rs i s good rest e = subst (λ (b : List Record). IsGood b s) (append_assoc before (r ∷ []) (take i rs)) (rest e)
+some_same : (a b : CatalogData) → Some a ≡ Some b → a ≡ b
+some_same a b e = cc
 
-good_first : (before : List Record) (r s : Record) → IsGood before r → found r ≡ found s → IsGood (before ++ []) s
-good_first before r s good e =
-    let here : IsGood before s = subst (IsGood before) (found_same r s e) good in
-    subst (λ (b : List Record). IsGood b s) (sym (append-nil before)) here
+-- what a record that is spelled comes to
+after_spelled : (last : List ℕ) (first : Bool) (c : CatalogData) (r : Record) (f : Form) → IsForm f → r ≡ record_of f → is_before last r.key ≡ true → record_after last first c r.key r.value ≡ noted_after first c f
+unfolding record_after
+after_spelled last first c r f fits is lt =
+    let read : form_at r.key r.value ≡ Some f = ap (λ (s : Record). form_at s.key s.value) is ∙ form_again f fits in
+    when (is_before last r.key) (form_at r.key r.value >>= noted_after first c) None lt ∙ ap (λ (o : Option Form). o >>= noted_after first c) read
 
-all_good : (before : List Record) (r : Record) (rs : List Record) → IsGood before r → AllGood (before ++ r ∷ []) rs → AllGood before (r ∷ rs)
-all_good before r rs good rest zero s e = good_first before r s good e
-all_good before r rs good rest (suc i) s e = good_more before r rs i s good (rest i s) e
+after_is_before : (last : List ℕ) (first : Bool) (c next : CatalogData) (r : Record) → record_after last first c r.key r.value ≡ Some next → is_before last r.key ≡ true
+unfolding record_after
+after_is_before last first c next r e = (when_some (is_before last r.key) (form_at r.key r.value >>= noted_after first c) next e).0
 
--- one record that the walk passes
-passes : (before : List Record) (seen next : Seen) (r : Record) → Knows before seen → IsSpelled r → record_after seen r ≡ Some next → Knows (before ++ r ∷ []) next × IsGood before r
-passes before seen next r k spelled e =
-    let step = step_stands before seen spelled.0 next k spelled.1 (after_form seen r spelled.0 (Some next) spelled.1 spelled.2 e) in
-    subst (λ (s : Record). Knows (before ++ s ∷ []) next × IsGood before s) (sym spelled.2) step
+-- ---- what is known of the records before a place
 
--- records that are passed are known behind the last, and each is good
-pub walk_ok : (rs before : List Record) (place : ℕ) (seen final : Seen) → Knows before seen → AllSpelled rs → walk place seen rs ≡ Ok final → Knows (before ++ rs) final × AllGood before rs
-unfolding walk
-walk_ok [] before place seen final k spelled e =
-    (subst (λ (b : List Record). Knows b final) (sym (append-nil before)) (subst (Knows before) (passed_same seen final e) k), λ i r h. absurd cc)
-walk_ok (r ∷ rs) before place seen final k spelled e =
-    let s = step_passed place (record_after seen r) (λ (next : Seen). walk (suc place) next rs) final e in
-    let p = passes before seen s.0 r k (spelled 0 r refl) s.1 in
-    let rest = walk_ok rs (before ++ r ∷ []) (suc place) s.0 final p.0 (λ (i : ℕ) (t : Record) (h : slice_get rs i ≡ Some t). spelled (suc i) t h) s.2 in
-    (subst (λ (b : List Record). Knows b final) (append_assoc before (r ∷ []) rs) rest.0, all_good before r rs p.1 rest.1)
+pub record AreRead (records : List Record) (place : ℕ) (last : List ℕ) (c : CatalogData) : Type 0 where
+  pub known : Known (take place records)
+  pub noted_is : c ≡ noted known.forms
+  pub last_is : last ≡ last_key (take place records)
+  pub good : (i : ℕ) (r : Record) → i < place → slice_get records i ≡ Some r → IsGood (take i records) r
 
--- ---- the first fault
+-- the same of all records of a list
+record AreReadAs (records : List Record) (last : List ℕ) (c : CatalogData) : Type 0 where
+  pub known : Known records
+  pub noted_is : c ≡ noted known.forms
+  pub last_is : last ≡ last_key records
 
--- the record of that place is the first at fault behind those before
-pub record FaultAt (before rs : List Record) (index : ℕ) : Type 0 where
-  pub there : index < length rs
-  pub earlier : (i : ℕ) (r : Record) → i < index → slice_get rs i ≡ Some r → IsGood (before ++ take i rs) r
-  pub fault : (r : Record) → slice_get rs index ≡ Some r → IsGood (before ++ take index rs) r → ⊥
+stands : (records : List Record) (last : List ℕ) (c : CatalogData) → AreReadAs records last c → records ≢ [] → StandFor records (in_order c)
+stands [] last c read some = absurd (some refl)
+stands (r ∷ rs) last c read some = subst (StandFor (r ∷ rs)) (described-noted read.known.forms ∙ ap in_order (sym read.noted_is)) (known_stand r rs read.known)
 
--- a fault is told at no earlier place than the walk's own
-fault_place : (rs : List Record) (place : ℕ) (seen : Seen) (at : ℕ) → walk place seen rs ≡ Err at → place ≤ at
-unfolding walk
-fault_place [] place seen at e = absurd cc
-fault_place (r ∷ rs) place seen at e =
-    elim (step_stopped place (record_after seen r) (λ (next : Seen). walk (suc place) next rs) at e) [
-      | inl s ↦ let further = fault_place rs (suc place) s.0 at s.2 in omega arith
-      | inr s ↦ let here = s.1 in omega arith
-    ]
+pub there_is : (rs : List Record) (i : ℕ) → i < length rs → (r : Record) × (slice_get rs i ≡ Some r)
+there_is [] i lt = absurd (omega arith)
+there_is (r ∷ rs) zero lt = (r, refl)
+there_is (r ∷ rs) (suc i) lt = there_is rs i (omega arith)
 
-fails_here : (before : List Record) (seen : Seen) (r s : Record) → Knows before seen → record_after seen r ≡ None → found r ≡ found s → IsGood (before ++ []) s → ⊥
-fails_here before seen r s k e same good =
-    let here : IsGood before r = subst (IsGood before) (sym (found_same r s same)) (subst (λ (b : List Record). IsGood b s) (append-nil before) good) in
-    step_fails before seen r here k (after_form seen r here.form None here.fits here.spelled e)
+pub none_read : (records : List Record) → AreRead records 0 [] (record { graphs = []; types = [] })
+none_read records = record { known = known_nothing; noted_is = refl; last_is = refl; good = λ i r lt e. absurd (omega arith) }
 
-fault_first : (before : List Record) (r : Record) (rs : List Record) (seen : Seen) → Knows before seen → record_after seen r ≡ None → FaultAt before (r ∷ rs) 0
-fault_first before r rs seen k e = record {
-  there = omega arith;
-  earlier = λ i s lt h. absurd (omega arith);
-  fault = λ s h good. fails_here before seen r s k e h good;
-}
+-- it is as the code needs it
+module _ (records : List Record) (place : ℕ) (last : List ℕ) (c : CatalogData) (read : AreRead records place last c) where
+  sound : Sound (in_order c)
+  sound = subst Sound (described-noted read.known.forms ∙ ap in_order (sym read.noted_is)) read.known.describes.sound
 
-earlier_more : (before : List Record) (r : Record) (rs : List Record) (k : ℕ) → IsGood before r → FaultAt (before ++ r ∷ []) rs k → (i : ℕ) (s : Record) → i < suc k → slice_get (r ∷ rs) i ≡ Some s → IsGood (before ++ take i (r ∷ rs)) s
-earlier_more before r rs k good rest zero s lt e = good_first before r s good e
-earlier_more before r rs k good rest (suc i) s lt e = good_more before r rs i s good (rest.earlier i s (omega arith)) e
+  nodes_are : (g : List ℕ × CatalogGraph) → Has c.graphs g → are_nodes g.1.graph.nodes g.1.graph.next_node ≡ true
+  nodes_are g h =
+      let is : IsGraph g.1.graph = sound.graphs_fit g (has_sorted c.graphs g h) in
+      and_from (are_numbers (map node_number g.1.graph.nodes) g.1.graph.next_node) (list_all is_node_record g.1.graph.nodes)
+      (and_from (numbers_ascend 0 (map node_number g.1.graph.nodes) g.1.graph.next_node) _ is.node_order is.node_limit) (all_from is_node_record g.1.graph.nodes is.nodes_fit)
 
-fault_more : (before : List Record) (r : Record) (rs : List Record) (k : ℕ) → IsGood before r → FaultAt (before ++ r ∷ []) rs k → FaultAt before (r ∷ rs) (suc k)
-fault_more before r rs k good rest = record {
-  there = let lt = rest.there in omega arith;
-  earlier = earlier_more before r rs k good rest;
-  fault = λ s e bad. rest.fault s e (subst (λ (b : List Record). IsGood b s) (sym (append_assoc before (r ∷ []) (take k rs))) bad);
-}
+  pub read_noted : IsNoted c
+  read_noted =
+      let fits = λ (g : Form) (h : Has read.known.forms g). each_has IsForm read.known.forms g read.known.fit h in
+      let up = forms_in_order read.known.forms (ap keys_ascend (sym read.known.are) ∙ read.known.ordered) in
+      record {
+        types_listed = subst (λ (x : CatalogData). AreListed x.types) (sym read.noted_is) (types_are_listed read.known.forms fits up);
+        graphs_listed = subst (λ (x : CatalogData). AreListed x.graphs) (sym read.noted_is) (graphs_are_listed read.known.forms fits up);
+        types_fit = all_from (λ (t : List ℕ × GraphType). is_graph_type t.1) c.types (λ t h. sound.types_fit t (has_sorted c.types t h));
+        nodes_fit = all_from (λ (g : List ℕ × CatalogGraph). are_nodes g.1.graph.nodes g.1.graph.next_node) c.graphs nodes_are;
+      }
 
--- where the walk stops stands the first fault
-pub walk_err : (rs before : List Record) (place : ℕ) (seen : Seen) (at : ℕ) → Knows before seen → ((i : ℕ) (r : Record) → place + i < at → slice_get rs i ≡ Some r → IsSpelled r) → walk place seen rs ≡ Err at
-    → (k : ℕ) × (at ≡ place + k) × FaultAt before rs k
-unfolding walk
-walk_err [] before place seen at k spelled e = absurd cc
-walk_err (r ∷ rs) before place seen at k spelled e =
-    elim (step_stopped place (record_after seen r) (λ (next : Seen). walk (suc place) next rs) at e) [
-      | inr s ↦ (0, let here = s.1 in omega arith, fault_first before r rs seen k s.0)
-      | inl s ↦
-          let further = fault_place rs (suc place) s.0 at s.2 in
-          let p = passes before seen s.0 r k (spelled 0 r (omega arith) refl) s.1 in
-          let rest = walk_err rs (before ++ r ∷ []) (suc place) s.0 at p.0 (λ (i : ℕ) (t : Record) (lt : suc place + i < at) (h : slice_get rs i ≡ Some t). spelled (suc i) t (omega arith) h) s.2 in
-          (suc rest.0, let there = rest.1 in omega arith, fault_more before r rs rest.0 p.1 rest.2)
-    ]
+  -- whether the record is the first of all
+  none_before : eqb place 0 ≡ true → read.known.forms ≡ []
+  none_before e = no_forms read.known.forms (sym read.known.are ∙ ap (λ (n : ℕ). take n records) (eqb-true place 0 e))
+    where
+      no_forms : (fs : List Form) → map record_of fs ≡ [] → fs ≡ []
+      no_forms [] e = refl
+      no_forms (f ∷ fs) e = absurd (cc)
 
--- ---- what is known stands for a catalog
+  module _ (r : Record) (lt : place < length records) (at : r ≡ get_or records place r) where
+    next_take : take (place + 1) records ≡ take place records ++ r ∷ []
+    next_take = take_more records place r lt ∙ ap (λ (x : Record). take place records ++ x ∷ []) (sym at)
 
-kept_node : (r : NodeRecord) → IsKeptNode r → is_node_record r ≡ true
-kept_node r kept = and_from (texts_ascend r.labels) (are_properties r.properties) kept.1.2 (ap are_properties kept.0)
+    some_before : eqb place 0 ≡ false → read.known.forms ≢ []
+    some_before e none = no_records place records (ap (λ (fs : List Form). map record_of fs) (sym none) ∙ sym read.known.are) e lt
+      where
+        no_records : (n : ℕ) (rs : List Record) → [] ≡ take n rs → eqb n 0 ≡ false → n < length rs → ⊥
+        no_records zero rs e some lt = cc
+        no_records (suc n) [] e some lt = omega arith
+        no_records (suc n) (s ∷ rs) e some lt = cc
 
-kept_nodes : (nodes : List NodeRecord) → AllByRecursion IsKeptNode nodes → list_all is_node_record nodes ≡ true
-kept_nodes [] kept = refl
-kept_nodes (r ∷ rs) kept = and_from (is_node_record r) (list_all is_node_record rs) (kept_node r kept.0) (kept_nodes rs kept.1)
+    -- a record that may stand there
+    module _ (next : CatalogData) (after : record_after last (eqb place 0) c r.key r.value ≡ Some next) (f : Form) (fits : IsForm f) (is : r ≡ record_of f) where
+      before : is_before last r.key ≡ true
+      before = after_is_before last (eqb place 0) c next r after
 
-abbrev graph_of : ℕ → ℕ → List NodeRecord → PropertyGraph
-graph_of n e nodes = record { nodes = nodes; edges = []; next_node = n; next_edge = e }
+      told : noted_after (eqb place 0) c f ≡ Some next
+      told = sym (after_spelled last (eqb place 0) c r f fits is before) ∙ after
 
-seen_graph : (n e last : ℕ) (nodes : List NodeRecord) → IsGraphSeen n e last nodes → is_graph (graph_of n e nodes) ≡ true
-seen_graph n e last nodes seen =
-    let range : numbers_ascend 0 (numbers nodes) n ≡ true = range_from 0 (numbers nodes) n seen.in_order (let at = seen.last_is in let lt = seen.below in omega arith) in
-    let numbered : are_numbers (numbers nodes) n ≡ true = and_from (numbers_ascend 0 (numbers nodes) n) (ltb n (2 ^ 32)) range (lt-ltb n (2 ^ 32) seen.node_small) in
-    let nodes_fit : are_nodes nodes n ≡ true = and_from (are_numbers (numbers nodes) n) (list_all is_node_record nodes) numbered (kept_nodes nodes seen.kept) in
-    let edge_numbers : are_numbers [] e ≡ true = and_from (ltb 0 e) (ltb e (2 ^ 32)) (lt-ltb 0 e seen.edge_some) (lt-ltb e (2 ^ 32) seen.edge_small) in
-    let edges_fit : are_edges nodes [] e ≡ true = and_from (are_numbers [] e) true edge_numbers refl in
-    and_from (are_nodes nodes n) (are_edges nodes [] e) nodes_fit edges_fit
+      joins : may_join (eqb place 0) c f ≡ true
+      joins = (when_some (may_join (eqb place 0) c f) (Some (note c f)) next told).0
 
--- the catalog that is known is sound
-pub seen_sound : (rs : List Record) (seen : Seen) → Knows rs seen → is_sound (catalog_of seen) ≡ true
-seen_sound rs Nothing k = refl
-seen_sound rs Version k = refl
-seen_sound rs (Graph n e last nodes) k = let one = seen_graph n e last nodes k.0 in rw one refl
+      noted_next : note c f ≡ next
+      noted_next = some_same (note c f) next (when_some (may_join (eqb place 0) c f) (Some (note c f)) next told).1
 
--- and the records stand for it
-pub seen_stands : (rs : List Record) (seen : Seen) → Knows rs seen → StandFor rs (catalog_of seen)
-seen_stands rs Nothing k = subst (λ (b : List Record). StandFor b initial_catalog) (sym k) refl
-seen_stands rs Version k = subst (λ (b : List Record). StandFor b (record { graphs = []; types = [] })) (sym k) (refl, tt, refl)
-seen_stands rs (Graph n e last nodes) k =
-    let sound = seen_sound rs (Graph n e last nodes) k in
-    let c : CatalogData = catalog_of (Graph n e last nodes) in
-    let whole : graph_said n e nodes ≡ catalog_records c = ap (λ (x : List Record). record_of version ∷ x) (sym (append-nil (graph_records (graph_of n e nodes)))) in
-    subst (λ (b : List Record). StandFor b c) (sym k.1) (sound, (refl, (refl, k.0.kept)), whole)
+      ordered : keys_ascend (take place records ++ r ∷ []) ≡ true
+      ordered = keys_to (take place records) r read.known.ordered (ap (λ (k : List ℕ). is_before k r.key) (sym read.last_is) ∙ before)
 
--- ---- the records of a catalog are passed
+      follows : Follows read.known.forms f
+      follows = joins_follow read.known.forms (eqb place 0) none_before some_before f (ap (λ (x : CatalogData). may_join (eqb place 0) x f) (sym read.noted_is) ∙ joins)
 
-numbers_bound : (low : ℕ) (ns : List ℕ) (high : ℕ) → numbers_ascend low ns high ≡ true → low < high
-numbers_bound low [] high h = ltb-true low high h
-numbers_bound low (n ∷ ns) high h =
-    let p = and_parts (ltb low n) (numbers_ascend n ns high) h in
-    let one = ltb-true low n p.0 in
-    let rest = numbers_bound n ns high p.1 in
-    omega arith
+      abbrev known_here : Known (take place records ++ r ∷ [])
+      known_here = known_more (take place records) read.known r f fits is ordered follows
 
-node_same : (r : NodeRecord) → r.properties ≡ [] → node r.number.0 r.labels ≡ r
-node_same r e = ap (λ ps. record { number = r.number; labels = r.labels; properties = ps }) (sym e)
+      good_here : (i : ℕ) (s : Record) → i < place + 1 → slice_get records i ≡ Some s → IsGood (take i records) s
+      good_here i s below e = elim (cases_lt i place) [
+        | inl earlier ↦ read.good i s earlier e
+        | inr here ↦
+            let same_place : i ≡ place = omega arith in
+            let found : get_or records i r ≡ s = get_or_from_slice_get records i s r e in
+            let same : r ≡ s = at ∙ ap (λ (n : ℕ). get_or records n r) (sym same_place) ∙ found in
+            subst (λ (x : Record). IsGood (take i records) x) same (subst (λ (n : ℕ). IsGood (take n records) r) (sym same_place) (is_good (take place records) read.known r f fits is ordered follows))
+      ]
 
-node_step : (n e last : ℕ) (nodes : List NodeRecord) (r : NodeRecord) → IsKeptNode r → ltb last r.number.0 ≡ true → r.number.0 < n → seen_after (Graph n e last nodes) (home_node r.number.0 r.labels) ≡ Some (Graph n e r.number.0 (nodes ++ r ∷ []))
-unfolding seen_after
-node_step n e last nodes r kept above below =
-    rw (above, lt-ltb r.number.0 n below) (ap (λ (x : NodeRecord). Some (Graph n e r.number.0 (nodes ++ x ∷ []))) (node_same r kept.0))
+      pub read_more : AreRead records (place + 1) r.key next
+      read_more =
+          let moved : (rs : List Record) → take place records ++ r ∷ [] ≡ rs → AreReadAs rs r.key next = λ rs e. subst (λ (rs : List Record). AreReadAs rs r.key next) e (record {
+            known = known_here;
+            noted_is = sym noted_next ∙ ap (λ (x : CatalogData). note x f) read.noted_is ∙ sym (noted-push (record { graphs = []; types = [] }) read.known.forms f);
+            last_is = sym (last_push [] (take place records) r);
+          }) in
+          let all = moved (take (place + 1) records) (sym next_take) in
+          record { known = all.known; noted_is = all.noted_is; last_is = all.last_is; good = good_here }
 
-walk_nodes : (ns : List NodeRecord) (place n e last : ℕ) (before : List NodeRecord) → AllByRecursion IsKeptNode ns → numbers_ascend last (numbers ns) n ≡ true → walk place (Graph n e last before) (map node_record ns) ≡ Ok (Graph n e (last_of last (numbers ns)) (before ++ ns))
-unfolding walk
-walk_nodes [] place n e last before kept h = ap (λ (x : List NodeRecord). Ok (Graph n e last x)) (sym (append-nil before))
-walk_nodes (r ∷ rs) place n e last before kept h =
-    let p = and_parts (ltb last r.number.0) (numbers_ascend r.number.0 (numbers rs) n) h in
-    let step = after_record (Graph n e last before) (home_node r.number.0 r.labels) (Some (Graph n e r.number.0 (before ++ r ∷ []))) kept.0.1 (node_step n e last before r kept.0 p.0 (numbers_bound r.number.0 (numbers rs) n p.1)) in
-    walk-more place (Graph n e last before) (Graph n e r.number.0 (before ++ r ∷ [])) (node_record r) (map node_record rs) step
-    ∙ walk_nodes rs (suc place) n e r.number.0 (before ++ r ∷ []) kept.1 p.1
-    ∙ ap (λ (x : List NodeRecord). Ok (Graph n e (last_of r.number.0 (numbers rs)) x)) (append_assoc before (r ∷ []) rs)
+    -- one that may not
+    refused : record_after last (eqb place 0) c r.key r.value ≡ None → IsGood (take place records) r → ⊥
+    refused none good =
+        let g = good_form (take place records) read.known r good in
+        let before : is_before last r.key ≡ true = ap (λ (k : List ℕ). is_before k r.key) read.last_is ∙ keys_from (take place records) r g.0 g.2 g.3 in
+        let joins : may_join (eqb place 0) c g.0 ≡ true = ap (λ (x : CatalogData). may_join (eqb place 0) x g.0) read.noted_is ∙ follows_joins read.known.forms (eqb place 0) none_before some_before g.0 g.4 in
+        let some : record_after last (eqb place 0) c r.key r.value ≡ Some (note c g.0) = after_spelled last (eqb place 0) c r g.0 g.1 g.2 before ∙ when (may_join (eqb place 0) c g.0) (Some (note c g.0)) None joins in
+        apart (note c g.0) (sym none ∙ some)
+      where
+        apart : (x : CatalogData) → None ≡ Some x → ⊥
+        apart x e = cc
 
-version_step : seen_after Nothing version ≡ Some Version
-unfolding seen_after
-version_step = refl
+    pub read_fault : record_after last (eqb place 0) c r.key r.value ≡ None → FirstBad records place
+    read_fault none = record {
+      there = lt;
+      earlier = λ i s below e. read.good i s below e;
+      fault = λ s e good. refused none (subst (IsGood (take place records)) (sym (at ∙ get_or_from_slice_get records place s r e)) good);
+    }
 
-graph_step : (n e : ℕ) → 0 < n → 0 < e → seen_after Version (home_graph n e) ≡ Some (Graph n e 0 [])
-unfolding seen_after
-graph_step n e n_some e_some = rw (lt-ltb 0 n n_some, lt-ltb 0 e e_some) refl
+  -- all of them
+  pub read_all : length records ≤ place → WasRead records c
+  read_all le = record {
+    stand = λ some. stands records last c (subst (λ (rs : List Record). AreReadAs rs last c) (take_all place records le) (record { known = read.known; noted_is = read.noted_is; last_is = read.last_is })) some;
+    no_fault = λ i bad. none_bad i bad;
+  }
+    where
+      none_bad : (i : ℕ) → FirstBad records i → ⊥
+      none_bad i bad =
+          let r = there_is records i bad.there in
+          bad.fault r.0 r.1 (read.good i r.0 (let lt = bad.there in omega arith) r.1)
 
-walk_graph : (g : PropertyGraph) → is_graph g ≡ true → AllByRecursion IsKeptNode g.nodes → walk 0 Nothing (record_of version ∷ graph_records g) ≡ Ok (Graph g.next_node g.next_edge (last_of 0 (numbers g.nodes)) g.nodes)
-walk_graph g graph kept =
-    let parts = and_parts (are_nodes g.nodes g.next_node) (are_edges g.nodes g.edges g.next_edge) graph in
-    let nodes = and_parts (are_numbers (numbers g.nodes) g.next_node) (list_all is_node_record g.nodes) parts.0 in
-    let node_range = and_parts (numbers_ascend 0 (numbers g.nodes) g.next_node) (ltb g.next_node (2 ^ 32)) nodes.0 in
-    let edges = and_parts (are_numbers (map (λ r. r.number.0) g.edges) g.next_edge) (list_all (is_edge_record g.nodes) g.edges) parts.1 in
-    let edge_range = and_parts (numbers_ascend 0 (map (λ r. r.number.0) g.edges) g.next_edge) (ltb g.next_edge (2 ^ 32)) edges.0 in
-    let first = after_record Nothing version (Some Version) tt version_step in
-    let second = after_record Version (home_graph g.next_node g.next_edge) (Some (Graph g.next_node g.next_edge 0 [])) (ltb-true _ _ node_range.1, ltb-true _ _ edge_range.1)
-    (graph_step g.next_node g.next_edge (numbers_bound 0 (numbers g.nodes) g.next_node node_range.0) (numbers_bound 0 (map (λ r. r.number.0) g.edges) g.next_edge edge_range.0)) in
-    walk-more 0 Nothing Version (record_of version) (graph_records g) first
-    ∙ walk-more 1 Version (Graph g.next_node g.next_edge 0 []) (record_of (home_graph g.next_node g.next_edge)) (map node_record g.nodes) second
-    ∙ walk_nodes g.nodes 2 g.next_node g.next_edge 0 [] kept node_range.0
+-- ---- what the code tells of a place
 
-walk_version : walk 0 Nothing (record_of version ∷ []) ≡ Ok Version
-unfolding walk
-walk_version = walk-more 0 Nothing Version (record_of version) [] (after_record Nothing version (Some Version) tt version_step)
+abbrev pub told_at : {A : Type 0} → ℕ → Result A ReadFault
+told_at n = Err (BadRecord n)
 
--- the walk over the records of a catalog ends with that catalog
-abbrev pub Finds : List Record → CatalogData → Type 0
-Finds rs c = (seen : Seen) × (walk 0 Nothing rs ≡ Ok seen) × (catalog_of seen ≡ c)
+pub place_same : {A : Type 0} (a b : ℕ) → told_at {A = A} a ≡ told_at b → a ≡ b
+place_same a b e = cc
 
--- a graph of a sound catalog is one, and has no type
-held_parts : (p : List ℕ × CatalogGraph) → is_sound (record { graphs = p ∷ []; types = [] }) ≡ true → (is_graph p.1.graph ≡ true) × (p.1.kind ≡ None)
-held_parts p sound = told p.1.kind (is_graph p.1.graph) refl sound
-  where
-    told : (k : Option (List ℕ)) (b : Bool) → is_graph p.1.graph ≡ b → (b && true && (not (is_some k) && true) && true) ≡ true → (is_graph p.1.graph ≡ true) × (k ≡ None)
-    told None true one all = (one, refl)
-    told None false one all = absurd (cc)
-    told (Some t) true one all = absurd (cc)
-    told (Some t) false one all = absurd (cc)
-
-walk_graphs : (gs : List (List ℕ × CatalogGraph)) (ts : List (List ℕ × GraphType)) → is_sound (record { graphs = gs; types = ts }) ≡ true → AreKept gs → Finds (catalog_records (record { graphs = gs; types = ts })) (record { graphs = gs; types = ts })
-walk_graphs [] [] sound kept = (Version, walk_version, refl)
-walk_graphs (p ∷ []) [] sound kept =
-    let parts = held_parts p sound in
-    let whole : PropertyGraph = p.1.graph in
-    let seen : Seen = Graph whole.next_node whole.next_edge (last_of 0 (numbers whole.nodes)) whole.nodes in
-    let records : catalog_records (record { graphs = p ∷ []; types = [] }) ≡ record_of version ∷ graph_records whole = ap (λ (x : List Record). record_of version ∷ x) (append-nil (graph_records whole)) in
-    let edges_are : graph_of whole.next_node whole.next_edge whole.nodes ≡ whole = ap (λ es. record { nodes = whole.nodes; edges = es; next_node = whole.next_node; next_edge = whole.next_edge }) (sym kept.1.0) in
-    let same : catalog_of seen ≡ record { graphs = p ∷ []; types = [] } = ap (λ (g : PropertyGraph). catalog_with home g) edges_are
-    ∙ ap (λ (name : List ℕ). catalog_with name whole) (sym kept.0)
-    ∙ ap (λ (kind : Option (List ℕ)). record { graphs = (p.0, record { graph = whole; kind = kind }) ∷ []; types = [] }) (sym parts.1) in
-    (seen, ap (walk 0 Nothing) records ∙ walk_graph whole parts.0 kept.1.1, same)
-walk_graphs (p ∷ q ∷ more) [] sound kept = absurd kept
-walk_graphs gs (t ∷ ts) sound kept = let some : false ≡ true = (and_parts _ false sound).1 in absurd (cc)
-
--- records that stand for a catalog are read as it
-pub walk_stands : (rs : List Record) (c : CatalogData) → StandFor rs c → Finds rs c
-unfolding walk
-walk_stands [] c stands = (Nothing, refl, sym stands)
-walk_stands (r ∷ rs) c stands = subst (λ (x : List Record). Finds x c) (sym stands.2) (walk_graphs c.graphs c.types stands.0 stands.1)
+pub record_is : (r : Record) (f : Form) → r.key ≡ key_of f → r.value ≡ value_of f → r ≡ record_of f
+record_is r f key_is value_is = λ i. record { key = key_is i; value = value_is i }

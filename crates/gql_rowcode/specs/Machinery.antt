@@ -1,4 +1,6 @@
--- What mirrors the code for its proofs: reading as functions on lists. A reader of the promises may skip it.
+-- What mirrors the code for its proofs. A reader of the promises may skip it.
 pub mod Said
-pub mod Reading
-pub mod Walk
+pub mod FormReading
+pub mod KeyOrder
+pub mod Noted
+pub mod Writing

@@ -1,39 +1,28 @@
 -- Which catalog records stand for.
-use Rattle.std.specs.Prelude.{◌≡◌, ℕ, List, [], ◌∷◌, map, IsTrue}
+use Rattle.std.specs.Prelude.{◌≡◌, ℕ, List, [], ◌∷◌, ◌++◌, map, IsTrue, Contains}
 use Rattle.std.specs.List.{flat_map, AllByRecursion}
-use Rattle.gql_values3.specs.PropertyGraph.{PropertyGraph}
-use Rattle.gql_values3.specs.declared.records.NodeRecord.{NodeRecord}
-use Rattle.gql_graph.specs.Catalog.{CatalogGraph, CatalogData, is_sound, initial_catalog}
+use Rattle.gql_graph.specs.Catalog.{CatalogGraph, CatalogData, initial_catalog}
+use Rattle.gql_graph.specs.declared.graph_type.GraphType.{GraphType}
+use Rattle.gql_type.specs.SoundCatalog.{is_sound}
+use Rattle.gql_ports.specs.Held.{keys_ascend}
 use Rattle.gql_ports.specs.declared.stored.Record.{Record}
-use Rattle.gql_rowcode.specs.Records.{home, version, home_graph, home_node, record_of, IsForm}
+use Rattle.gql_rowcode.specs.Records.{Form, version, graph_type, graph, node, edge, record_of, IsForm}
 
--- the record of a node of the graph home
-abbrev pub node_record : NodeRecord → Record
-node_record r = record_of (home_node r.number.0 r.labels)
+-- what is said of a graph of this name
+abbrev pub graph_forms : List ℕ × CatalogGraph → List Form
+graph_forms p = graph p.0 p.1.kind p.1.graph.next_node p.1.graph.next_edge ∷ (map (node p.0) p.1.graph.nodes ++ map (edge p.0) p.1.graph.edges)
 
--- the records of the graph home: itself, and its nodes by ascending number
-abbrev pub graph_records : PropertyGraph → List Record
-graph_records g = record_of (home_graph g.next_node g.next_edge) ∷ map node_record g.nodes
+-- what is said of a catalog
+abbrev pub catalog_forms : CatalogData → List Form
+catalog_forms c = version ∷ (map (λ (t : List ℕ × GraphType). graph_type t.0 t.1) c.types ++ flat_map graph_forms c.graphs)
 
--- the records of a catalog: the version, and those of its graph
-abbrev pub catalog_records : CatalogData → List Record
-catalog_records c = record_of version ∷ flat_map (λ (p : List ℕ × CatalogGraph). graph_records p.1.graph) c.graphs
+-- The records are those that say it, by strictly ascending key.
+pub record AreRecordsOf (records : List Record) (c : CatalogData) : Type 0 where
+  pub ascend : IsTrue (keys_ascend records)
+  pub said : (r : Record) → Contains records r → (f : Form) × Contains (catalog_forms c) f × (r ≡ record_of f)
+  pub kept : (f : Form) → Contains (catalog_forms c) f → Contains records (record_of f)
 
--- a node that can be kept: without properties, its labels texts
-abbrev pub IsKeptNode : NodeRecord → Type 0
-IsKeptNode r = (r.properties ≡ []) × IsForm (home_node r.number.0 r.labels)
-
--- a graph that can be kept: without edges, and each node can
-abbrev pub IsKeptGraph : PropertyGraph → Type 0
-IsKeptGraph g = (g.edges ≡ []) × AllByRecursion IsKeptNode g.nodes
-
--- a catalog that can be kept: sound, and it has no other graph than home, which can be
-abbrev pub AreKept : List (List ℕ × CatalogGraph) → Type 0
-AreKept [] = Unit {0}
-AreKept (p ∷ []) = (p.0 ≡ home) × IsKeptGraph p.1.graph
-AreKept (p ∷ q ∷ more) = ⊥
-
--- The records stand for the catalog: none for the initial one, and else they are its records.
+-- The records stand for the catalog: none for the initial one; else it is sound, all of it can be said, and they are its records.
 abbrev pub StandFor : List Record → CatalogData → Type 0
 StandFor [] c = c ≡ initial_catalog
-StandFor (r ∷ rs) c = IsTrue (is_sound c) × AreKept c.graphs × (r ∷ rs ≡ catalog_records c)
+StandFor (r ∷ rs) c = IsTrue (is_sound c) × AllByRecursion IsForm (catalog_forms c) × AreRecordsOf (r ∷ rs) c

@@ -1,18 +1,24 @@
-//! The records that a catalog is kept as, and how they are read.
+//! The records that a catalog is kept as, and how they are read and written.
 //!
 //! The promise of `read`: the catalog is the one that the records stand for, each byte of them, and a fault is the first
-//! record that cannot stand where it stands. Which records a catalog has is said in `specs/`, by a spelling of each
-//! record. It stands on gql_graph, gql_ports and gql_values3.
+//! record that cannot stand where it stands. That of `records`: they stand for the catalog. Which records a catalog has is
+//! said in `specs/`, by a spelling of each record. It stands on gql_graph, gql_type, gql_fields, gql_typecode and gql_ports.
 #![tactic(auto)]
 
-mod bytes;
+mod catalog;
 mod fault;
 mod form;
-mod labels;
-mod misread;
+mod joining;
+mod noting;
+mod parts;
+mod places;
 mod reading;
 mod seen;
-mod subject;
+mod writing;
+mod writing_elements;
+mod writing_keys;
+mod writing_parts;
 
 pub use fault::ReadFault;
 pub use reading::read;
+pub use writing::records;

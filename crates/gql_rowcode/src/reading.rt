@@ -1,20 +1,23 @@
-ghost use Rattle.std.specs.Prelude.{◌≡◌, ℕ, ◌⊎◌, true, [], IfOk, MatchResult};
-ghost use Rattle.gql_values3.specs.PropertyGraph.{is_graph};
-ghost use Rattle.gql_graph.specs.Catalog.{CatalogData, is_sound};
+ghost use Rattle.std.specs.Prelude.{◌≡◌, ℕ, ◌⊎◌, ◌<◌, IfOk, OnOk, MatchResult, length};
+ghost use Rattle.gql_graph.specs.Catalog.{CatalogData, is_before};
+ghost use Rattle.gql_fields.specs.Machinery.Reading.{Gives};
+ghost use Rattle.gql_rowcode.specs.Records.{Form, IsForm, key_of, value_of};
 ghost use Rattle.gql_rowcode.specs.StandFor.{StandFor};
 ghost use Rattle.gql_rowcode.specs.FirstBad.{FirstBad};
-ghost use Rattle.gql_rowcode.specs.Machinery.Walk.{walk, Walks, SpelledAsFar, catalog_of};
-ghost use Rattle.gql_rowcode.specs.declared.seen.Seen.TheVariants.{Nothing};
+ghost use Rattle.gql_rowcode.specs.Machinery.Noted.{record_after, noted_of, IsNoted, WasRead};
 
+use crate::catalog::catalog_of;
 use crate::fault::ReadFault;
-use crate::misread::Misread;
-use crate::seen::{Seen, after_record};
-use gql_graph::{Catalog, Graph, NodeRecords};
+use crate::form::read_form;
+use crate::noting::after_form;
+use crate::seen::Seen;
+use gql_fields::Misread;
+use gql_graph::Catalog;
 use gql_ports::Record;
-use gql_values3::{OutOfMemory, Sequence};
 use std::alloc::Global;
+use std::cmp::Ordering;
 
-/// The catalog that the records stand for. Takes time in proportion to the records' bytes.
+/// The catalog that the records stand for. Takes time in proportion to the records' bytes, times the logarithm of how many there are.
 ///
 /// # Errors
 ///
@@ -29,44 +32,62 @@ pub fn read(alloc: Global, records: &[Record]) -> Result<Catalog, ReadFault>
     // no records stand for two catalogs
     ensures single { (c d : CatalogData) → StandFor records.now c → StandFor records.now d → c ≡ d }
 {
+    if records.is_empty() {
+        return Ok(Catalog::initial(alloc)?);
+    }
     let seen = walk(alloc, records)?;
-    Ok(catalog_of(alloc, seen)?)
+    Ok(catalog_of(seen)?)
 }
 
 fn walk(alloc: Global, records: &[Record]) -> Result<Seen, ReadFault>
-    ensures told { Walks result (walk 0 Nothing records.now) }
-    ensures spelled { SpelledAsFar result records.now }
+    ensures read { IfOk result (λ seen. WasRead records.now (noted_of seen)) }
+    ensures bad { (i : ℕ) → result ≡ Err (ReadFault.BadRecord i) → FirstBad records.now i }
 {
-    let mut seen = Seen::Nothing;
-    for (place, found) in records.iter().enumerate() {
-        match after_record(alloc, seen, found) {
+    let mut seen = Seen {
+        types: Vec::new(alloc),
+        graphs: Vec::new(alloc),
+    };
+    // No key is below no bytes, and none is no bytes.
+    let mut last: &[u8] = &[];
+    for place in 0..records.len() {
+        let found = &records[place];
+        let key = found.key.as_slice();
+        match after_record(alloc, seen, last, place == 0, key, found.value.as_slice()) {
             Ok(next) => seen = next,
             Err(Misread::OutOfMemory) => return Err(ReadFault::OutOfMemory),
             Err(Misread::NoForm) => return Err(ReadFault::BadRecord(place as u64)),
         }
+        last = key;
     }
     Ok(seen)
 }
 
-fn catalog_of(alloc: Global, seen: Seen) -> Result<Catalog, OutOfMemory>
-    requires { is_sound (catalog_of seen) ≡ true }
-    ensures { IfOk result (λ c. c ≡ catalog_of seen) }
+#[tactic(auto, unfolding(crate::specs::Machinery::Noted::record_after))]
+fn after_record(
+    alloc: Global,
+    seen: Seen,
+    last: &[u8],
+    first: bool,
+    key: &[u8],
+    value: &[u8],
+) -> Result<Seen, Misread>
+    requires { IsNoted (noted_of seen) }
+    ensures told { Gives noted_of result (record_after last.now first (noted_of seen) key.now value.now) }
+    ensures spelled { OnOk result ((f : Form) × IsForm f × (key.now ≡ key_of f) × (value.now ≡ value_of f)) }
 {
-    match seen {
-        Seen::Nothing => Catalog::initial(alloc),
-        Seen::Version => Ok(Catalog::new(alloc)),
-        Seen::Graph {
-            next_node,
-            next_edge,
-            last: _,
-            nodes,
-        } => Catalog::with_graph(alloc, "home", graph_of(alloc, next_node, next_edge, nodes)),
+    if !is_below(last, key) {
+        return Err(Misread::NoForm);
     }
+    let form = read_form(alloc, key, value)?;
+    after_form(alloc, seen, first, form)
 }
 
-fn graph_of(alloc: Global, next_node: u32, next_edge: u32, nodes: NodeRecords) -> Graph
-    requires { is_graph (record { nodes = nodes; edges = []; next_node = next_node; next_edge = next_edge }) ≡ true }
-    ensures { result.graph ≡ record { nodes = nodes; edges = []; next_node = next_node; next_edge = next_edge } }
+fn is_below(a: &[u8], b: &[u8]) -> bool
+    ensures { result ≡ is_before a.now b.now }
 {
-    Graph::of(nodes, Sequence::new(alloc), next_node, next_edge).unwrap()
+    match a.cmp(b) {
+        Ordering::Less => true,
+        Ordering::Equal => false,
+        Ordering::Greater => false,
+    }
 }

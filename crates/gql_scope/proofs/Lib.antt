@@ -8,6 +8,7 @@ pub mod JoinLemmas
 pub mod GatheringLemmas
 pub mod SoundLemmas
 pub mod EndpointLemmas
+mod TypeLemmas
 mod RefusalExamples
 mod ChangeExamples
 mod PatternExamples

@@ -39,6 +39,13 @@ use Rattle.gql_ast.specs.declared.projection.ReturnItems.TheVariants as items
 use Rattle.gql_ast.specs.declared.refusal.ColumnRef.TheVariants as column
 use Rattle.gql_ast.specs.declared.refusal.Refusal.{Refusal}
 use Rattle.gql_ast.specs.declared.refusal.Refusal.TheVariants as refusal
+use Rattle.gql_ast.specs.declared.change.Arrow.TheVariants as arrow
+use Rattle.gql_ast.specs.declared.graph_type.ElementBody.{ElementBody}
+use Rattle.gql_ast.specs.declared.graph_type.TypeElement.{TypeElement}
+use Rattle.gql_ast.specs.declared.graph_type.TypeElement.TheVariants as element
+use Rattle.gql_values3.specs.declared.prop_kind.PropKind.TheVariants as of_type
+use Rattle.gql_values3.specs.declared.prop_kind.Scalar.TheVariants as scalar
+use Rattle.gql_ast.specs.declared.statement.CatalogStatement.TheVariants as catalog
 use Rattle.gql_ast.specs.declared.statement.SessionStatement.TheVariants as session
 use Rattle.gql_ast.specs.declared.statement.Statement.TheVariants as statement
 use Rattle.gql_ast.specs.declared.words.Aggregate.TheVariants as aggregates
@@ -48,6 +55,10 @@ use Rattle.gql_ast.specs.declared.words.Quality.TheVariants as qualities
 use Rattle.gql_ast.specs.declared.words.Sense.TheVariants as senses
 use Rattle.gql_ast.specs.declared.words.SetQuantifier.{SetQuantifier}
 use Rattle.gql_ast.specs.declared.words.SetQuantifier.TheVariants as quantifier
+
+-- an element of a graph type without labels and properties
+abbrev blank : ElementBody
+blank = record { labels = None; properties = None }
 
 -- expressions
 abbrev one : Expr
@@ -111,6 +122,14 @@ refused cs = whole_refusal ((codes "p", integer (pos 1)) ∷ []) (statement.Quer
 -- of SESSION SET VALUE $z = e
 abbrev session_refused : Expr → Option Refusal
 session_refused e = whole_refusal ((codes "p", integer (pos 1)) ∷ []) (statement.Session (session.SetValue (codes "z") e))
+
+-- of CREATE GRAPH TYPE t with these elements
+abbrev type_refused : List TypeElement → Option Refusal
+type_refused es = whole_refusal [] (statement.Catalog (catalog.CreateType false (codes "t") (record { elements = es })))
+
+-- {(a)-[]->(b), (a)}
+an_unknown_end : type_refused (element.Edge (codes "a") arrow.Right blank (codes "b") ∷ element.Node (Some (codes "a")) blank ∷ []) ≡ Some (refusal.Variable (codes "b"))
+an_unknown_end = refl
 
 -- LET x = 1 LET x = 1 RETURN 1
 a_let_name_that_is_a_column : refused (clause.Let (to (codes "x") one ∷ []) ∷ clause.Let (to (codes "x") one ∷ []) ∷ ends_so ∷ []) ≡ Some (refusal.Variable (codes "x"))

@@ -1,4 +1,5 @@
 pub mod StaticRefusals
+pub mod CatalogRefusals
 pub mod StatementBounds
 pub mod WholePatterns
 pub mod SoundMatches

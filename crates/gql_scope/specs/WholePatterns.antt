@@ -1,6 +1,6 @@
 -- Static refusals: the first in the order of the codes E08 to E16 and E23, and within one code the first in the order of the
--- text. A MATCH is refused as the normal form of its pattern is; each other clause as the page of the code says. E05 stands
--- before them all, in `StatementBounds`.
+-- text. A MATCH is refused as the normal form of its pattern is; each other clause, and each other statement, as its page says.
+-- E05 stands before them all, in `StatementBounds`.
 use Rattle.std.specs.Prelude.{ℕ, Bool, false, ◌||◌, List, [], ◌∷◌, ◌++◌, map, Option, Some, None}
 use Rattle.std.specs.List.{list_any, flat_map}
 use Rattle.std.specs.Option.{option_or}
@@ -32,6 +32,7 @@ use Rattle.gql_scope.specs.Misuses.{misused_clause}
 use Rattle.gql_scope.specs.ColumnFaults.{faults_in_clause}
 use Rattle.gql_scope.specs.UnsetParameters.{parameters_of_clause}
 use Rattle.gql_scope.specs.StaticRefusals.{session_refusal}
+use Rattle.gql_scope.specs.CatalogRefusals.{catalog_refusal}
 
 -- what is said of a clause: of a MATCH by the normal form of its pattern, of each other clause by itself
 abbrev pub by_form : {A : Type 0} → (NormalPattern → A) → (Clause → A) → Clause → A
@@ -117,4 +118,5 @@ module _ (params : List (List ℕ × Datum)) where
   abbrev pub whole_refusal : Statement → Option Refusal
   whole_refusal (statement.Query q) = clauses_refusal q.clauses
   whole_refusal (statement.Session s) = session_refusal params s
+  whole_refusal (statement.Catalog s) = catalog_refusal s
   whole_refusal _ = None

@@ -6,6 +6,7 @@ ghost use Rattle.gql_scope.specs.StaticRefusals.{session_refusal, value_refusal}
 ghost use Rattle.gql_scope.specs.WholePatterns.{whole_refusal, clauses_refusal, name_refusal, repetition_refusal, use_refusal};
 ghost use Rattle.gql_expr_checks.specs.Gives.{Gives, Fails};
 
+use crate::catalog::check_catalog;
 use crate::column_faults::column_faults;
 use crate::joins::{joined_conditionals, joined_groups};
 use crate::misused_clauses::misused_clauses;
@@ -34,7 +35,8 @@ fn check_statement(alloc: Global, statement: &Statement, params: &Params) -> Res
     match statement {
         Statement::Query(query) => check_query(alloc, query.clauses.as_slice(), params),
         Statement::Session(statement) => check_session(alloc, statement, params),
-        Statement::Transaction(_) | Statement::Catalog(_) => Ok(()),
+        Statement::Catalog(statement) => check_catalog(alloc, statement),
+        Statement::Transaction(_) => Ok(()),
     }
 }
 

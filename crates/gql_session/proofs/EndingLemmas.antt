@@ -1,82 +1,115 @@
 -- How a run ends, from how the run of its text did.
-use Rattle.std.proofs.Common.{◌≡◌, ◌⊎◌, ℕ, ◌≤◌, ◌<◌, Bool, true, false, List, length, Option, Some, None, Result, Ok, Err, refl, sym, ap, ◌∙◌, subst, inl, inr, IsTrue, arith}
+use Rattle.std.proofs.Common.{◌≡◌, ◌⊎◌, ℕ, ◌≤◌, ◌<◌, Bool, true, false, List, [], ◌∷◌, ◌++◌, length, Option, Some, None, Result, Ok, Err, refl, sym, ap, ◌∙◌, subst, inl, inr, IsTrue, arith}
+use Rattle.std.specs.Prelude.{unwrap_or}
+use Rattle.gql_ports.specs.Held.{Holding}
 use Rattle.gql_ports.specs.declared.stored.Record.{Record}
 use Rattle.gql_graph.specs.Catalog.{CatalogData}
 use Rattle.gql_rowcode.specs.StandFor.{StandFor}
-use Rattle.gql_ast.specs.declared.refusal.Outcome.{Outcome}
-use Rattle.gql_session.specs.SessionState.{SessionState, starting}
-use Rattle.gql_session.specs.SessionRun.{RunsSession, no_pieces, one_more}
-use Rattle.gql_session.proofs.KeptLemmas.{step_kept}
-use Rattle.gql_session.specs.RunEnds.{SourceTells, most_bytes, EndsAs, is_before_reading, is_before_writing, is_complete}
-use Rattle.gql_session.specs.Words.{session_of}
-use Rattle.gql_ports.specs.Told.{Content}
+use Rattle.gql_rowcode.specs.FirstBad.{FirstBad}
+use Rattle.gql_txn.specs.Keeps.{Keeps, IsSameStore}
+use Rattle.gql_txn.specs.declared.load.LoadFault.TheVariants as load
+use Rattle.gql_machine.specs.Outcomes.{store_refusals}
+use Rattle.gql_machine.specs.SessionState.{SessionState, starting}
+use Rattle.gql_session.specs.Endings.{FaultCounts, RanWhole, RanFirst, RanAndFailed}
+use Rattle.gql_session.specs.RunEnds.{most_bytes, EndsAs, HoldsCatalog, NothingRan, is_before_reading, is_before_running, is_complete}
 use Rattle.gql_session.specs.declared.run_pieces.RunFault.{RunFault}
 use Rattle.gql_session.specs.declared.run_pieces.RunFault.TheVariants as fault
 use Rattle.gql_session.specs.declared.status.Status.{Status}
 use Rattle.gql_session.specs.declared.status.Status.TheVariants as status
-use Rattle.gql_session.specs.declared.load.LoadFault.TheVariants as load
 use Rattle.gql_session.specs.Machinery.TextEndings.{TextEnding, status_of, LoadedEndsAs}
+use Rattle.gql_session.proofs.CommandLemmas.{holding}
+use Rattle.gql_session.proofs.FaultLemmas.{rose_from}
 
 -- the text was read and run
-pub loaded_ends : (start : SessionState) (text before : List ℕ) (ran : Result Bool RunFault) (after : Option (List ℕ)) → length text ≤ most_bytes
-    → TextEnding start text before ran after → LoadedEndsAs start text before (status_of ran) after
-loaded_ends start text before (Ok false) after h e = (h, e)
-loaded_ends start text before (Ok true) after h e = (h, e)
-loaded_ends start text before (Err fault.Sink) after h e = (h, e)
-loaded_ends start text before (Err fault.OutOfMemory) after h e = inr (h, e)
+pub loaded_ends : (start : SessionState) (text before : List ℕ) (faults : FaultCounts) (held : Option Holding) (ran : Result Bool RunFault) (after : Option (List ℕ)) (held_after : Option Holding) → length text ≤ most_bytes
+    → TextEnding start text before faults held ran after held_after → LoadedEndsAs start text before faults held (status_of ran) after held_after
+loaded_ends start text before faults held (Ok false) after held_after h e = (h, e)
+loaded_ends start text before faults held (Ok true) after held_after h e = (h, e)
+loaded_ends start text before faults held (Err fault.Sink) after held_after h e = (h, e)
+loaded_ends start text before faults held (Err fault.OutOfMemory) after held_after h e = inr (h, e)
 
--- no piece changes the catalog that is kept
-kept_stays : {start end : SessionState} {pieces : List (List ℕ)} {outcomes : List Outcome} → RunsSession start pieces outcomes end → end.kept ≡ start.kept
-kept_stays no_pieces = refl
-kept_stays (one_more {middle = s} {after = t} {piece = p} {made = made} runs step) = step_kept s t p made step ∙ kept_stays runs
+-- The store
 
--- so the records stand for the one that is kept at the end
-kept : (records : List Record) (c : CatalogData) {end : SessionState} {pieces : List (List ℕ)} {outcomes : List Outcome} → StandFor records c → RunsSession (starting c) pieces outcomes end → StandFor records end.kept
-kept records c stands runs = let P : CatalogData → Type 0 = λ d. StandFor records d in subst P (sym (kept_stays runs)) stands
+-- it still tells, and its records stand for what is kept
+holds : (before after : Option Holding) (h : Holding) (c d : CatalogData) → before ≡ Some h → IsSameStore before after → StandFor h.records c → (Keeps before c → Keeps after d) → HoldsCatalog after d
+holds None after h c d e same stands kept = absurd (let x = e in cc)
+holds (Some k) None h c d e same stands kept = absurd same
+holds (Some k) (Some m) h c d e same stands kept =
+    let it : k ≡ h = ap (λ o. unwrap_or o k) e in
+    let P : Holding → Type 0 = λ x. StandFor x.records c in
+    record { holding = m; told = refl; stand = kept (subst P (sym it) stands) }
+
+pub nothing_ran : (records : List Record) (name : Option (List ℕ)) (before : List ℕ) (after : Option (List ℕ)) (held held_after : Option Holding) → held ≡ Some (holding name records) → after ≡ Some before
+    → held_after ≡ held → NothingRan records before after held_after
+nothing_ran records name before after held held_after k p q = record { written = p; holding = holding name records; told = q ∙ k; same = refl }
+
+-- The count of faults before the store was opened
+
+abbrev whole_from : {start : SessionState} {text before : List ℕ} {refused : Bool} {after : Option (List ℕ)} (a b c : ℕ) → a ≤ b → RanWhole start text before (record { before = b; after = c }) refused after
+    → RanWhole start text before (record { before = a; after = c }) refused after
+whole_from a b c h r = record { count = r.count; outcomes = r.outcomes; end = r.end; runs = r.runs; whole = r.whole; written = r.written; refused = r.refused; store = rose_from (store_refusals r.outcomes) a b c h r.store }
+
+abbrev first_from : {start : SessionState} {text before : List ℕ} {after : Option (List ℕ)} (a b c : ℕ) → a ≤ b → RanFirst start text before (record { before = b; after = c }) after
+    → RanFirst start text before (record { before = a; after = c }) after
+first_from a b c h r = record { count = r.count; outcomes = r.outcomes; end = r.end; runs = r.runs; written = r.written; store = rose_from (store_refusals r.outcomes) a b c h r.store }
+
+abbrev failed_from : {start : SessionState} {text before : List ℕ} {after : Option (List ℕ)} (a b c : ℕ) → a ≤ b → RanAndFailed start text before (record { before = b; after = c }) after
+    → RanAndFailed start text before (record { before = a; after = c }) after
+failed_from a b c h r = record { count = r.count; outcomes = r.outcomes; last = r.last; end = r.end; runs = r.runs; part = r.part; written = r.written; store = rose_from (store_refusals (r.outcomes ++ r.last ∷ [])) a b c h r.store }
 
 -- the catalog is that for which the records stand
-pub ends_as : (records : List Record) (c : CatalogData) (text before : List ℕ) (s : Status) (after : Option (List ℕ)) → StandFor records c
-    → LoadedEndsAs (starting c) text before s after → EndsAs records text before s after
-ends_as records c text before status.Answered after stands e = record { catalog = c; stands = stands; within = e.0; ran = e.1; kept = kept records c stands e.1.runs }
-ends_as records c text before status.Refused after stands e = record { catalog = c; stands = stands; within = e.0; ran = e.1; kept = kept records c stands e.1.runs }
-ends_as records c text before status.Usage after stands e = e
-ends_as records c text before status.SourceFault after stands e = e
-ends_as records c text before status.SinkFault after stands e = record { catalog = c; stands = stands; within = e.0; ran = e.1; kept = kept records c stands e.1.runs }
-ends_as records c text before status.StoreFault after stands e = absurd e
-ends_as records c text before status.NoMemory after stands (inl same) = inl same
-ends_as records c text before status.NoMemory after stands (inr e) = inr (record { catalog = c; stands = stands; within = e.0; ran = e.1; kept = kept records c stands e.1.runs })
-ends_as records c text before status.TooLong after stands e = e
-ends_as records c text before (status.BadStore i) after stands e = absurd e
+pub ends_as : (records : List Record) (name : Option (List ℕ)) (d : CatalogData) (text before : List ℕ) (a b c : ℕ) (s : Status) (after : Option (List ℕ)) (held held_after : Option Holding)
+    → held ≡ Some (holding name records) → a ≤ b → StandFor records d → IsSameStore held held_after → LoadedEndsAs (starting d) text before (record { before = b; after = c }) held s after held_after
+    → EndsAs records text before (record { before = a; after = c }) s after held_after
+ends_as records name d text before a b c status.Answered after held held_after k h stands same e =
+    record { catalog = d; stands = stands; within = e.0; ran = whole_from a b c h e.1.0; kept = holds held held_after (holding name records) d _ k same stands e.1.1 }
+ends_as records name d text before a b c status.Refused after held held_after k h stands same e =
+    record { catalog = d; stands = stands; within = e.0; ran = whole_from a b c h e.1.0; kept = holds held held_after (holding name records) d _ k same stands e.1.1 }
+ends_as records name d text before a b c status.Usage after held held_after k h stands same e = absurd e
+ends_as records name d text before a b c status.SourceFault after held held_after k h stands same e = nothing_ran records name before after held held_after k e.0 e.1
+ends_as records name d text before a b c status.SinkFault after held held_after k h stands same e =
+    record { catalog = d; stands = stands; within = e.0; ran = failed_from a b c h e.1.0; kept = holds held held_after (holding name records) d _ k same stands e.1.1 }
+ends_as records name d text before a b c status.StoreFault after held held_after k h stands same e = absurd e
+ends_as records name d text before a b c status.NoMemory after held held_after k h stands same (inl e) = inl (nothing_ran records name before after held held_after k e.0 e.1)
+ends_as records name d text before a b c status.NoMemory after held held_after k h stands same (inr e) =
+    inr (record { catalog = d; stands = stands; within = e.0; ran = first_from a b c h e.1.0; kept = holds held held_after (holding name records) d _ k same stands e.1.1 })
+ends_as records name d text before a b c status.TooLong after held held_after k h stands same e = (e.0, nothing_ran records name before after held held_after k e.1.0 e.1.1)
+ends_as records name d text before a b c (status.BadStore i) after held held_after k h stands same e = absurd e
+
+-- A record at fault
 
 -- the record at fault is the one told
 pub same_index : (j i : ℕ) → (load.BadRecord j ≡ load.BadRecord i) ⊎ IsTrue false → j ≡ i
 same_index j i (inl p) = cc
 same_index j i (inr p) = cc
 
--- the source's text, as it is told
-abbrev pub content_of : {words : List (List ℕ)} {source : Option Content} {text : List ℕ} → SourceTells words source text → Content
-content_of {text = text} t = record { name = t.name; ready = t.ready; left = text }
-
-pub named : {words : List (List ℕ)} {source : Option Content} {text : List ℕ} (t : SourceTells words source text) (name : List ℕ) → session_of words ≡ Some name → t.name ≡ name
-named t name p = let e = t.command in cc
+pub first_bad : (records : List Record) (j i : ℕ) → FirstBad records j → status.BadStore j ≡ status.BadStore i → FirstBad records i
+first_bad records j i bad p = let same : j ≡ i = cc in let P : ℕ → Type 0 = λ n. FirstBad records n in subst P same bad
 
 -- a record at fault is no lack of the store or of memory
 pub not_lacking : IsTrue false → ⊥
 not_lacking p = cc
 
--- words are a command or none
-pub not_both : {command : Option (List ℕ)} {name : List ℕ} → command ≡ Some name → command ≡ None → ⊥
-not_both p q = cc
+-- Which endings come
 
--- a run of a text doesn't end before it writes, nor at a text that is too long
-pub is_past_reading : (r : Result Bool RunFault) → is_before_writing (status_of r) ≡ false
+-- a run of a text doesn't end before it runs, nor at a text that is too long
+pub is_past_reading : (r : Result Bool RunFault) → is_before_running (status_of r) ≡ false
 is_past_reading (Ok false) = refl
 is_past_reading (Ok true) = refl
 is_past_reading (Err fault.Sink) = refl
 is_past_reading (Err fault.OutOfMemory) = refl
 
-pub not_too_long : (s : Status) → is_before_writing s ≡ false → ¬ (s ≡ status.TooLong)
-not_too_long s h p = let q = ap is_before_writing p in cc
+pub is_later : (s : Status) (r : Result Bool RunFault) → s ≡ status_of r → is_before_running s ≡ false
+is_later s r p = ap is_before_running p ∙ is_past_reading r
+
+pub not_before : {A : Type 0} (s : Status) → is_before_running s ≡ false → is_before_running s ≡ true → A
+not_before s h p = absurd (let q = sym h ∙ p in cc)
+
+pub not_too_long : (s : Status) → is_before_running s ≡ false → ¬ (s ≡ status.TooLong)
+not_too_long s h p = let q = ap is_before_running p in cc
+
+pub not_source_fault : (s : Status) → is_before_running s ≡ false → ¬ (s ≡ status.SourceFault)
+not_source_fault s h p = let q = ap is_before_running p in cc
 
 pub not_bad_store : (s : Status) (i : ℕ) → is_before_reading s ≡ false → ¬ (s ≡ status.BadStore i)
 not_bad_store s i h p = let q = ap is_before_reading p in cc

@@ -1,73 +1,46 @@
 -- A run of a text, piece by piece. Key idea: so many of its pieces were run, and the run of these is one.
-use Rattle.std.proofs.Common.{◌≡◌, ℕ, zero, suc, ◌+◌, ◌<◌, Bool, true, false, ◌||◌, List, [], ◌∷◌, ◌++◌, length, take, map, get_or, Option, Some, None, Result, Ok, Err, refl, ap, sym, ◌∙◌, inl, inr, append_assoc, append-nil, add-one, arith, subst}
-use Rattle.std.specs.Prelude.{unwrap_or, IsErr, IsErrAnd}
+use Rattle.std.proofs.Common.{◌≡◌, ℕ, zero, suc, ◌+◌, ◌<◌, Bool, true, false, ◌||◌, List, [], ◌∷◌, ◌++◌, length, take, map, get_or, Option, Some, refl, ap, sym, ◌∙◌, inl, inr, append_assoc, append-nil, add-one, arith, subst}
 use Rattle.std.specs.List.{list_any}
 use Rattle.std.proofs.lemmas.List.{length-map}
 use Rattle.gql_lexer.specs.declared.piece.Piece.{Piece}
 use Rattle.gql_lexer.specs.Pieces.{pieces_of}
+use Rattle.gql_ports.specs.Held.{Holding}
 use Rattle.gql_ast.specs.declared.refusal.Outcome.{Outcome}
 use Rattle.gql_text.specs.OutcomeText.{outcome_text}
-use Rattle.gql_ports.specs.Told.{MatchTold, Appends, AppendsPrefix}
+use Rattle.gql_txn.specs.Keeps.{Keeps}
+use Rattle.gql_machine.specs.Causes.{RoseBy}
+use Rattle.gql_machine.specs.Outcomes.{outcome_texts, is_refusal, store_refusals}
+use Rattle.gql_machine.specs.SessionState.{SessionState}
+use Rattle.gql_machine.specs.SessionRun.{Step, RunsSession, no_pieces, one_more}
 use Rattle.gql_session.specs.Pieces.{session_pieces}
-use Rattle.gql_session.specs.Outcomes.{outcome_texts, is_refusal}
-use Rattle.gql_session.specs.SessionState.{SessionState}
-use Rattle.gql_session.specs.SessionRun.{Step, RunsSession, no_pieces, one_more}
-use Rattle.gql_session.specs.Endings.{RanWhole, RanFirst}
+use Rattle.gql_session.specs.Endings.{FaultCounts}
+use Rattle.gql_session.specs.Machinery.TextEndings.{WrotePiece, PieceFault, EarlyEnd, WholeAndKept, FirstAndKept}
 use Rattle.gql_session.specs.declared.run_pieces.RunFault.{RunFault}
 use Rattle.gql_session.specs.declared.run_pieces.RunFault.TheVariants as fault
-use Rattle.gql_session.specs.Machinery.TextEndings.{RanPiece, FailedPiece, PieceFault, TextFault, TextEnding}
+use Rattle.gql_session.proofs.FaultLemmas.{rose_none, rose_on, rose_behind}
 
--- so many pieces were run
-pub record Ran (start : SessionState) (text before : List ℕ) (count : ℕ) (any_refused : Bool) (end : SessionState) (after : Option (List ℕ)) : Type 0 where
+-- so many pieces were run, and the store keeps what the machine keeps
+pub record Ran (start : SessionState) (text before : List ℕ) (count : ℕ) (faults : FaultCounts) (held : Option Holding) (any_refused : Bool) (end : SessionState) (after : Option (List ℕ)) (held_after : Option Holding) : Type 0 where
   pub outcomes : List Outcome
   pub runs : RunsSession start (take count (session_pieces text)) outcomes end
   pub written : after ≡ Some (before ++ outcome_texts outcomes)
   pub refused : list_any is_refusal outcomes ≡ any_refused
+  pub store : RoseBy (store_refusals outcomes) faults.before faults.after
+  pub kept : Keeps held start.kept → Keeps held_after end.kept
 
-pub ran_none : (start : SessionState) (text before : List ℕ) (after : Option (List ℕ)) → after ≡ Some before → Ran start text before 0 false start after
-ran_none start text before after p = record { outcomes = []; runs = no_pieces; written = p ∙ ap Some (sym (append-nil before)); refused = refl }
-
--- One piece
-
-some_same : {A : Type 0} (x y : A) → Some x ≡ Some y → x ≡ y
-some_same x y p = ap (λ o. unwrap_or o x) p
-
-appended : (old new : Option (List ℕ)) (before bytes : List ℕ) → old ≡ Some before → MatchTold old new (Appends bytes) → new ≡ Some (before ++ bytes)
-appended None None before bytes p m = cc
-appended None (Some b) before bytes p m = absurd m
-appended (Some a) None before bytes p m = absurd m
-appended (Some a) (Some b) before bytes p m = ap Some (m ∙ ap (λ t. t ++ bytes) (some_same a before p))
-
-appended_part : (old new : Option (List ℕ)) (before bytes : List ℕ) → old ≡ Some before → MatchTold old new (AppendsPrefix bytes) → (n : ℕ) × (new ≡ Some (before ++ take n bytes))
-appended_part None None before bytes p m = cc
-appended_part None (Some b) before bytes p m = absurd m
-appended_part (Some a) None before bytes p m = absurd m
-appended_part (Some a) (Some b) before bytes p m = (m.0, ap Some (m.1 ∙ ap (λ t. t ++ take m.0 bytes) (some_same a before p)))
-
-or_false : (b : Bool) → (b || false) ≡ b
-or_false true = refl
-or_false false = refl
-
--- a blank piece
-pub ran_blank : (start end : SessionState) (piece before : List ℕ) (after : Option (List ℕ)) → after ≡ Some before → Step start piece [] end → RanPiece start piece before false end after
-ran_blank start end piece before after p step = record { made = []; step = step; written = p ∙ ap Some (sym (append-nil before)); refused = refl }
-
--- a piece whose outcome's text was written
-pub ran_piece : (start end : SessionState) (piece before : List ℕ) (o : Outcome) (old new : Option (List ℕ)) → old ≡ Some before → MatchTold old new (Appends (outcome_text o))
-    → Step start piece (o ∷ []) end → RanPiece start piece before (is_refusal o) end new
-ran_piece start end piece before o old new p m step = record {
-  made = o ∷ [];
-  step = step;
-  written = appended old new before (outcome_text o) p m ∙ ap (λ t. Some (before ++ t)) (sym (append-nil (outcome_text o)));
-  refused = or_false (is_refusal o);
-}
-
--- a piece whose outcome's text could not be written
-pub failed_piece : (start end : SessionState) (piece before : List ℕ) (o : Outcome) (old new : Option (List ℕ)) → old ≡ Some before → MatchTold old new (AppendsPrefix (outcome_text o))
-    → Step start piece (o ∷ []) end → FailedPiece start piece before new
-failed_piece start end piece before o old new p m step =
-    let part = appended_part old new before (outcome_text o) p m in
-    record { last = o; end = end; step = step; part = part.0; written = part.1 }
+pub ran_none : (start end : SessionState) (text before : List ℕ) (n : ℕ) (held : Option Holding) (after : Option (List ℕ)) → end ≡ start → after ≡ Some before
+    → Ran start text before 0 (record { before = n; after = n }) held false end after held
+ran_none start end text before n held after e p =
+    let Runs : SessionState → Type 0 = λ s. RunsSession start [] [] s in
+    let Kept : SessionState → Type 0 = λ s. Keeps held s.kept in
+    record {
+      outcomes = [];
+      runs = subst Runs (sym e) no_pieces;
+      written = p ∙ ap Some (sym (append-nil before));
+      refused = refl;
+      store = rose_none n;
+      kept = λ k. subst Kept (sym e) k;
+    }
 
 -- One piece more
 
@@ -106,64 +79,86 @@ runs_on start text i p middle end os us h e runs step =
     let P : List (List ℕ) → Type 0 = λ ps. RunsSession start ps (os ++ us) end in
     subst P (sym (take-next text i p h e)) (one_more runs step)
 
-pub ran_more : (start : SessionState) (text before : List ℕ) (i : ℕ) (p : Piece) (r s : Bool) (middle end : SessionState) (written after : Option (List ℕ)) → i < length (pieces_of text)
-    → p ≡ get_or (pieces_of text) i p → (ran : Ran start text before i r middle written) → RanPiece middle p.bytes (before ++ outcome_texts ran.outcomes) s end after
-    → Ran start text before (i + 1) (r || s) end after
-ran_more start text before i p r s middle end written after h e ran step = record {
+pub ran_more : (start : SessionState) (text before : List ℕ) (i : ℕ) (p : Piece) (a b c : ℕ) (r s : Bool) (middle end : SessionState) (written after : Option (List ℕ)) (held held_middle held_after : Option Holding)
+    → i < length (pieces_of text) → p ≡ get_or (pieces_of text) i p → (ran : Ran start text before i (record { before = a; after = b }) held r middle written held_middle)
+    → WrotePiece middle p.bytes (before ++ outcome_texts ran.outcomes) (record { before = b; after = c }) held_middle s end after held_after
+    → Ran start text before (i + 1) (record { before = a; after = c }) held (r || s) end after held_after
+ran_more start text before i p a b c r s middle end written after held held_middle held_after h e ran step = record {
   outcomes = ran.outcomes ++ step.made;
   runs = runs_on start text i p middle end ran.outcomes step.made h e ran.runs step.step;
   written = longer before ran.outcomes step.made after step.written;
   refused = either ran.outcomes step.made r s ran.refused step.refused;
+  store = rose_behind ran.outcomes step.made a b c ran.store step.store;
+  kept = λ k. step.kept (ran.kept k);
 }
 
 -- Endings
 
 -- all pieces were run
-pub ran_all : (start : SessionState) (text before : List ℕ) (i : ℕ) (r : Bool) (end : SessionState) (after : Option (List ℕ)) → i ≡ length (pieces_of text)
-    → Ran start text before i r end after → RanWhole start text before r after
-ran_all start text before i r end after h ran = record {
-  count = i;
-  outcomes = ran.outcomes;
-  end = end;
-  runs = ran.runs;
-  whole = inl (h ∙ sym (length-map (pieces_of text) (λ (p : Piece). p.bytes)));
-  written = ran.written;
-  refused = ran.refused;
-}
+pub ran_all : (start : SessionState) (text before : List ℕ) (i : ℕ) (faults : FaultCounts) (r : Bool) (end : SessionState) (after : Option (List ℕ)) (held held_after : Option Holding) → i ≡ length (pieces_of text)
+    → Ran start text before i faults held r end after held_after → WholeAndKept start text before faults held r after held_after
+ran_all start text before i faults r end after held held_after h ran = (
+  record {
+    count = i;
+    outcomes = ran.outcomes;
+    end = end;
+    runs = ran.runs;
+    whole = inl (h ∙ sym (length-map (pieces_of text) (λ (p : Piece). p.bytes)));
+    written = ran.written;
+    refused = ran.refused;
+    store = ran.store;
+  },
+  ran.kept,
+)
 
 -- SESSION CLOSE was answered
-pub ran_closed : (start : SessionState) (text before : List ℕ) (i : ℕ) (r : Bool) (end : SessionState) (after : Option (List ℕ)) → end.is_closed ≡ true
-    → Ran start text before i r end after → RanWhole start text before r after
-ran_closed start text before i r end after h ran = record {
-  count = i;
-  outcomes = ran.outcomes;
-  end = end;
-  runs = ran.runs;
-  whole = inr h;
-  written = ran.written;
-  refused = ran.refused;
-}
-
-ran_nothing : (start : SessionState) (text before : List ℕ) (after : Option (List ℕ)) → after ≡ Some before → RanFirst start text before after
-ran_nothing start text before after p = record { count = 0; outcomes = []; end = start; runs = no_pieces; written = p ∙ ap Some (sym (append-nil before)) }
+pub ran_closed : (start : SessionState) (text before : List ℕ) (i : ℕ) (faults : FaultCounts) (r : Bool) (end : SessionState) (after : Option (List ℕ)) (held held_after : Option Holding) → end.is_closed ≡ true
+    → Ran start text before i faults held r end after held_after → WholeAndKept start text before faults held r after held_after
+ran_closed start text before i faults r end after held held_after h ran = (
+  record {
+    count = i;
+    outcomes = ran.outcomes;
+    end = end;
+    runs = ran.runs;
+    whole = inr h;
+    written = ran.written;
+    refused = ran.refused;
+    store = ran.store;
+  },
+  ran.kept,
+)
 
 -- the run of a piece ended early, and so that of the text
-pub text_fault : (start : SessionState) (text before : List ℕ) (i : ℕ) (p : Piece) (r : Bool) (middle : SessionState) (written after : Option (List ℕ)) (e : RunFault)
-    → i < length (pieces_of text) → p ≡ get_or (pieces_of text) i p → (ran : Ran start text before i r middle written)
-    → PieceFault middle p.bytes (before ++ outcome_texts ran.outcomes) e after → TextFault start text before e after
-text_fault start text before i p r middle written after fault.Sink h e ran failed = record {
-  count = i + 1;
-  outcomes = ran.outcomes;
-  last = failed.last;
-  end = failed.end;
-  runs = runs_on start text i p middle failed.end ran.outcomes (failed.last ∷ []) h e ran.runs failed.step;
-  part = failed.part;
-  written = failed.written;
-}
-text_fault start text before i p r middle written after fault.OutOfMemory h e ran same = record { count = i; outcomes = ran.outcomes; end = middle; runs = ran.runs; written = same }
+pub early_end : (start : SessionState) (text before : List ℕ) (i : ℕ) (p : Piece) (a b c : ℕ) (r : Bool) (middle end : SessionState) (written after : Option (List ℕ)) (held held_middle held_after : Option Holding) (e : RunFault)
+    → i < length (pieces_of text) → p ≡ get_or (pieces_of text) i p → (ran : Ran start text before i (record { before = a; after = b }) held r middle written held_middle)
+    → PieceFault middle p.bytes (before ++ outcome_texts ran.outcomes) (record { before = b; after = c }) held_middle e end after held_after
+    → EarlyEnd start text before (record { before = a; after = c }) held e after held_after
+early_end start text before i p a b c r middle end written after held held_middle held_after fault.Sink h e ran failed = (
+  record {
+    count = i + 1;
+    outcomes = ran.outcomes;
+    last = failed.last;
+    end = end;
+    runs = runs_on start text i p middle end ran.outcomes (failed.last ∷ []) h e ran.runs failed.step;
+    part = failed.part;
+    written = failed.written;
+    store = rose_behind ran.outcomes (failed.last ∷ []) a b c ran.store failed.store;
+  },
+  λ k. failed.kept (ran.kept k),
+)
+early_end start text before i p a b c r middle end written after held held_middle held_after fault.OutOfMemory h e ran unrun = (
+  record {
+    count = i;
+    outcomes = ran.outcomes;
+    end = middle;
+    runs = ran.runs;
+    written = unrun.written;
+    store = rose_on (store_refusals ran.outcomes) a b c ran.store unrun.later;
+  },
+  λ k. unrun.kept (ran.kept k),
+)
 
 -- no memory for the pieces at all
-pub none_ran : (start : SessionState) (text before : List ℕ) (r : Result Bool RunFault) (after : Option (List ℕ)) → after ≡ Some before
-    → IsErr r × IsErrAnd r (λ e. e ≡ fault.OutOfMemory) → TextEnding start text before r after
-none_ran start text before (Ok b) after p h = let no = h.0 in cc
-none_ran start text before (Err e) after p h = let P : RunFault → Type 0 = λ e. TextFault start text before e after in subst P (sym h.1) (ran_nothing start text before after p)
+pub ran_nothing : (start : SessionState) (text before : List ℕ) (n : ℕ) (held : Option Holding) (after : Option (List ℕ)) → after ≡ Some before → FirstAndKept start text before (record { before = n; after = n }) held after held
+ran_nothing start text before n held after p =
+    (record { count = 0; outcomes = []; end = start; runs = no_pieces; written = p ∙ ap Some (sym (append-nil before)); store = rose_none n }, λ k. k)

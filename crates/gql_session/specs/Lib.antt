@@ -1,12 +1,7 @@
 pub mod RunEnds
 pub mod Endings
-pub mod SessionRun
-pub mod StatementRun
-pub mod SessionState
-pub mod Reading
-pub mod Choices
 pub mod Pieces
-pub mod Outcomes
 pub mod Words
+pub mod GeneratedText
 pub mod Status
 pub mod Machinery

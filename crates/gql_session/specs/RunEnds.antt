@@ -1,74 +1,99 @@
 -- What the top call promises: what its ports tell as it begins, and the table of its endings.
-use Rattle.std.specs.Prelude.{◌≡◌, ℕ, ◌≤◌, ◌<◌, ◌⊎◌, Bool, true, false, List, length, Option, Some, None}
+use Rattle.std.specs.Prelude.{◌≡◌, ℕ, ◌≤◌, ◌<◌, ◌⊎◌, Bool, true, false, List, length, Option, Some}
 use Rattle.gql_ports.specs.Told.{Content}
 use Rattle.gql_ports.specs.Held.{Holding}
 use Rattle.gql_ports.specs.declared.stored.Record.{Record}
 use Rattle.gql_graph.specs.Catalog.{CatalogData}
 use Rattle.gql_rowcode.specs.StandFor.{StandFor}
 use Rattle.gql_rowcode.specs.FirstBad.{FirstBad}
-use Rattle.gql_session.specs.Words.{session_of}
-use Rattle.gql_session.specs.SessionState.{starting}
-use Rattle.gql_session.specs.Endings.{RanWhole, RanFirst, RanAndFailed}
+use Rattle.gql_machine.specs.SessionState.{starting}
+use Rattle.gql_session.specs.Words.{Command, run, selftest, command_of, store_of}
+use Rattle.gql_session.specs.GeneratedText.{generated}
+use Rattle.gql_session.specs.Endings.{FaultCounts, RanWhole, RanFirst, RanAndFailed}
 use Rattle.gql_session.specs.declared.status.Status.{Status}
 use Rattle.gql_session.specs.declared.status.Status.TheVariants as status
 
--- The words are a command, and the source tells that it bears the session's name and holds the text.
-pub record SourceTells (words : List (List ℕ)) (source : Option Content) (text : List ℕ) : Type 0 where
-  pub name : List ℕ
+-- the source tells that it bears this name and holds the text
+pub record HoldsText (name : List ℕ) (source : Option Content) (text : List ℕ) : Type 0 where
   pub ready : Bool
-  pub command : session_of words ≡ Some name
   pub source_is : source ≡ Some (record { name = name; ready = ready; left = text })
 
--- the keeper tells that it has no name and holds the records
-abbrev pub KeeperTells : Option Holding → List Record → Type 0
-KeeperTells keeper records = keeper ≡ Some (record { name = None; records = records })
+-- the text of a command's session: that of the file of its name, or the generated one
+abbrev pub IsTextOf : Command → Option Content → List ℕ → Type 0
+IsTextOf (run session store workers) source text = HoldsText session source text
+IsTextOf (selftest n) source text = text ≡ generated n
+
+-- The words are a command, and its session has the text.
+pub record SessionTells (words : List (List ℕ)) (source : Option Content) (text : List ℕ) : Type 0 where
+  pub command : Command
+  pub is_command : command_of words ≡ Some command
+  pub text_is : IsTextOf command source text
+
+-- The words are a command, and the keeper tells that it is its store and holds the records.
+pub record StoreTells (words : List (List ℕ)) (keeper : Option Holding) (records : List Record) : Type 0 where
+  pub command : Command
+  pub is_command : command_of words ≡ Some command
+  pub keeper_is : keeper ≡ Some (record { name = store_of command; records = records })
 
 -- All ports tell what they hold; before is what the sink holds.
 pub record PortsTell (words : List (List ℕ)) (source : Option Content) (sink : Option (List ℕ)) (keeper : Option Holding) (text before : List ℕ) (records : List Record) : Type 0 where
-  pub text_is : SourceTells words source text
+  pub text_is : SessionTells words source text
   pub sink_is : sink ≡ Some before
-  pub records_are : KeeperTells keeper records
+  pub records_are : StoreTells words keeper records
 
 -- the most bytes that a session's text may have
 abbrev pub most_bytes : ℕ
 most_bytes = 67108864
 
--- The records stand for a catalog, the text is within the limit, all of it was run over that catalog, and the records
--- stand for the catalog that the run keeps.
-pub record WholeRun (records : List Record) (text before : List ℕ) (any_refused : Bool) (after : Option (List ℕ)) : Type 0 where
+-- What the keeper holds: records of its store, which stand for the catalog.
+pub record HoldsCatalog (held : Option Holding) (c : CatalogData) : Type 0 where
+  pub holding : Holding
+  pub told : held ≡ Some holding
+  pub stand : StandFor holding.records c
+
+-- The records stand for a catalog, the text is within the limit, all of it was run over that catalog, and what the keeper holds then
+-- stands for the catalog that the run keeps.
+pub record WholeRun (records : List Record) (text before : List ℕ) (faults : FaultCounts) (any_refused : Bool) (after : Option (List ℕ)) (held : Option Holding) : Type 0 where
   pub catalog : CatalogData
   pub stands : StandFor records catalog
   pub within : length text ≤ most_bytes
-  pub ran : RanWhole (starting catalog) text before any_refused after
-  pub kept : StandFor records ran.end.kept
+  pub ran : RanWhole (starting catalog) text before faults any_refused after
+  pub kept : HoldsCatalog held ran.end.kept
 
 -- The same, but the run ended at a text that could not be written.
-pub record FailedRun (records : List Record) (text before : List ℕ) (after : Option (List ℕ)) : Type 0 where
+pub record FailedRun (records : List Record) (text before : List ℕ) (faults : FaultCounts) (after : Option (List ℕ)) (held : Option Holding) : Type 0 where
   pub catalog : CatalogData
   pub stands : StandFor records catalog
   pub within : length text ≤ most_bytes
-  pub ran : RanAndFailed (starting catalog) text before after
-  pub kept : StandFor records ran.end.kept
+  pub ran : RanAndFailed (starting catalog) text before faults after
+  pub kept : HoldsCatalog held ran.end.kept
 
 -- The same, but the run ended for want of memory.
-pub record PartRun (records : List Record) (text before : List ℕ) (after : Option (List ℕ)) : Type 0 where
+pub record PartRun (records : List Record) (text before : List ℕ) (faults : FaultCounts) (after : Option (List ℕ)) (held : Option Holding) : Type 0 where
   pub catalog : CatalogData
   pub stands : StandFor records catalog
   pub within : length text ≤ most_bytes
-  pub ran : RanFirst (starting catalog) text before after
-  pub kept : StandFor records ran.end.kept
+  pub ran : RanFirst (starting catalog) text before faults after
+  pub kept : HoldsCatalog held ran.end.kept
+
+-- nothing is written, and the keeper's records are as they were
+pub record NothingRan (records : List Record) (before : List ℕ) (after : Option (List ℕ)) (held : Option Holding) : Type 0 where
+  pub written : after ≡ Some before
+  pub holding : Holding
+  pub told : held ≡ Some holding
+  pub same : holding.records ≡ records
 
 -- What stands at each ending. Usage doesn't come where the words are a command.
-abbrev pub EndsAs : List Record → List ℕ → List ℕ → Status → Option (List ℕ) → Type 0
-EndsAs records text before status.Answered after = WholeRun records text before false after
-EndsAs records text before status.Refused after = WholeRun records text before true after
-EndsAs records text before status.Usage after = ⊥
-EndsAs records text before status.SourceFault after = after ≡ Some before
-EndsAs records text before status.SinkFault after = FailedRun records text before after
-EndsAs records text before status.StoreFault after = after ≡ Some before
-EndsAs records text before status.NoMemory after = (after ≡ Some before) ⊎ PartRun records text before after
-EndsAs records text before status.TooLong after = (most_bytes < length text) × (after ≡ Some before)
-EndsAs records text before (status.BadStore i) after = FirstBad records i × (after ≡ Some before)
+abbrev pub EndsAs : List Record → List ℕ → List ℕ → FaultCounts → Status → Option (List ℕ) → Option Holding → Type 0
+EndsAs records text before faults status.Answered after held = WholeRun records text before faults false after held
+EndsAs records text before faults status.Refused after held = WholeRun records text before faults true after held
+EndsAs records text before faults status.Usage after held = ⊥
+EndsAs records text before faults status.SourceFault after held = NothingRan records before after held
+EndsAs records text before faults status.SinkFault after held = FailedRun records text before faults after held
+EndsAs records text before faults status.StoreFault after held = NothingRan records before after held
+EndsAs records text before faults status.NoMemory after held = NothingRan records before after held ⊎ PartRun records text before faults after held
+EndsAs records text before faults status.TooLong after held = (most_bytes < length text) × NothingRan records before after held
+EndsAs records text before faults (status.BadStore i) after held = FirstBad records i × NothingRan records before after held
 
 -- Where that record is the first at fault, a run of a command ends so.
 abbrev pub EndsAtFault : ℕ → Status → Type 0
@@ -96,11 +121,11 @@ is_before_reading status.StoreFault = true
 is_before_reading (status.BadStore i) = true
 is_before_reading _ = false
 
--- nothing was written
-abbrev pub is_before_writing : Status → Bool
-is_before_writing status.Usage = true
-is_before_writing status.SourceFault = true
-is_before_writing status.StoreFault = true
-is_before_writing status.TooLong = true
-is_before_writing (status.BadStore i) = true
-is_before_writing _ = false
+-- nothing was run, so nothing was written, and the store stays
+abbrev pub is_before_running : Status → Bool
+is_before_running status.Usage = true
+is_before_running status.SourceFault = true
+is_before_running status.StoreFault = true
+is_before_running status.TooLong = true
+is_before_running (status.BadStore i) = true
+is_before_running _ = false

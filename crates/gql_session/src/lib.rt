@@ -1,30 +1,20 @@
 //! A run of the program, from its words to its status.
 //!
 //! The crate's promise is the contract of `run`: the bytes that it writes are the texts of one run of the session
-//! machine over the kept catalog, and every other ending has its stated cause. A session's text is cut into pieces; each
-//! is read as a statement and answered in turn, and its outcome's text is written by one `put`. `gql_lexer` and
-//! `gql_statements` read, `gql_scope` refuses, `gql_linear` and `gql_eval` answer, `gql_text` prints, and the catalog
-//! comes by `gql_ports`, `gql_rowcode` and `gql_graph`.
+//! machine over the kept catalog, what the store then holds stands for the catalog that this run keeps, and every other
+//! ending has its stated cause. `clap` reads the words; a session's text is read or generated, and cut into pieces; each
+//! is run by `gql_machine`, and its outcome's text is written by one `put`. The catalog comes by `gql_ports` and `gql_txn`.
 #![tactic(auto)]
 
-mod answer;
-mod current;
-pub mod laws;
+mod app;
+mod command_text;
+mod generated;
 mod load;
-mod parameters;
-mod query;
 mod read_text;
-mod reading;
-mod refusals;
 mod run_pieces;
 mod session;
-mod session_statement;
-mod state;
-mod statement;
+mod size;
 mod status;
-#[cfg(test)]
-mod tests;
-mod tools;
 mod top_call;
 mod words;
 

@@ -1,107 +1,34 @@
-//! The catalog for which the kept records stand.
-ghost use Rattle.std.specs.Prelude.{◌≡◌, ◌≢◌, ◌≤◌, ◌++◌, [], ◌∷◌, ℕ, List, Some, IfOk, IfErr, OnOk, MatchResult, ◌⊎◌, IsTrue};
+//! The catalog for which the records of a store stand.
+ghost use Rattle.std.specs.Prelude.{◌≡◌, ◌≤◌, ◌⊎◌, ℕ, List, Some, IfOk, IsTrue, MatchResult};
+ghost use Rattle.std.specs.Option.{option_copied};
 ghost use Rattle.gql_ports.specs.Causes.{Rose};
-ghost use Rattle.gql_ports.specs.Held.{Holding};
 ghost use Rattle.gql_ports.specs.declared.stored.Record.{Record as Stored};
 ghost use Rattle.gql_graph.specs.Catalog.{CatalogData};
 ghost use Rattle.gql_rowcode.specs.StandFor.{StandFor};
 ghost use Rattle.gql_rowcode.specs.FirstBad.{FirstBad};
-ghost use Rattle.gql_session.specs.RunEnds.{KeeperTells};
-ghost use Rattle.gql_session.specs.Machinery.Loading.{LoadCause, is_lack};
+ghost use Rattle.gql_txn.specs.TxnData.{settled};
+ghost use Rattle.gql_txn.specs.Loads.{LoadCause, is_lack};
 
-use gql_graph::Catalog;
-use gql_ports::{KeepFault, Keeper, Record};
-use gql_rowcode::{ReadFault, read};
+use gql_ports::Keeper;
+use gql_txn::{LoadFault, Txn};
 use std::alloc::Global;
 
-/// Why no catalog was loaded.
-#[derive(Clone, Copy, Debug, PartialEq, Eq)]
-pub enum LoadFault {
-    /// The store failed.
-    Failed,
-    /// The records are no catalog's; the first one at fault, from 0.
-    BadRecord(u64),
-    OutOfMemory,
-}
-
-impl From<KeepFault> for LoadFault {
-    ghost use Rattle.gql_session.specs.Machinery.Loading.{keep_fault_gives};
-
-    ghost from_gives = { keep_fault_gives };
-
-    fn from(fault: KeepFault) -> LoadFault {
-        match fault {
-            KeepFault::Failed => LoadFault::Failed,
-            KeepFault::OutOfMemory => LoadFault::OutOfMemory,
-        }
-    }
-}
-
-/// Opens the store without a name, fetches all its records, and reads them as a catalog.
-pub fn load<K: Keeper>(alloc: Global, keeper: &mut K) -> Result<Catalog, LoadFault>
-    ensures found { (records : List Stored) → KeeperTells (K.held keeper.old) records → MatchResult result (λ c. StandFor records c) (LoadCause records) }
-    ensures at_fault { (records : List Stored) (i : ℕ) → KeeperTells (K.held keeper.old) records → FirstBad records i → MatchResult result (λ _. ⊥) (λ e. (e ≡ LoadFault.BadRecord i) ⊎ IsTrue (is_lack e)) }
-    ensures complete { (records : List Stored) (c : CatalogData) → KeeperTells (K.held keeper.old) records → StandFor records c → MatchResult result (λ d. d ≡ c) (λ e. IsTrue (is_lack e)) }
-    ensures kept { (records : List Stored) → KeeperTells (K.held keeper.old) records → K.held keeper.new ≡ K.held keeper.old }
+/// Opens the store of that name, or one in memory, and loads its catalog.
+pub fn load_store<K: Keeper>(
+    alloc: Global,
+    store: Option<&str>,
+    keeper: &mut K,
+) -> Result<Txn, LoadFault>
+    ensures settled { IfOk result (λ t. t ≡ settled t.catalog) }
+    ensures found { (records : List Stored) → K.held keeper.old ≡ Some (record { name = option_copied store.entry; records = records }) → MatchResult result (λ t. (t ≡ settled t.catalog) × StandFor records t.catalog) (LoadCause records) }
+    ensures at_fault { (records : List Stored) (i : ℕ) → K.held keeper.old ≡ Some (record { name = option_copied store.entry; records = records }) → FirstBad records i → MatchResult result (λ _. ⊥) (λ e. (e ≡ LoadFault.BadRecord i) ⊎ IsTrue (is_lack e)) }
+    ensures complete { (records : List Stored) (c : CatalogData) → K.held keeper.old ≡ Some (record { name = option_copied store.entry; records = records }) → StandFor records c → MatchResult result (λ t. t.catalog ≡ c) (λ e. IsTrue (is_lack e)) }
+    ensures kept { (records : List Stored) → K.held keeper.old ≡ Some (record { name = option_copied store.entry; records = records }) → K.held keeper.new ≡ K.held keeper.old }
     ensures later { K.faults keeper.old ≤ K.faults keeper.new }
     ensures failed { result ≡ Err LoadFault.Failed → Rose (K.faults keeper.old) (K.faults keeper.new) }
 {
-    match keeper.open(None) {
-        Ok(()) => load_opened(alloc, keeper),
+    match keeper.open(store) {
+        Ok(()) => Txn::load(alloc, keeper),
         Err(fault) => Err(LoadFault::from(fault)),
-    }
-}
-
-/// Fetches all the records, and reads them as a catalog.
-fn load_opened<K: Keeper>(alloc: Global, keeper: &mut K) -> Result<Catalog, LoadFault>
-    ensures found { (h : Holding) → K.held keeper.old ≡ Some h → MatchResult result (λ c. StandFor h.records c) (LoadCause h.records) }
-    ensures at_fault { (h : Holding) (i : ℕ) → K.held keeper.old ≡ Some h → FirstBad h.records i → MatchResult result (λ _. ⊥) (λ e. (e ≡ LoadFault.BadRecord i) ⊎ IsTrue (is_lack e)) }
-    ensures complete { (h : Holding) (c : CatalogData) → K.held keeper.old ≡ Some h → StandFor h.records c → MatchResult result (λ d. d ≡ c) (λ e. IsTrue (is_lack e)) }
-    ensures kept { K.held keeper.new ≡ K.held keeper.old }
-    ensures later { K.faults keeper.old ≤ K.faults keeper.new }
-    ensures failed { result ≡ Err LoadFault.Failed → Rose (K.faults keeper.old) (K.faults keeper.new) }
-{
-    match fetch_all(alloc, keeper) {
-        Ok(records) => read_records(alloc, records.as_slice()),
-        Err(fault) => Err(LoadFault::from(fault)),
-    }
-}
-
-/// Reads the records as a catalog.
-fn read_records(alloc: Global, records: &[Record]) -> Result<Catalog, LoadFault>
-    ensures found { MatchResult result (λ c. StandFor records.now c) (LoadCause records.now) }
-    ensures at_fault { (i : ℕ) → FirstBad records.now i → MatchResult result (λ _. ⊥) (λ e. (e ≡ LoadFault.BadRecord i) ⊎ IsTrue (is_lack e)) }
-    ensures complete { (c : CatalogData) → StandFor records.now c → MatchResult result (λ d. d ≡ c) (λ e. IsTrue (is_lack e)) }
-    ensures read { result ≢ Err LoadFault.Failed }
-{
-    match read(alloc, records) {
-        Ok(catalog) => Ok(catalog),
-        Err(ReadFault::BadRecord(index)) => Err(LoadFault::BadRecord(index)),
-        Err(ReadFault::OutOfMemory) => Err(LoadFault::OutOfMemory),
-    }
-}
-
-/// All the records, in their order.
-fn fetch_all<K: Keeper>(alloc: Global, keeper: &mut K) -> Result<Vec<Record>, KeepFault>
-    ensures all { (h : Holding) → K.held keeper.old ≡ Some h → IfOk result (λ records. records.items ≡ h.records) }
-    ensures kept { K.held keeper.new ≡ K.held keeper.old }
-    ensures later { K.faults keeper.old ≤ K.faults keeper.new }
-    ensures failed { result ≡ Err KeepFault.Failed → Rose (K.faults keeper.old) (K.faults keeper.new) }
-{
-    let mut records = Vec::new(alloc);
-    for index in 0..keeper.len() {
-        let found = keeper.fetch(alloc, index)?;
-        push_record(&mut records, found)?;
-    }
-    Ok(records)
-}
-
-fn push_record(records: &mut Vec<Record>, found: Record) -> Result<(), KeepFault>
-    ensures ok { OnOk result (records.new.items ≡ records.old.items ++ found ∷ []) }
-    ensures err { IfErr result (λ e. e ≡ KeepFault.OutOfMemory) }
-{
-    match records.push(found) {
-        Ok(()) => Ok(()),
-        Err(_) => Err(KeepFault::OutOfMemory),
     }
 }

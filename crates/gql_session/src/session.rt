@@ -1,72 +1,96 @@
-//! The run of a session of that name: its catalog is loaded, its text is read, and its pieces are run.
-ghost use Rattle.std.specs.Prelude.{◌≡◌, ◌≤◌, ◌<◌, ℕ, List, Some, None, true, false, length};
+//! The run of a command: its store's catalog is loaded, its text is read, and its pieces are run.
+ghost use Rattle.std.specs.Prelude.{◌≡◌, ◌≢◌, ◌≤◌, ◌<◌, ℕ, List, Some, true, false, length};
+ghost use Rattle.std.specs.Option.{option_copied};
 ghost use Rattle.gql_ports.specs.Causes.{Rose};
-ghost use Rattle.gql_ports.specs.Told.{Content};
 ghost use Rattle.gql_ports.specs.declared.stored.Record.{Record as Stored};
 ghost use Rattle.gql_graph.specs.Catalog.{CatalogData};
 ghost use Rattle.gql_rowcode.specs.StandFor.{StandFor};
 ghost use Rattle.gql_rowcode.specs.FirstBad.{FirstBad};
-ghost use Rattle.gql_session.specs.SessionState.{starting};
-ghost use Rattle.gql_session.specs.RunEnds.{KeeperTells, EndsAs, EndsAtFault, most_bytes, is_before_reading, is_before_writing};
+ghost use Rattle.gql_txn.specs.TxnData.{settled};
+ghost use Rattle.gql_txn.specs.Keeps.{IsSameStore};
+ghost use Rattle.gql_machine.specs.SessionState.{starting};
+ghost use Rattle.gql_session.specs.Words.{selftest, store_of};
+ghost use Rattle.gql_session.specs.RunEnds.{IsTextOf, EndsAs, EndsAtFault, most_bytes, is_before_reading, is_before_running};
+ghost use Rattle.gql_session.specs.Machinery.Seen.{seen};
 ghost use Rattle.gql_session.specs.Machinery.TextEndings.{status_of, LoadedEndsAs};
 
-use crate::load::{LoadFault, load};
-use crate::read_text::{TextFault, read_named};
+use crate::command_text::text_of;
+use crate::load::load_store;
+use crate::read_text::TextFault;
 use crate::run_pieces::{RunFault, run_pieces};
 use crate::status::Status;
-use crate::tools::Tools;
-use gql_graph::{Catalog, Graph};
+use crate::words::Command;
+use gql_graph::Graph;
+use gql_machine::Tools;
 use gql_norm::Matcher;
 use gql_ports::{Keeper, Sink, Source};
+use gql_txn::{LoadFault, Txn};
 
-/// Runs the session of that name over the catalog that the keeper's records stand for.
-pub fn run_session<M: Matcher<Graph>, S: Source, W: Sink, K: Keeper>(
+/// Runs the command's session over the catalog that the records of its store stand for.
+pub fn run_command<M: Matcher<Graph>, S: Source, W: Sink, K: Keeper>(
     tools: &Tools<M>,
-    name: &str,
+    command: &Command<'_>,
     source: &mut S,
     sink: &mut W,
     keeper: &mut K,
 ) -> Status
-    ensures ends { (content : Content) (before : List ℕ) (records : List Stored) → S.told source.old ≡ Some content → content.name ≡ name.now → W.written sink.old ≡ Some before
-        → KeeperTells (K.held keeper.old) records → EndsAs records content.left before result (W.written sink.new) }
-    ensures at_fault { (records : List Stored) (i : ℕ) → KeeperTells (K.held keeper.old) records → FirstBad records i → EndsAtFault i result }
-    ensures kept { (records : List Stored) → KeeperTells (K.held keeper.old) records → K.held keeper.new ≡ K.held keeper.old }
-    ensures stands { (records : List Stored) (c : CatalogData) (i : ℕ) → KeeperTells (K.held keeper.old) records → StandFor records c → ¬ (result ≡ Status.BadStore i) }
-    ensures too_long { (content : Content) → S.told source.old ≡ Some content → content.name ≡ name.now → result ≡ Status.TooLong → most_bytes < length content.left }
-    ensures bad_store { (records : List Stored) (i : ℕ) → KeeperTells (K.held keeper.old) records → result ≡ Status.BadStore i → FirstBad records i }
+    ensures ends { (text before : List ℕ) (records : List Stored) → IsTextOf (seen command.now) (S.told source.old) text → W.written sink.old ≡ Some before
+        → K.held keeper.old ≡ Some (record { name = store_of (seen command.now); records = records })
+        → EndsAs records text before (record { before = K.faults keeper.old; after = K.faults keeper.new }) result (W.written sink.new) (K.held keeper.new) }
+    ensures at_fault { (records : List Stored) (i : ℕ) → K.held keeper.old ≡ Some (record { name = store_of (seen command.now); records = records }) → FirstBad records i → EndsAtFault i result }
+    ensures stays { (records : List Stored) → K.held keeper.old ≡ Some (record { name = store_of (seen command.now); records = records }) → is_before_running result ≡ true → K.held keeper.new ≡ K.held keeper.old }
+    ensures stands { (records : List Stored) (c : CatalogData) (i : ℕ) → K.held keeper.old ≡ Some (record { name = store_of (seen command.now); records = records }) → StandFor records c → ¬ (result ≡ Status.BadStore i) }
+    ensures too_long { (text : List ℕ) → IsTextOf (seen command.now) (S.told source.old) text → result ≡ Status.TooLong → most_bytes < length text }
+    ensures bad_store { (records : List Stored) (i : ℕ) → K.held keeper.old ≡ Some (record { name = store_of (seen command.now); records = records }) → result ≡ Status.BadStore i → FirstBad records i }
+    ensures selftest { (n : ℕ) → seen command.now ≡ selftest n → (S.told source.new ≡ S.told source.old) × (S.faults source.new ≡ S.faults source.old) × (result ≢ Status.TooLong) × (result ≢ Status.SourceFault) }
     ensures untaken { is_before_reading result ≡ true → S.told source.new ≡ S.told source.old }
-    ensures unwritten { is_before_writing result ≡ true → W.written sink.new ≡ W.written sink.old }
-    ensures command { ¬ (result ≡ Status.Usage) }
+    ensures unwritten { is_before_running result ≡ true → W.written sink.new ≡ W.written sink.old }
+    ensures is_command { ¬ (result ≡ Status.Usage) }
     ensures source_fault { result ≡ Status.SourceFault → Rose (S.faults source.old) (S.faults source.new) }
     ensures sink_fault { result ≡ Status.SinkFault → Rose (W.faults sink.old) (W.faults sink.new) }
     ensures store_fault { result ≡ Status.StoreFault → Rose (K.faults keeper.old) (K.faults keeper.new) }
 {
-    match load(tools.alloc, keeper) {
-        Ok(catalog) => run_loaded(tools, name, catalog, source, sink),
+    match load_store(tools.alloc, store_of(command), keeper) {
+        Ok(txn) => run_loaded(tools, command, txn, source, sink, keeper),
         Err(LoadFault::Failed) => Status::StoreFault,
         Err(LoadFault::BadRecord(index)) => Status::BadStore(index),
         Err(LoadFault::OutOfMemory) => Status::NoMemory,
     }
 }
 
-/// Reads the session of that name, and runs it over the catalog.
-fn run_loaded<M: Matcher<Graph>, S: Source, W: Sink>(
+/// The name of the command's store.
+fn store_of<'a>(command: &Command<'a>) -> Option<&'a str>
+    ensures { option_copied result ≡ store_of (seen command.now) }
+{
+    match command {
+        Command::Run(words) => words.store,
+        Command::Selftest(_) => None,
+    }
+}
+
+/// Reads the command's session, and runs it over the catalog.
+fn run_loaded<M: Matcher<Graph>, S: Source, W: Sink, K: Keeper>(
     tools: &Tools<M>,
-    name: &str,
-    catalog: Catalog,
+    command: &Command<'_>,
+    txn: Txn,
     source: &mut S,
     sink: &mut W,
+    keeper: &mut K,
 ) -> Status
-    ensures ends { (content : Content) (before : List ℕ) → S.told source.old ≡ Some content → content.name ≡ name.now → W.written sink.old ≡ Some before
-        → LoadedEndsAs (starting catalog) content.left before result (W.written sink.new) }
+    requires settled { txn ≡ settled txn.catalog }
+    ensures ends { (text before : List ℕ) → IsTextOf (seen command.now) (S.told source.old) text → W.written sink.old ≡ Some before
+        → LoadedEndsAs (starting txn.catalog) text before (record { before = K.faults keeper.old; after = K.faults keeper.new }) (K.held keeper.old) result (W.written sink.new) (K.held keeper.new) }
+    ensures same { IsSameStore (K.held keeper.old) (K.held keeper.new) }
     ensures loaded { is_before_reading result ≡ false }
-    ensures too_long { (content : Content) → S.told source.old ≡ Some content → content.name ≡ name.now → result ≡ Status.TooLong → most_bytes < length content.left }
-    ensures unwritten { is_before_writing result ≡ true → W.written sink.new ≡ W.written sink.old }
+    ensures stays { is_before_running result ≡ true → K.held keeper.new ≡ K.held keeper.old }
+    ensures too_long { (text : List ℕ) → IsTextOf (seen command.now) (S.told source.old) text → result ≡ Status.TooLong → most_bytes < length text }
+    ensures selftest { (n : ℕ) → seen command.now ≡ selftest n → (S.told source.new ≡ S.told source.old) × (S.faults source.new ≡ S.faults source.old) × (result ≢ Status.TooLong) × (result ≢ Status.SourceFault) }
+    ensures unwritten { is_before_running result ≡ true → W.written sink.new ≡ W.written sink.old }
     ensures source_fault { result ≡ Status.SourceFault → Rose (S.faults source.old) (S.faults source.new) }
     ensures sink_fault { result ≡ Status.SinkFault → Rose (W.faults sink.old) (W.faults sink.new) }
 {
-    match read_named(tools.alloc, name, source) {
-        Ok(text) => status_of(run_pieces(tools, catalog, text.as_slice(), sink)),
+    match text_of(tools.alloc, command, source) {
+        Ok(text) => status_of(run_pieces(tools, txn, text.as_slice(), sink, keeper)),
         Err(TextFault::Failed) => Status::SourceFault,
         Err(TextFault::TooLong) => Status::TooLong,
         Err(TextFault::OutOfMemory) => Status::NoMemory,

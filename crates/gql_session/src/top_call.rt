@@ -1,25 +1,26 @@
 //! The top call of the program, and its promise.
-ghost use Rattle.std.specs.Prelude.{◌≡◌, ◌≤◌, ◌<◌, ◌↔◌, ℕ, List, Some, None, map, string_bytes, length, true};
+ghost use Rattle.std.specs.Prelude.{◌≡◌, ◌≢◌, ◌≤◌, ◌<◌, ◌⊎◌, ℕ, List, Some, None, map, string_bytes, length, true};
 ghost use Rattle.gql_ports.specs.Causes.{Rose};
 ghost use Rattle.gql_ports.specs.declared.stored.Record.{Record as Stored};
 ghost use Rattle.gql_graph.specs.Catalog.{CatalogData};
 ghost use Rattle.gql_rowcode.specs.StandFor.{StandFor};
 ghost use Rattle.gql_rowcode.specs.FirstBad.{FirstBad};
-ghost use Rattle.gql_session.specs.Words.{session_of};
-ghost use Rattle.gql_session.specs.RunEnds.{PortsTell, SourceTells, KeeperTells, EndsAs, EndsAtFault, most_bytes, is_before_reading, is_before_writing, is_complete};
+ghost use Rattle.gql_session.specs.Words.{command_of, selftest};
+ghost use Rattle.gql_session.specs.RunEnds.{PortsTell, SessionTells, StoreTells, EndsAs, EndsAtFault, most_bytes, is_before_reading, is_before_running, is_complete};
 
-use crate::session::run_session;
+use crate::session::run_command;
 use crate::status::Status;
-use crate::tools::Tools;
-use crate::words::session_name;
+use crate::words::read_words;
 use gql_graph::Graph;
+use gql_machine::Tools;
 use gql_norm::Matcher;
 use gql_ports::{Keeper, Sink, Source};
 use std::alloc::Global;
 
-/// The top call: reads the words, opens the keeper and loads its records, reads the source, runs the session's
-/// statements one after another, their path patterns by the matcher, and writes each one's text to the sink by one
-/// `put`. Clauses with `..Tell` or `..Tells` speak of ports that tell what they hold; the others hold of all ports.
+/// The top call: reads the words, opens the keeper under the store's name and loads its records, reads the source or
+/// generates the text of a selftest, runs the session's statements one after another, their path patterns by the matcher,
+/// keeps what they change, and writes each one's text to the sink by one `put`. Clauses with `..Tell` or `..Tells` speak
+/// of ports that tell what they hold; the others hold of all ports.
 pub fn run<M: Matcher<Graph>, S: Source, W: Sink, K: Keeper>(
     alloc: Global,
     matcher: &M,
@@ -29,34 +30,40 @@ pub fn run<M: Matcher<Graph>, S: Source, W: Sink, K: Keeper>(
     keeper: &mut K,
 ) -> Status
     // What stands at the end is what the table of endings says of the status.
-    ensures ends { (text before : List ℕ) (records : List Stored) → PortsTell (map string_bytes words.now.items) (S.told source.old) (W.written sink.old) (K.held keeper.old) text before records → EndsAs records text before result (W.written sink.new) }
+    ensures ends { (text before : List ℕ) (records : List Stored) → PortsTell (map string_bytes words.now.items) (S.told source.old) (W.written sink.old) (K.held keeper.old) text before records
+        → EndsAs records text before (record { before = K.faults keeper.old; after = K.faults keeper.new }) result (W.written sink.new) (K.held keeper.new) }
 
     // Usage is the answer to words that are no command; each other ending has its cause.
-    ensures usage { (result ≡ Status.Usage) ↔ (session_of (map string_bytes words.now.items) ≡ None) }
+    ensures usage { result ≡ Status.Usage → command_of (map string_bytes words.now.items) ≡ None }
+    ensures no_command { command_of (map string_bytes words.now.items) ≡ None → (result ≡ Status.Usage) ⊎ (result ≡ Status.NoMemory) }
     ensures source_fault { result ≡ Status.SourceFault → Rose (S.faults source.old) (S.faults source.new) }
     ensures sink_fault { result ≡ Status.SinkFault → Rose (W.faults sink.old) (W.faults sink.new) }
     ensures store_fault { result ≡ Status.StoreFault → Rose (K.faults keeper.old) (K.faults keeper.new) }
-    ensures too_long { (text : List ℕ) → SourceTells (map string_bytes words.now.items) (S.told source.old) text → result ≡ Status.TooLong → most_bytes < length text }
-    ensures bad_store { (records : List Stored) (i : ℕ) → KeeperTells (K.held keeper.old) records → result ≡ Status.BadStore i → FirstBad records i }
+    ensures too_long { (text : List ℕ) → SessionTells (map string_bytes words.now.items) (S.told source.old) text → result ≡ Status.TooLong → most_bytes < length text }
+    ensures bad_store { (records : List Stored) (i : ℕ) → StoreTells (map string_bytes words.now.items) (K.held keeper.old) records → result ≡ Status.BadStore i → FirstBad records i }
+
+    // A selftest asks nothing of the source.
+    ensures selftest { (n : ℕ) → command_of (map string_bytes words.now.items) ≡ Some (selftest n) → (S.told source.new ≡ S.told source.old) × (S.faults source.new ≡ S.faults source.old) × (result ≢ Status.TooLong) × (result ≢ Status.SourceFault) }
 
     // A command over records that are no catalog's runs no statement.
-    ensures at_fault { (name : List ℕ) (records : List Stored) (i : ℕ) → session_of (map string_bytes words.now.items) ≡ Some name → KeeperTells (K.held keeper.old) records → FirstBad records i → EndsAtFault i result }
+    ensures at_fault { (records : List Stored) (i : ℕ) → StoreTells (map string_bytes words.now.items) (K.held keeper.old) records → FirstBad records i → EndsAtFault i result }
 
-    // The records stay; before the source is opened no byte of it is taken, and before a statement is run none is written.
-    ensures kept { (records : List Stored) → KeeperTells (K.held keeper.old) records → K.held keeper.new ≡ K.held keeper.old }
+    // Before a statement is run the records stay, and nothing is written; before the source is opened no byte of it is taken.
+    ensures stays { (records : List Stored) → StoreTells (map string_bytes words.now.items) (K.held keeper.old) records → is_before_running result ≡ true → K.held keeper.new ≡ K.held keeper.old }
     ensures unopened { result ≡ Status.Usage → K.held keeper.new ≡ K.held keeper.old }
     ensures untaken { is_before_reading result ≡ true → S.told source.new ≡ S.told source.old }
-    ensures unwritten { is_before_writing result ≡ true → W.written sink.new ≡ W.written sink.old }
+    ensures unwritten { is_before_running result ≡ true → W.written sink.new ≡ W.written sink.old }
 
     // Where nothing fails, the text is within its limit and the records are a catalog's, the whole text is run, unless
     // there is no memory.
-    ensures complete { (text : List ℕ) (records : List Stored) (c : CatalogData) → SourceTells (map string_bytes words.now.items) (S.told source.old) text → KeeperTells (K.held keeper.old) records
+    ensures complete { (text : List ℕ) (records : List Stored) (c : CatalogData) → SessionTells (map string_bytes words.now.items) (S.told source.old) text → StoreTells (map string_bytes words.now.items) (K.held keeper.old) records
         → StandFor records c → length text ≤ most_bytes → ¬ Rose (S.faults source.old) (S.faults source.new) → ¬ Rose (W.faults sink.old) (W.faults sink.new)
         → ¬ Rose (K.faults keeper.old) (K.faults keeper.new) → is_complete result ≡ true }
 {
     let tools = Tools { alloc, matcher };
-    match session_name(words) {
-        None => Status::Usage,
-        Some(name) => run_session(&tools, name, source, sink, keeper),
+    match read_words(alloc, words) {
+        Ok(None) => Status::Usage,
+        Ok(Some(command)) => run_command(&tools, &command, source, sink, keeper),
+        Err(_) => Status::NoMemory,
     }
 }

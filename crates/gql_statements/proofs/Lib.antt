@@ -1,3 +1,4 @@
+pub mod WordLaws
 pub mod ClauseLaws
 pub mod PageLaws
 pub mod ReturnLaws
@@ -7,5 +8,11 @@ pub mod InsertLaws
 pub mod ChangeLaws
 pub mod FirstWords
 pub mod QueryLaws
+pub mod GraphWordLaws
+pub mod SessionLaws
+pub mod TransactionLaws
+pub mod GraphKindLaws
+pub mod CatalogNameLaws
+pub mod CatalogLaws
 pub mod StatementLaws
 pub mod QueryLoops

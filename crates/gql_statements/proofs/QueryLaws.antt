@@ -7,23 +7,24 @@ use Rattle.gql_ast.specs.declared.clause.Clause.{Clause}
 use Rattle.gql_ast.specs.declared.clause.Clause.TheVariants as clause
 use Rattle.gql_ast.specs.declared.clause.Query.{Query}
 use Rattle.gql_ast.specs.declared.projection.Return.{Return}
-use Rattle.gql_lexer.specs.WordPlaces.{RETURN, SESSION}
+use Rattle.gql_lexer.specs.WordPlaces.{RETURN}
 use Rattle.gql_front.specs.Reading.{◌>>=◌, is_word, after, op_at, many}
 use Rattle.gql_front.proofs.Chains.{Many}
-use Rattle.gql_front.proofs.Found.{Sound, some_is}
+use Rattle.gql_front.proofs.Found.{Sound, some_is, is_there}
 use Rattle.gql_front.proofs.LexemeTests.{word_is, cond_some_is}
 use Rattle.gql_front.proofs.TableLemmas.{word_row}
 use Rattle.gql_statements.specs.declared.clause_word.ClauseWord.{ClauseWord}
 use Rattle.gql_statements.specs.declared.clause_word.ClauseWord.TheVariants as begins
 use Rattle.gql_parts.specs.Parts.{Passes}
 use Rattle.gql_statements.specs.ClauseWords.{clause_words, clause_word}
+use Rattle.gql_statements.specs.StatementWords.{statement_word}
 use Rattle.gql_statements.specs.ClauseGrammar.{IsClause, IsLast}
 use Rattle.gql_statements.specs.QueryGrammar.{is_page, no_pages_meet, AreClauses, IsQuery}
 use Rattle.gql_statements.specs.Machinery.ClauseReaders.{clause_behind, clause_of}
 use Rattle.gql_statements.specs.Machinery.ReturnReaders.{return_of}
 use Rattle.gql_ast.specs.LastClause.{is_change, ends_in_change}
 use Rattle.gql_statements.specs.Machinery.QueryReaders.{clauses_of, return_or_change, with_last_clause_of, query_of}
-use Rattle.gql_parts.proofs.PartLaws.{Stops, bind_then, finish, passes_after, after_passes, word_apart, passes_stops}
+use Rattle.gql_parts.proofs.PartLaws.{Stops, bind_then, finish, passes_after, after_passes, stops_op, word_apart, passes_stops}
 use Rattle.gql_parts.proofs.ManyLaws.{many_none, many_next, many_sound}
 use Rattle.gql_statements.proofs.PageLaws.{goes_page}
 use Rattle.gql_statements.proofs.ReturnLaws.{return_sound, return_exact}
@@ -61,8 +62,12 @@ no_page t w e q h =
     (λ x. (λ i. refl, (λ i. refl, (λ i. refl, (λ i. refl, (λ i. refl, (λ i. absurd (not_both i), (λ i. absurd (not_both i), (λ i. absurd (not_both i), (λ i. absurd (not_both i), (λ i. refl, (λ i. refl, (λ i. refl, (λ i. refl, (λ i. refl, (λ i. refl, tt)))))))))))))))) t w e q in
     cc
 
-no_session : (t : Lexeme) (w : ClauseWord) → clause_word t ≡ Some w → is_word SESSION t ≡ true → ⊥
-no_session t w e h = let f = word_row (λ t w. is_word SESSION t ≡ false) clause_words (λ x. (refl, (refl, (refl, (refl, (refl, (refl, (refl, (refl, (refl, (refl, (refl, (refl, (refl, (refl, (refl, tt)))))))))))))))) t w e in cc
+-- the first words of other statements
+abbrev is_other : Lexeme → Bool
+is_other t = is_there (statement_word t)
+
+not_other : (t : Lexeme) (w : ClauseWord) → clause_word t ≡ Some w → is_other t ≡ true → ⊥
+not_other t w e h = let f = word_row (λ t w. is_other t ≡ false) clause_words (λ x. (refl, (refl, (refl, (refl, (refl, (refl, (refl, (refl, (refl, (refl, (refl, (refl, (refl, (refl, (refl, tt)))))))))))))))) t w e in cc
 
 -- no first word of the clause passes the test
 abbrev NoWord : (Lexeme → Bool) → Clause → Type 0
@@ -246,9 +251,10 @@ query_exact q ts h = go q.clauses h.0 h.1
     go [] ok k = absurd k
     go (c ∷ cs) ok k = split_read ts (c ∷ cs) ok (clauses_exact (length ts) c cs ts (omega arith) k ok)
 
-pub query_begins : (q : Query) (ts r : List Lexeme) → IsQuery q ts r → Stops (is_word SESSION) ts
-query_begins q ts r h = go q.clauses h.1
+-- no query begins with the first word of another statement
+pub query_begins : (q : Query) (ts r : List Lexeme) → IsQuery q ts r → op_at statement_word ts ≡ None
+query_begins q ts r h = stops_op statement_word ts (go q.clauses h.1)
   where
-    go : (cs : List Clause) → AreClauses cs ts r → Stops (is_word SESSION) ts
+    go : (cs : List Clause) → AreClauses cs ts r → Stops is_other ts
     go [] k = absurd k
-    go (c ∷ cs) k = clauses_stop (is_word SESSION) (λ x. refl) c cs ts r (λ t w e q i. no_session t w e i) k
+    go (c ∷ cs) k = clauses_stop is_other (λ x. refl) c cs ts r (λ t w e q i. not_other t w e i) k

@@ -8,9 +8,14 @@ pub mod MatchGrammar
 pub mod ChangeGrammar
 pub mod ClauseGrammar
 pub mod QueryGrammar
+pub mod GraphGrammar
 pub mod SessionGrammar
+pub mod TransactionGrammar
+pub mod CatalogGrammar
 pub mod StatementGrammar
 pub mod ChangeWords
 pub mod ClauseWords
 pub mod SessionWords
+pub mod TransactionWords
+pub mod StatementWords
 pub mod Machinery

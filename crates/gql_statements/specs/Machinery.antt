@@ -5,4 +5,8 @@ pub mod MatchReaders
 pub mod ChangeReaders
 pub mod ClauseReaders
 pub mod QueryReaders
+pub mod GraphReaders
+pub mod SessionReaders
+pub mod TransactionReaders
+pub mod CatalogReaders
 pub mod StatementReaders

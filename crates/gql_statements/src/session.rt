@@ -4,11 +4,12 @@ ghost use Rattle.std.specs.Prelude.{◌≡◌, ◌<◌, ◌≤◌, length, IfOk}
 ghost use Rattle.gql_front.specs.Reads.{Reads, TakesAs};
 ghost use Rattle.gql_front.specs.Reading.{op_at};
 ghost use Rattle.gql_statements.specs.PartWords.{param_in};
-ghost use Rattle.gql_statements.specs.Machinery.StatementReaders.{set_of, session_of};
+ghost use Rattle.gql_statements.specs.Machinery.SessionReaders.{set_graph_of, set_value_of, set_of, session_of};
 
+use crate::graph_words::after_graph;
 use crate::session_word::{SessionWord, session_word_at};
 use gql_ast::{ParseFault, SessionStatement};
-use gql_front::{NoFront, ParseResult, after_sign, after_word};
+use gql_front::{NoFront, ParseResult, after_sign, after_word, plain_name};
 use gql_lexer::Lexeme;
 use gql_lexer::symbols::EQUAL;
 use gql_lexer::words::VALUE;
@@ -17,7 +18,7 @@ use gql_values3::Text;
 use std::alloc::Global;
 
 /// A statement about the session, behind SESSION.
-#[tactic(auto, unfolding(crate::specs::Machinery::StatementReaders::session_of))]
+#[tactic(auto, unfolding(crate::specs::Machinery::SessionReaders::session_of))]
 pub fn session<'a>(alloc: Global, rest: &'a [Lexeme]) -> ParseResult<'a, SessionStatement>
     ensures { Reads result rest.now session_of }
 {
@@ -29,10 +30,33 @@ pub fn session<'a>(alloc: Global, rest: &'a [Lexeme]) -> ParseResult<'a, Session
     }
 }
 
-/// VALUE, a parameter and its expression, behind SET.
-#[tactic(auto, unfolding(crate::specs::Machinery::StatementReaders::set_of))]
+/// What is set, behind SET: the graph, or the value of a parameter.
+#[tactic(auto, unfolding(crate::specs::Machinery::SessionReaders::set_of))]
 fn set<'a>(alloc: Global, rest: &'a [Lexeme]) -> ParseResult<'a, SessionStatement>
     ensures { Reads result rest.now set_of }
+{
+    match after_graph(rest) {
+        Ok(behind) => {
+            let (found, rest) = set_graph(alloc, behind)?;
+            Ok((found, rest))
+        }
+        Err(NoFront) => set_value(alloc, rest),
+    }
+}
+
+/// The name of a graph, behind GRAPH.
+#[tactic(auto, unfolding(crate::specs::Machinery::SessionReaders::set_graph_of))]
+fn set_graph<'a>(alloc: Global, rest: &'a [Lexeme]) -> ParseResult<'a, SessionStatement>
+    ensures { Reads result rest.now set_graph_of }
+{
+    let (name, rest) = plain_name(rest)?;
+    Ok((SessionStatement::SetGraph(name.try_copy(alloc)?), rest))
+}
+
+/// VALUE, a parameter and its expression.
+#[tactic(auto, unfolding(crate::specs::Machinery::SessionReaders::set_value_of))]
+fn set_value<'a>(alloc: Global, rest: &'a [Lexeme]) -> ParseResult<'a, SessionStatement>
+    ensures { Reads result rest.now set_value_of }
 {
     let rest = after_word(VALUE, rest)?;
     let (name, rest) = parameter(rest)?;

@@ -1,5 +1,5 @@
 -- Among elements and types that are in order, what the code finds is what conformance says.
-use Rattle.std.proofs.Common.{◌≡◌, ℕ, zero, suc, ◌<◌, ◌≤◌, nat_lt, nat_le, Bool, true, false, not, cond, ◌&&◌, ◌||◌, ◌==◌, List, [], ◌∷◌, map, length, Option, Some, None, refl, sym, ap, subst, ◌∙◌, arith}
+use Rattle.std.proofs.Common.{◌≡◌, ℕ, zero, suc, ◌<◌, ◌≤◌, nat_lt, nat_le, ◌^◌, Bool, true, false, not, cond, ◌&&◌, ◌||◌, ◌==◌, List, [], ◌∷◌, map, length, Option, Some, None, refl, sym, ap, subst, ◌∙◌, arith}
 use Rattle.std.specs.Prelude.{find, option_map, is_some, slice_get}
 use Rattle.std.specs.Option.{option_or}
 use Rattle.std.specs.List.{list_all, list_any}
@@ -23,6 +23,7 @@ use Rattle.gql_graph.specs.declared.graph_type.GraphType.{GraphType}
 use Rattle.gql_type.specs.GraphTypes.{is_content_type, is_node_type, is_edge_type, is_graph_type}
 use Rattle.gql_type.specs.Conformance.{PropertyList, same_set, is_allowed, is_provided, has_content, fits_node_type, both_fit, is_end, has_ends, fits_edge_type, node_fits, edge_fits, conforms, first_misfit, is_least_misfit}
 use Rattle.gql_type.specs.Machinery.InOrder.{matches_content, matches_node_type, both_match, end_matches, ends_match, matches_edge_type, node_matches, edge_matches, first_unmatched}
+use Rattle.gql_graph.specs.Machinery.Ascending.{AscendsTo}
 use Rattle.gql_graph.proofs.GraphLemmas.{first_true}
 use Rattle.gql_type.proofs.SetLemmas.{same_names-in_order}
 use Rattle.gql_type.proofs.MatchingLemmas.{names_of, names_in, are_matched-in_order}
@@ -70,21 +71,17 @@ module _ (labels : List (List ℕ)) (body : List PropType) (ls : List (List ℕ)
 node_agrees : (r : NodeRecord) (t : NodeType) → is_node_record r ≡ true → is_node_type t ≡ true → matches_node_type r t ≡ fits_node_type r t
 node_agrees r t own kind = content_matches t.labels t.body r.labels r.properties kind own
 
-module _ (g : PropertyGraph) (t : GraphType) (one : is_graph g ≡ true) (typed : is_graph_type t ≡ true) where
-  abbrev nodes_part : (are_nodes g.nodes g.next_node ≡ true) × (are_edges g.nodes g.edges g.next_edge ≡ true)
-  nodes_part = and_parts (are_nodes g.nodes g.next_node) (are_edges g.nodes g.edges g.next_edge) one
-
-  node_records : list_all is_node_record g.nodes ≡ true
-  node_records = (and_parts (are_numbers (map (λ (r : NodeRecord). r.number.0) g.nodes) g.next_node) (list_all is_node_record g.nodes) nodes_part.0).1
-
-  edge_records : list_all (is_edge_record g.nodes) g.edges ≡ true
-  edge_records = (and_parts (are_numbers (map (λ (r : EdgeRecord). r.number.0) g.edges) g.next_edge) (list_all (is_edge_record g.nodes) g.edges) nodes_part.1).1
-
+-- of a graph type in order
+module _ (t : GraphType) (typed : is_graph_type t ≡ true) where
   node_types : list_all is_node_type t.nodes ≡ true
   node_types = (and_parts (list_all is_node_type t.nodes) (list_all (is_edge_type (length t.nodes)) t.edges) typed).0
 
   edge_types : list_all (is_edge_type (length t.nodes)) t.edges ≡ true
   edge_types = (and_parts (list_all is_node_type t.nodes) (list_all (is_edge_type (length t.nodes)) t.edges) typed).1
+
+  -- one node fits where the code finds that it does
+  pub one_node : (r : NodeRecord) → is_node_record r ≡ true → node_matches t r ≡ node_fits t r
+  one_node r own = same_any is_node_type (matches_node_type r) (fits_node_type r) (λ k kind. node_agrees r k own kind) t.nodes node_types
 
   both_agree : (r : Option NodeRecord) (k : Option NodeType) → ((x : NodeRecord) → r ≡ Some x → is_node_record x ≡ true) → ((x : NodeType) → k ≡ Some x → is_node_type x ≡ true)
       → both_match r k ≡ both_fit r k
@@ -92,27 +89,58 @@ module _ (g : PropertyGraph) (t : GraphType) (one : is_graph g ≡ true) (typed 
   both_agree (Some r) None h j = refl
   both_agree None k h j = refl
 
-  end_agrees : (n : NodeId) (place : ℕ) → end_matches g t n place ≡ is_end g t n place
-  end_agrees n place =
-      both_agree (node_of g n) (slice_get t.nodes place)
-      (λ x e. found_passes is_node_record _ g.nodes x node_records e) (λ x e. got_passes is_node_type t.nodes place x node_types e)
+  module _ (g : PropertyGraph) (records : list_all is_node_record g.nodes ≡ true) where
+    end_agrees : (n : NodeId) (place : ℕ) → end_matches g.nodes t n place ≡ is_end g t n place
+    end_agrees n place =
+        both_agree (node_of g n) (slice_get t.nodes place)
+        (λ x e. found_passes is_node_record _ g.nodes x records e) (λ x e. got_passes is_node_type t.nodes place x node_types e)
 
-  ends_agree : (e : Ends) (k : EdgeType) → ends_match g t e k ≡ has_ends g t e k
-  ends_agree (ends.Directed s d) k = λ i. k.directed && end_agrees s k.first i && end_agrees d k.second i
-  ends_agree (ends.Undirected l h) k =
-      λ i. not k.directed && ((end_agrees l k.first i && end_agrees h k.second i) || (end_agrees h k.first i && end_agrees l k.second i))
+    ends_agree : (e : Ends) (k : EdgeType) → ends_match g.nodes t e k ≡ has_ends g t e k
+    ends_agree (ends.Directed s d) k = λ i. k.directed && end_agrees s k.first i && end_agrees d k.second i
+    ends_agree (ends.Undirected l h) k =
+        λ i. not k.directed && ((end_agrees l k.first i && end_agrees h k.second i) || (end_agrees h k.first i && end_agrees l k.second i))
 
-  edge_agrees : (r : EdgeRecord) → is_edge_record g.nodes r ≡ true → (k : EdgeType) → is_edge_type (length t.nodes) k ≡ true → matches_edge_type g t r k ≡ fits_edge_type g t r k
-  edge_agrees r own k kind =
-      let content = (and_parts (is_content_type k.labels k.body) (nat_lt k.first (length t.nodes)) ((and_parts (is_content_type k.labels k.body && nat_lt k.first (length t.nodes)) (nat_lt k.second (length t.nodes)) kind).0)).0 in
-      let lists = (and_parts (texts_ascend r.labels && are_properties r.properties) (are_ends g.nodes r.ends) own).0 in
-      λ i. content_matches k.labels k.body r.labels r.properties content lists i && ends_agree r.ends k i
+    edge_agrees : (r : EdgeRecord) → (texts_ascend r.labels && are_properties r.properties) ≡ true → (k : EdgeType) → is_edge_type (length t.nodes) k ≡ true → matches_edge_type g.nodes t r k ≡ fits_edge_type g t r k
+    edge_agrees r own k kind =
+        let content = (and_parts (is_content_type k.labels k.body) (nat_lt k.first (length t.nodes)) ((and_parts (is_content_type k.labels k.body && nat_lt k.first (length t.nodes)) (nat_lt k.second (length t.nodes)) kind).0)).0 in
+        λ i. content_matches k.labels k.body r.labels r.properties content own i && ends_agree r.ends k i
+
+    pub one_edge : (r : EdgeRecord) → (texts_ascend r.labels && are_properties r.properties) ≡ true → edge_matches g.nodes t r ≡ edge_fits g t r
+    one_edge r own = same_any (is_edge_type (length t.nodes)) (matches_edge_type g.nodes t r) (fits_edge_type g t r) (λ k kind. edge_agrees r own k kind) t.edges edge_types
+
+-- of nodes that are those of some graph
+pub records_of : (nodes : List NodeRecord) (next : ℕ) → are_nodes nodes next ≡ true → list_all is_node_record nodes ≡ true
+records_of nodes next are = (and_parts (are_numbers (map (λ (r : NodeRecord). r.number.0) nodes) next) (list_all is_node_record nodes) are).1
+
+pub numbers_of : (nodes : List NodeRecord) (next : ℕ) → are_nodes nodes next ≡ true → AscendsTo (λ (r : NodeRecord). r.number.0) nodes
+numbers_of nodes next are =
+    let numbers = (and_parts (are_numbers (map (λ (r : NodeRecord). r.number.0) nodes) next) (list_all is_node_record nodes) are).0 in
+    (next, (and_parts (numbers_ascend 0 (map (λ (r : NodeRecord). r.number.0) nodes) next) (nat_lt next (2 ^ 32)) numbers).0)
+
+-- in any graph of these nodes
+pub edge_in_any : (t : GraphType) (nodes : List NodeRecord) (r : EdgeRecord) (g : PropertyGraph) → is_graph_type t ≡ true → list_all is_node_record nodes ≡ true
+    → (texts_ascend r.labels && are_properties r.properties) ≡ true → g.nodes ≡ nodes → edge_matches nodes t r ≡ edge_fits g t r
+edge_in_any t nodes r g typed records own same =
+    ap (λ (ns : List NodeRecord). edge_matches ns t r) (sym same) ∙ one_edge t typed g (ap (list_all is_node_record) same ∙ records) r own
+
+module _ (g : PropertyGraph) (t : GraphType) (one : is_graph g ≡ true) (typed : is_graph_type t ≡ true) where
+  abbrev nodes_part : (are_nodes g.nodes g.next_node ≡ true) × (are_edges g.nodes g.edges g.next_edge ≡ true)
+  nodes_part = and_parts (are_nodes g.nodes g.next_node) (are_edges g.nodes g.edges g.next_edge) one
+
+  node_records : list_all is_node_record g.nodes ≡ true
+  node_records = records_of g.nodes g.next_node nodes_part.0
+
+  edge_records : list_all (is_edge_record g.nodes) g.edges ≡ true
+  edge_records = (and_parts (are_numbers (map (λ (r : EdgeRecord). r.number.0) g.edges) g.next_edge) (list_all (is_edge_record g.nodes) g.edges) nodes_part.1).1
+
+  own_lists : (r : EdgeRecord) → is_edge_record g.nodes r ≡ true → (texts_ascend r.labels && are_properties r.properties) ≡ true
+  own_lists r own = (and_parts (texts_ascend r.labels && are_properties r.properties) (are_ends g.nodes r.ends) own).0
 
   node_found : find (λ r. not (node_matches t r)) g.nodes ≡ find (λ r. not (node_fits t r)) g.nodes
-  node_found = same_find is_node_record (λ r. not (node_matches t r)) (λ r. not (node_fits t r)) (λ r own. ap not (same_any is_node_type (matches_node_type r) (fits_node_type r) (λ k kind. node_agrees r k own kind) t.nodes node_types)) g.nodes node_records
+  node_found = same_find is_node_record (λ r. not (node_matches t r)) (λ r. not (node_fits t r)) (λ r own. ap not (one_node t typed r own)) g.nodes node_records
 
-  edge_found : find (λ r. not (edge_matches g t r)) g.edges ≡ find (λ r. not (edge_fits g t r)) g.edges
-  edge_found = same_find (is_edge_record g.nodes) (λ r. not (edge_matches g t r)) (λ r. not (edge_fits g t r)) (λ r own. ap not (same_any (is_edge_type (length t.nodes)) (matches_edge_type g t r) (fits_edge_type g t r) (λ k kind. edge_agrees r own k kind) t.edges edge_types)) g.edges edge_records
+  edge_found : find (λ r. not (edge_matches g.nodes t r)) g.edges ≡ find (λ r. not (edge_fits g t r)) g.edges
+  edge_found = same_find (is_edge_record g.nodes) (λ r. not (edge_matches g.nodes t r)) (λ r. not (edge_fits g t r)) (λ r own. ap not (one_edge t typed g node_records r (own_lists r own))) g.edges edge_records
 
   pub first_is_found : first_unmatched g t ≡ first_misfit g t
   first_is_found = λ i. option_or (option_map (λ (r : NodeRecord). elem.Node r.number) (node_found i)) (option_map (λ (r : EdgeRecord). elem.Edge r.number) (edge_found i))

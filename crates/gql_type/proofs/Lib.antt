@@ -3,6 +3,7 @@ mod SetLemmas
 mod MatchingLemmas
 mod ConformanceLemmas
 mod BodyLemmas
+mod FaultLemmas
 mod BodyExamples
 pub mod TypeLaws
 mod TypeExamples

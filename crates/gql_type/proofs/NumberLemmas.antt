@@ -1,14 +1,13 @@
 -- The node of a number that stands at some place is the one that is found.
 use Rattle.std.proofs.Common.{◌≡◌, ℕ, zero, suc, ◌<◌, Bool, true, false, cond, ◌==◌, nat_lt, ◌^◌, List, [], ◌∷◌, length, get_or, map, Some, sym, ap, ◌∙◌, arith}
 use Rattle.std.specs.Prelude.{find, slice_get}
-use Rattle.std.specs.List.{list_all}
 use Rattle.std.proofs.lemmas.Bool.{and_parts}
 use Rattle.std.proofs.lemmas.Bool.Decides.{nat_tests}
-use Rattle.gql_values3.specs.PropertyGraph.{PropertyGraph, is_graph, numbers_ascend, are_numbers, are_nodes, are_edges, is_node_record}
-use Rattle.gql_values3.specs.Lookup.{node_of}
+use Rattle.gql_values3.specs.PropertyGraph.{numbers_ascend}
 use Rattle.gql_values3.specs.declared.element.NodeId.{NodeId}
 use Rattle.gql_values3.specs.declared.records.NodeRecord.{NodeRecord}
-use Rattle.gql_graph.proofs.GraphLemmas.{first_true}
+use Rattle.gql_graph.specs.Machinery.Ascending.{AscendsTo}
+use Rattle.gql_type.specs.Machinery.InOrder.{node_among}
 
 module _ {A : Type 0} (key : A → ℕ) (high : ℕ) where
   -- all items are above the bound
@@ -42,10 +41,9 @@ got [] i y lt e = absurd (omega arith)
 got (x ∷ xs) zero y lt e = ap Some (sym e)
 got (x ∷ xs) (suc i) y lt e = got xs i y (omega arith) e
 
-pub node_at_place : (g : PropertyGraph) (i : ℕ) (r : NodeRecord) (n : NodeId) → is_graph g ≡ true → i < length g.nodes → r ≡ get_or g.nodes i r → r.number.0 ≡ n.0 → Some r ≡ node_of g n
-node_at_place g i r n one lt e same =
-    let nodes = first_true (are_nodes g.nodes g.next_node) (are_edges g.nodes g.edges g.next_edge) one in
-    let numbers = first_true (are_numbers (map (λ (x : NodeRecord). x.number.0) g.nodes) g.next_node) (list_all is_node_record g.nodes) nodes in
-    let ascend = first_true (numbers_ascend 0 (map (λ (x : NodeRecord). x.number.0) g.nodes) g.next_node) (nat_lt g.next_node (2 ^ 32)) numbers in
-    let found = got_found (λ (x : NodeRecord). x.number.0) g.next_node 0 g.nodes i r ascend (got g.nodes i r lt e) in
-    sym found ∙ ap (λ (k : ℕ). find (λ (x : NodeRecord). x.number.0 == k) g.nodes) same
+-- among nodes by ascending number
+pub node_at_place : (nodes : List NodeRecord) (i : ℕ) (r : NodeRecord) (n : NodeId) → AscendsTo (λ (x : NodeRecord). x.number.0) nodes → i < length nodes → r ≡ get_or nodes i r → r.number.0 ≡ n.0
+    → Some r ≡ node_among nodes n
+node_at_place nodes i r n up lt e same =
+    let found = got_found (λ (x : NodeRecord). x.number.0) up.0 0 nodes i r up.1 (got nodes i r lt e) in
+    sym found ∙ ap (λ (k : ℕ). find (λ (x : NodeRecord). x.number.0 == k) nodes) same

@@ -54,3 +54,8 @@ names_given (Some ps) = map (λ (p : TypeProperty). p.name) ps
 abbrev pub repeated_names : List TypeElement → List (List ℕ)
 repeated_names [] = []
 repeated_names (e ∷ es) = repeated [] (names_given (content_in e).properties) ++ repeated_names es
+
+-- the first of some names, where there is one
+abbrev pub first_name : List (List ℕ) → Option (List ℕ)
+first_name [] = None
+first_name (x ∷ xs) = Some x

@@ -1,6 +1,7 @@
 pub mod PropertyKinds
 pub mod GraphTypes
 pub mod Conformance
+pub mod SoundCatalog
 pub mod BodyFaults
 pub mod BodyMeaning
 pub mod TypeWords

@@ -5,10 +5,10 @@ ghost use Rattle.std.specs.Option.{option_copied};
 ghost use Rattle.gql_values3.specs.PropertyGraph.{is_graph};
 ghost use Rattle.gql_type.specs.GraphTypes.{is_graph_type};
 ghost use Rattle.gql_type.specs.Conformance.{conforms, first_misfit, is_least_misfit};
-ghost use Rattle.gql_type.specs.Machinery.InOrder.{node_matches, edge_matches, first_unmatched_node, first_unmatched_edge, first_unmatched};
+ghost use Rattle.gql_type.specs.Machinery.InOrder.{first_unmatched_node, first_unmatched_edge, first_unmatched};
 
-use crate::content::fits_node_type;
-use crate::ends::fits_edge_type;
+use crate::matching::{edge_matches, node_matches};
+use crate::nodes::Nodes;
 use gql_graph::{Graph, GraphType};
 use gql_values3::{EdgeRecord, Elem, NodeRecord};
 
@@ -37,10 +37,13 @@ pub fn fits(graph: &Graph, kind: &GraphType) -> Option<Misfit>
 fn first_unmatched(graph: &Graph, kind: &GraphType) -> Option<Elem>
     ensures { result ≡ first_unmatched graph.now.graph kind.now }
 {
+    // What every graph is says that the numbers of its nodes ascend.
+    let _count = graph.count_nodes();
+    let nodes = Nodes::of(graph.nodes());
     match first_unmatched_node(kind, graph.nodes()) {
         Some(node) => Some(Elem::Node(node.number)),
         None => {
-            let edge = first_unmatched_edge(graph, kind, graph.edges())?;
+            let edge = first_unmatched_edge(&nodes, kind, graph.edges())?;
             Some(Elem::Edge(edge.number))
         }
     }
@@ -49,33 +52,15 @@ fn first_unmatched(graph: &Graph, kind: &GraphType) -> Option<Elem>
 fn first_unmatched_node<'a>(kind: &GraphType, nodes: &'a [NodeRecord]) -> Option<&'a NodeRecord>
     ensures { option_copied result ≡ first_unmatched_node kind.now nodes.now }
 {
-    nodes.iter().find(|node| !node_fits(kind, node))
+    nodes.iter().find(|node| !node_matches(kind, node))
 }
 
 fn first_unmatched_edge<'a>(
-    graph: &Graph,
+    nodes: &Nodes,
     kind: &GraphType,
     edges: &'a [EdgeRecord],
 ) -> Option<&'a EdgeRecord>
-    ensures { option_copied result ≡ first_unmatched_edge graph.now.graph kind.now edges.now }
+    ensures { option_copied result ≡ first_unmatched_edge nodes.now kind.now edges.now }
 {
-    edges.iter().find(|edge| !edge_fits(graph, kind, edge))
-}
-
-fn node_fits(kind: &GraphType, node: &NodeRecord) -> bool
-    ensures { result ≡ node_matches kind.now node.now }
-{
-    kind.nodes
-        .as_slice()
-        .iter()
-        .any(|of| fits_node_type(node, of))
-}
-
-fn edge_fits(graph: &Graph, kind: &GraphType, edge: &EdgeRecord) -> bool
-    ensures { result ≡ edge_matches graph.now.graph kind.now edge.now }
-{
-    kind.edges
-        .as_slice()
-        .iter()
-        .any(|of| fits_edge_type(graph, kind, edge, of))
+    edges.iter().find(|edge| !edge_matches(nodes, kind, edge))
 }

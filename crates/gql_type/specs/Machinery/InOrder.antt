@@ -1,10 +1,9 @@
 -- Conformance as the code finds it: sets in order by bytes are compared from the left, each side once.
-use Rattle.std.specs.Prelude.{ℕ, Bool, true, false, not, ◌&&◌, ◌||◌, List, [], ◌∷◌, Option, Some, option_map, find, slice_get, if◌then◌else◌}
+use Rattle.std.specs.Prelude.{ℕ, Bool, true, false, not, ◌&&◌, ◌||◌, ◌==◌, List, [], ◌∷◌, Option, Some, option_map, find, slice_get, if◌then◌else◌}
 use Rattle.std.specs.Option.{option_or}
 use Rattle.std.specs.List.{list_any}
 use Rattle.gql_values3.specs.Texts.{same_text}
 use Rattle.gql_values3.specs.PropertyGraph.{PropertyGraph}
-use Rattle.gql_values3.specs.Lookup.{node_of}
 use Rattle.gql_values3.specs.declared.element.NodeId.{NodeId}
 use Rattle.gql_values3.specs.declared.element.Elem.{Elem}
 use Rattle.gql_values3.specs.declared.element.Elem.TheVariants as elem
@@ -43,30 +42,34 @@ abbrev pub both_match : Option NodeRecord → Option NodeType → Bool
 both_match (Some r) (Some t) = matches_node_type r t
 both_match _ _ = false
 
-abbrev pub end_matches : PropertyGraph → GraphType → NodeId → ℕ → Bool
-end_matches g t n place = both_match (node_of g n) (slice_get t.nodes place)
+-- the node of a number among some nodes
+abbrev pub node_among : List NodeRecord → NodeId → Option NodeRecord
+node_among nodes n = find (λ (r : NodeRecord). r.number.0 == n.0) nodes
 
-abbrev pub ends_either_way : PropertyGraph → GraphType → NodeId → NodeId → EdgeType → Bool
-ends_either_way g t low high e = (end_matches g t low e.first && end_matches g t high e.second) || (end_matches g t high e.first && end_matches g t low e.second)
+abbrev pub end_matches : List NodeRecord → GraphType → NodeId → ℕ → Bool
+end_matches nodes t n place = both_match (node_among nodes n) (slice_get t.nodes place)
 
-abbrev pub ends_match : PropertyGraph → GraphType → Ends → EdgeType → Bool
-ends_match g t (ends.Directed source target) e = e.directed && end_matches g t source e.first && end_matches g t target e.second
-ends_match g t (ends.Undirected low high) e = not e.directed && ends_either_way g t low high e
+abbrev pub ends_either_way : List NodeRecord → GraphType → NodeId → NodeId → EdgeType → Bool
+ends_either_way nodes t low high e = (end_matches nodes t low e.first && end_matches nodes t high e.second) || (end_matches nodes t high e.first && end_matches nodes t low e.second)
 
-abbrev pub matches_edge_type : PropertyGraph → GraphType → EdgeRecord → EdgeType → Bool
-matches_edge_type g t r e = matches_content e.labels e.body r.labels r.properties && ends_match g t r.ends e
+abbrev pub ends_match : List NodeRecord → GraphType → Ends → EdgeType → Bool
+ends_match nodes t (ends.Directed source target) e = e.directed && end_matches nodes t source e.first && end_matches nodes t target e.second
+ends_match nodes t (ends.Undirected low high) e = not e.directed && ends_either_way nodes t low high e
+
+abbrev pub matches_edge_type : List NodeRecord → GraphType → EdgeRecord → EdgeType → Bool
+matches_edge_type nodes t r e = matches_content e.labels e.body r.labels r.properties && ends_match nodes t r.ends e
 
 abbrev pub node_matches : GraphType → NodeRecord → Bool
 node_matches t r = list_any (matches_node_type r) t.nodes
 
-abbrev pub edge_matches : PropertyGraph → GraphType → EdgeRecord → Bool
-edge_matches g t r = list_any (matches_edge_type g t r) t.edges
+abbrev pub edge_matches : List NodeRecord → GraphType → EdgeRecord → Bool
+edge_matches nodes t r = list_any (matches_edge_type nodes t r) t.edges
 
 abbrev pub first_unmatched_node : GraphType → List NodeRecord → Option NodeRecord
 first_unmatched_node t rs = find (λ r. not (node_matches t r)) rs
 
-abbrev pub first_unmatched_edge : PropertyGraph → GraphType → List EdgeRecord → Option EdgeRecord
-first_unmatched_edge g t rs = find (λ r. not (edge_matches g t r)) rs
+abbrev pub first_unmatched_edge : List NodeRecord → GraphType → List EdgeRecord → Option EdgeRecord
+first_unmatched_edge nodes t rs = find (λ r. not (edge_matches nodes t r)) rs
 
 abbrev pub first_unmatched : PropertyGraph → GraphType → Option Elem
-first_unmatched g t = option_or (option_map (λ (r : NodeRecord). elem.Node r.number) (first_unmatched_node t g.nodes)) (option_map (λ (r : EdgeRecord). elem.Edge r.number) (first_unmatched_edge g t g.edges))
+first_unmatched g t = option_or (option_map (λ (r : NodeRecord). elem.Node r.number) (first_unmatched_node t g.nodes)) (option_map (λ (r : EdgeRecord). elem.Edge r.number) (first_unmatched_edge g.nodes t g.edges))

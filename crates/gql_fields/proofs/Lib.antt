@@ -1,0 +1,9 @@
+pub mod Utf8Lemmas
+pub mod FieldLemmas
+pub mod ItemLemmas
+pub mod LabelLemmas
+pub mod IntegerLemmas
+pub mod ValueLemmas
+pub mod PropertyLemmas
+pub mod LoopLemmas
+pub mod PutLemmas

@@ -1,0 +1,14 @@
+pub mod LengthLemmas
+pub mod ReadsLemmas
+pub mod NameLemmas
+pub mod StateLemmas
+pub mod ParameterLemmas
+pub mod AllowedLemmas
+pub mod KeptLemmas
+pub mod NotStoreLemmas
+pub mod QueryLemmas
+pub mod PieceLemmas
+pub mod OneRunLemmas
+pub mod TypedLemmas
+pub mod TypedRunLemmas
+pub mod UnopenedLemmas

@@ -1,0 +1,11 @@
+pub mod SessionRun
+pub mod StatementRun
+pub mod StateRefusals
+pub mod SessionState
+pub mod Reading
+pub mod Outcomes
+pub mod PieceRun
+pub mod Causes
+pub mod Choices
+pub mod TypedGraphs
+pub mod Machinery

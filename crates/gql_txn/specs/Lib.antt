@@ -1,0 +1,5 @@
+pub mod TxnData
+pub mod Edits
+pub mod Keeps
+pub mod Loads
+pub mod Machinery

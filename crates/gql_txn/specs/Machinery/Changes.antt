@@ -1,0 +1,28 @@
+-- What a store has to be told so that it holds other records: what is new or differs, and which keys are gone.
+use Rattle.std.specs.Prelude.{ℕ, Bool, false, not, List, map, filter, is_some, Option, Some, None}
+use Rattle.gql_values3.specs.Texts.{same_text}
+use Rattle.gql_ports.specs.Held.{value_at}
+use Rattle.gql_ports.specs.declared.stored.Record.{Record}
+
+abbrev pub is_value : List ℕ → Option (List ℕ) → Bool
+is_value value None = false
+is_value value (Some other) = same_text value other
+
+-- the record's key has its value among the records
+abbrev pub has_record : List Record → Record → Bool
+has_record records r = is_value r.value (value_at records r.key)
+
+-- its key has a value among them
+abbrev pub has_key : List Record → Record → Bool
+has_key records r = is_some (value_at records r.key)
+
+-- the records that are new or differ
+abbrev pub puts_of : List Record → List Record → List Record
+puts_of before after = filter (λ (r : Record). not (has_record before r)) after
+
+-- the records whose keys are gone
+abbrev pub gone_of : List Record → List Record → List Record
+gone_of before after = filter (λ (r : Record). not (has_key after r)) before
+
+abbrev pub drops_of : List Record → List Record → List (List ℕ)
+drops_of before after = map (λ (r : Record). r.key) (gone_of before after)

@@ -1,0 +1,113 @@
+//! The records of a catalog into a store.
+
+ghost use Rattle.std.specs.Prelude.{◌≡◌, ◌≢◌, ◌≤◌, [], ◌++◌, Err, map, OnOk, OnErr, IsTrue};
+ghost use Rattle.gql_values3.specs.Texts.{texts_differ};
+ghost use Rattle.gql_ports.specs.Causes.{Rose};
+ghost use Rattle.gql_ports.specs.Held.{keys_ascend};
+ghost use Rattle.gql_ports.specs.Told.{MatchTold};
+ghost use Rattle.gql_type.specs.SoundCatalog.{is_sound};
+ghost use Rattle.gql_txn.specs.Keeps.{Keeps, IsSameStore};
+ghost use Rattle.gql_txn.specs.Machinery.Changes.{puts_of, drops_of};
+ghost use Rattle.gql_txn.specs.Machinery.Storing.{AppliesInOrder, Leads};
+
+use crate::changes::{Changes, changes_of};
+use crate::commit::CommitFault;
+use gql_graph::Catalog;
+use gql_ports::{KeepFault, Keeper, Records};
+use gql_rowcode::records;
+use std::alloc::Global;
+
+/// Stores the catalog in the place of the kept one. Where both are the same, the store is asked nothing.
+pub fn store<K: Keeper>(
+    alloc: Global,
+    keeper: &mut K,
+    kept: &Catalog,
+    catalog: &Catalog,
+) -> Result<(), CommitFault>
+    requires kept { IsTrue (is_sound kept.now) }
+    requires sound { IsTrue (is_sound catalog.now) }
+    ensures stored { Keeps (K.held keeper.old) kept.now → OnOk result (Keeps (K.held keeper.new) catalog.now) }
+    ensures stays { OnErr result (K.held keeper.new ≡ K.held keeper.old) }
+    ensures same { IsSameStore (K.held keeper.old) (K.held keeper.new) }
+    ensures idle { catalog.now ≡ kept.now → (K.held keeper.new ≡ K.held keeper.old) × (K.faults keeper.new ≡ K.faults keeper.old) × (result ≢ Err CommitFault.Store) }
+    ensures later { K.faults keeper.old ≤ K.faults keeper.new }
+    ensures failed { result ≡ Err CommitFault.Store → Rose (K.faults keeper.old) (K.faults keeper.new) }
+{
+    let before = records(alloc, kept)?;
+    let after = records(alloc, catalog)?;
+    store_records(alloc, keeper, &before, &after)
+}
+
+/// Leads the store from the one list of records to the other.
+fn store_records<K: Keeper>(
+    alloc: Global,
+    keeper: &mut K,
+    before: &Records,
+    after: &Records,
+) -> Result<(), CommitFault>
+    ensures ok { OnOk result (MatchTold (K.held keeper.old) (K.held keeper.new) (Leads before.now after.now)) }
+    ensures stays { OnErr result (K.held keeper.new ≡ K.held keeper.old) }
+    ensures idle { after.now ≡ before.now → (K.held keeper.new ≡ K.held keeper.old) × (K.faults keeper.new ≡ K.faults keeper.old) × (result ≢ Err CommitFault.Store) }
+    ensures later { K.faults keeper.old ≤ K.faults keeper.new }
+    ensures failed { result ≡ Err CommitFault.Store → Rose (K.faults keeper.old) (K.faults keeper.new) }
+{
+    let changes = changes_of(alloc, before, after)?;
+    if changes.is_none() {
+        return Ok(());
+    }
+    store_changes(alloc, keeper, before, after, &changes)
+}
+
+/// Tells the store the changes. A store without records gets all of those after.
+fn store_changes<K: Keeper>(
+    alloc: Global,
+    keeper: &mut K,
+    before: &Records,
+    after: &Records,
+    changes: &Changes,
+) -> Result<(), CommitFault>
+    requires before { IsTrue (keys_ascend before.now) }
+    requires after { IsTrue (keys_ascend after.now) }
+    requires puts { changes.now.puts.items ≡ puts_of before.now after.now }
+    requires drops { changes.now.drops.items ≡ drops_of before.now after.now }
+    ensures ok { OnOk result (MatchTold (K.held keeper.old) (K.held keeper.new) (Leads before.now after.now)) }
+    ensures stays { OnErr result (K.held keeper.new ≡ K.held keeper.old) }
+    ensures later { K.faults keeper.old ≤ K.faults keeper.new }
+    ensures failed { result ≡ Err CommitFault.Store → Rose (K.faults keeper.old) (K.faults keeper.new) }
+{
+    if keeper.len() == 0 {
+        tell_all(alloc, keeper, after)
+    } else {
+        tell(keeper, changes)
+    }
+}
+
+/// Tells the store all of the records.
+fn tell_all<K: Keeper>(alloc: Global, keeper: &mut K, after: &Records) -> Result<(), CommitFault>
+    ensures ok { OnOk result (MatchTold (K.held keeper.old) (K.held keeper.new) (AppliesInOrder (puts_of [] after.now) (drops_of [] after.now))) }
+    ensures stays { OnErr result (K.held keeper.new ≡ K.held keeper.old) }
+    ensures later { K.faults keeper.old ≤ K.faults keeper.new }
+    ensures failed { result ≡ Err CommitFault.Store → Rose (K.faults keeper.old) (K.faults keeper.new) }
+{
+    let all = changes_of(alloc, &Records::new(alloc), after)?;
+    tell(keeper, &all)
+}
+
+/// Tells the store all at once.
+fn tell<K: Keeper>(keeper: &mut K, changes: &Changes) -> Result<(), CommitFault>
+    requires { IsTrue (texts_differ (map (λ r. r.key) changes.now.puts.items ++ changes.now.drops.items)) }
+    ensures ok { OnOk result (MatchTold (K.held keeper.old) (K.held keeper.new) (AppliesInOrder changes.now.puts.items changes.now.drops.items)) }
+    ensures stays { OnErr result (K.held keeper.new ≡ K.held keeper.old) }
+    ensures later { K.faults keeper.old ≤ K.faults keeper.new }
+    ensures failed { result ≡ Err CommitFault.Store → Rose (K.faults keeper.old) (K.faults keeper.new) }
+{
+    match keeper.apply(changes.puts.as_slice(), changes.drops.as_slice()) {
+        Ok(()) => {
+            // The length's clause says that the records are in order.
+            let _count = keeper.len();
+            Ok(())
+        }
+        Err(KeepFault::Failed) => Err(CommitFault::Store),
+        Err(KeepFault::OutOfMemory) => Err(CommitFault::OutOfMemory),
+    }
+}

@@ -1,0 +1,110 @@
+-- Names at fault: a set of names answers like the list of them, and a walk that stops at the first name at fault answers it.
+use Rattle.std.proofs.Common.{◌≡◌, ℕ, Bool, true, false, not, cond, ◌||◌, List, [], ◌∷◌, ◌++◌, map, Option, Some, None, refl, sym, ap, ◌∙◌}
+use Rattle.std.specs.List.{list_any}
+use Rattle.std.specs.Prelude.{if◌then◌else◌}
+use Rattle.std.specs.Str.{bytes_eq}
+use Rattle.std.specs.Cmp.Lexicographic as texts
+use Rattle.std.specs.declared.string.String.{String}
+use Rattle.std.specs.String.{string_bytes, string_eq}
+use Rattle.std.proofs.lemmas.List.{map-append}
+use Rattle.indexmap.specs.IndexSet.{insert_key}
+use Rattle.gql_values3.specs.Texts.{same_text}
+use Rattle.gql_ast.specs.declared.graph_type.TypeElement.{TypeElement}
+use Rattle.gql_type.specs.Conformance.{contains_name}
+use Rattle.gql_type.specs.BodyFaults.{repeated, alias_in, aliases_in, used_in, unknown, aliases_at_fault, first_name}
+
+-- two lists that have the same names
+abbrev pub HaveSame : List (List ℕ) → List (List ℕ) → Type 0
+HaveSame xs ys = (x : List ℕ) → contains_name xs x ≡ contains_name ys x
+
+contains-append : (xs ys : List (List ℕ)) (x : List ℕ) → contains_name (xs ++ ys) x ≡ (contains_name xs x || contains_name ys x)
+contains-append [] ys x = refl
+contains-append (y ∷ xs) ys x = step (same_text x y) (contains_name (xs ++ ys) x) (contains_name xs x) (contains_name ys x) (contains-append xs ys x)
+  where
+    step : (a r b c : Bool) → r ≡ (b || c) → (a || r) ≡ ((a || b) || c)
+    step true r b c h = refl
+    step false r b c h = h
+
+-- the keys of a set
+pub among_keys : {Y : Type 0} (x : List ℕ) (ks : List (String Y)) → list_any (λ k. bytes_eq x (string_bytes k)) ks ≡ contains_name (map string_bytes ks) x
+among_keys x [] = refl
+among_keys x (k ∷ ks) = ap (λ b. bytes_eq x (string_bytes k) || b) (among_keys x ks)
+
+-- a name that is there twice is there as it was
+there_already : (a : Bool) (names : List (List ℕ)) (k x : List ℕ) → same_text x k ≡ a → contains_name names k ≡ true → contains_name names x ≡ (a || contains_name names x)
+there_already true names k x same there = ap (contains_name names) (texts.same_text x k (sym same)) ∙ there
+there_already false names k x same there = refl
+
+-- a name behind others
+put_behind : (a b : Bool) → (b || (a || false)) ≡ (a || b)
+put_behind true true = refl
+put_behind true false = refl
+put_behind false true = refl
+put_behind false false = refl
+
+pub inserted : {Y : Type 0} (ks : List (String Y)) (k : String Y) → HaveSame (map string_bytes (insert_key string_eq ks k)) (string_bytes k ∷ map string_bytes ks)
+inserted ks k x = by (list_any (string_eq k) ks) (sym (among_keys (string_bytes k) ks))
+  where
+    by : (b : Bool) → contains_name (map string_bytes ks) (string_bytes k) ≡ b
+        → contains_name (map string_bytes (if b then ks else ks ++ k ∷ [])) x ≡ (same_text x (string_bytes k) || contains_name (map string_bytes ks) x)
+    by true there = there_already (same_text x (string_bytes k)) (map string_bytes ks) (string_bytes k) x refl there
+    by false there =
+        ap (λ names. contains_name names x) (map-append string_bytes ks (k ∷ [])) ∙ contains-append (map string_bytes ks) (string_bytes k ∷ []) x
+        ∙ put_behind (same_text x (string_bytes k)) (contains_name (map string_bytes ks) x)
+
+-- faults are told by which names are there
+pub same_repeated : (before others : List (List ℕ)) → HaveSame before others → (xs : List (List ℕ)) → repeated before xs ≡ repeated others xs
+same_repeated before others h [] = refl
+same_repeated before others h (x ∷ xs) =
+    λ i. cond (h x i) (x ∷ same_repeated before others h xs i) (same_repeated (x ∷ before) (x ∷ others) (λ y j. same_text y x || h y j) xs i)
+
+same_unknown : (known others : List (List ℕ)) → HaveSame known others → (xs : List (List ℕ)) → unknown known xs ≡ unknown others xs
+same_unknown known others h [] = refl
+same_unknown known others h (x ∷ xs) = λ i. cond (h x i) (same_unknown known others h xs i) (x ∷ same_unknown known others h xs i)
+
+same_behind : (xs before others : List (List ℕ)) → HaveSame before others → HaveSame (xs ++ before) (xs ++ others)
+same_behind [] before others h x = h x
+same_behind (y ∷ xs) before others h x = λ i. same_text x y || same_behind xs before others h x i
+
+pub same_faults : (known others before others_before : List (List ℕ)) → HaveSame known others → HaveSame before others_before → (es : List TypeElement)
+    → aliases_at_fault known before es ≡ aliases_at_fault others others_before es
+same_faults known others before others_before h k [] = refl
+same_faults known others before others_before h k (e ∷ es) =
+    λ i. same_repeated before others_before k (alias_in e) i ++ same_unknown known others h (used_in e) i
+    ++ same_faults known others (alias_in e ++ before) (alias_in e ++ others_before) h (same_behind (alias_in e) before others_before k) es i
+
+-- one more element's alias
+pub one_more : (known more : List (List ℕ)) (e : TypeElement) (es : List TypeElement) (x : List ℕ) → contains_name more x ≡ contains_name (alias_in e ++ known) x
+    → (contains_name more x || contains_name (aliases_in es) x) ≡ (contains_name known x || contains_name (aliases_in (e ∷ es)) x)
+one_more known more e es x h =
+    let k = contains_name known x in
+    let a = contains_name (alias_in e) x in
+    let r = contains_name (aliases_in es) x in
+    ap (λ (b : Bool). b || r) (h ∙ contains-append (alias_in e) known x) ∙ turn a k r ∙ ap (λ (b : Bool). k || b) (sym (contains-append (alias_in e) (aliases_in es) x))
+  where
+    turn : (a k r : Bool) → ((a || k) || r) ≡ (k || (a || r))
+    turn true true r = refl
+    turn true false r = refl
+    turn false true r = refl
+    turn false false r = refl
+
+pub or_false : (b : Bool) → (b || false) ≡ b
+or_false true = refl
+or_false false = refl
+
+-- the first of two lists
+pub stops_there : (xs ys : List (List ℕ)) (x : List ℕ) → Some x ≡ first_name xs → Some x ≡ first_name (xs ++ ys)
+stops_there [] ys x h = absurd (cc)
+stops_there (y ∷ xs) ys x h = h
+
+pub goes_on : (xs ys : List (List ℕ)) → None ≡ first_name xs → first_name (xs ++ ys) ≡ first_name ys
+goes_on [] ys h = refl
+goes_on (y ∷ xs) ys h = absurd (cc)
+
+-- a name that stands before, and one that does not
+pub is_repeated : (before : List (List ℕ)) (x : List ℕ) (xs : List (List ℕ)) → contains_name before x ≡ true → Some x ≡ first_name (repeated before (x ∷ xs))
+is_repeated before x xs h = sym (ap (λ (b : Bool). first_name (cond b (x ∷ repeated before xs) (repeated (x ∷ before) xs))) h)
+
+pub not_repeated : (before more : List (List ℕ)) (x : List ℕ) (xs : List (List ℕ)) → contains_name before x ≡ false → HaveSame more (x ∷ before) → first_name (repeated more xs) ≡ first_name (repeated before (x ∷ xs))
+not_repeated before more x xs h same =
+    ap first_name (same_repeated more (x ∷ before) same xs) ∙ sym (ap (λ (b : Bool). first_name (cond b (x ∷ repeated before xs) (repeated (x ∷ before) xs))) h)

@@ -1,0 +1,5 @@
+pub mod KindLemmas
+pub mod BodyLemmas
+pub mod TypeLemmas
+mod OrderLemmas
+mod WritingLemmas

@@ -1,0 +1,4 @@
+pub mod TypeSpelling
+pub mod KeptTypes
+pub mod TypeOrder
+pub mod Machinery
