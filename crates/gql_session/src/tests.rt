@@ -246,12 +246,7 @@ const fn in_store<'a>(
 }
 
 /// The one query over these records.
-const fn over<'a>(
-    shows: &'a str,
-    records: &'a str,
-    status: u8,
-    written: &'a str,
-) -> Case<'a> {
+const fn over<'a>(shows: &'a str, records: &'a str, status: u8, written: &'a str) -> Case<'a> {
     Case {
         records,
         ..plain(shows, QUERY, status, written)
