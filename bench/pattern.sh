@@ -1,8 +1,7 @@
 #!/bin/sh
-# Prints what one MATCH over a long path pattern costs beside an empty session: to read and check it (a parameter that isn't set, whose
-# refusal comes behind all others, ends the statement there), and from its text to its answer over an empty graph. It has so many elements
-# with a name each, with names that come again, without names, in a union, with conditions, or stands in 62 nested parentheses. Other words
-# are programs to compare with: bench/pattern.sh [PROGRAM..]
+# Prints what one MATCH over a long path pattern costs beside an empty session, from its text to its answer over an empty graph: so
+# many elements with a name each, with names that come again, without names, in a union, with conditions, and in 62 nested parentheses.
+# What of it is reading and static checks, bench/scope.sh prints. Other words are programs to compare with: bench/pattern.sh [PROGRAM..]
 top=$(cd "$(dirname "$0")/.." && pwd) || exit 70
 folder=$(mktemp -d) || exit 70
 trap 'rm -rf "$folder"' EXIT
@@ -36,9 +35,8 @@ def run(program, text):
     return printed, time.monotonic() - begin, used.ru_maxrss / 1024
 
 def tell(program, name, pattern):
-    refused, checked, _ = run(program, f"MATCH {pattern} RETURN COUNT(*) AS c, $p AS p;\n")
     printed, seconds, peak = run(program, f"MATCH {pattern} RETURN COUNT(*) AS c;\n")
-    print(f"  {name}: {' '.join(refused[:2])} in {checked - alone:.2f} s; {' '.join(printed[:2])}, {seconds - alone:.2f} s more than nothing, {peak:.0f} MB at most")
+    print(f"  {name}: {' '.join(printed[:2])}, {seconds - alone:.2f} s more, {peak:.0f} MB at most")
 
 for program in programs:
     _, alone, peak = run(program, "")
