@@ -1,12 +1,12 @@
 #!/bin/sh
 # Prints what one MATCH over a long path pattern costs beside an empty session, from its text to its answer over an empty graph: so
-# many elements with a name each, with names that come again, without names, in a union, with conditions, and in 62 nested parentheses. Other words
-# are programs to compare with: bench/pattern.sh [PROGRAM..]
+# many elements with a name each, with names that come again, without names, in a union, with conditions, and in 62 nested parentheses.
+# What of it is reading and static checks, bench/scope.sh prints. Other words are programs to compare with: bench/pattern.sh [PROGRAM..]
 top=$(cd "$(dirname "$0")/.." && pwd) || exit 70
 folder=$(mktemp -d) || exit 70
 trap 'rm -rf "$folder"' EXIT
-"$top/gql" --build >/dev/null 2>&1 || exit 70
-exec python3 - "$folder" "$top/crates/gql/out/gql" "$@" <<'PY'
+if [ $# -eq 0 ]; then "$top/gql" --build >/dev/null 2>&1 || exit 70; set -- "$top/crates/gql/out/gql"; fi
+exec python3 - "$folder" "$@" <<'PY'
 import os, subprocess, sys, time
 folder, *programs = sys.argv[1:]
 

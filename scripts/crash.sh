@@ -16,7 +16,7 @@ session, look = os.path.join(folder, "commits.gql"), os.path.join(folder, "look.
 with open(session, "w") as file:
     file.writelines(f"INSERT (:N {{i: {i}}});\n" for i in range(commits))
 with open(look, "w") as file:
-    file.write("MATCH (x:N) RETURN COUNT(*) AS n, MAX(x.i) AS last;\n")
+    file.write("MATCH (x:N) RETURN COUNT(*) AS n, MAX(x.i) AS most;\n")
 
 def ended_after(store, seconds):
     """The number of texts that were written before the end."""

@@ -19,13 +19,13 @@ def text(name, lines):
         file.write(lines)
     return path(name)
 
-def run(session, store):
-    done = subprocess.run([program, "run", session, "--store", store], capture_output=True, text=True, errors="replace")
+def run(session, store, user=None):
+    done = subprocess.run([program, "run", session, "--store", store], capture_output=True, text=True, errors="replace", user=user)
     return done.returncode, done.stdout, done.stderr
 
-def tell(name, store, session, statuses, written=None, complaint=None):
+def tell(name, store, session, statuses, written=None, complaint=None, user=None):
     global wrong
-    status, out, err = run(session, store)
+    status, out, err = run(session, store, user)
     good = status in statuses and (written is None or out == written) and (complaint is None or err == complaint)
     wrong += not good
     print(f"{'' if good else 'WRONG '}{name}: status {status}, {out!r}, {err!r}")
@@ -61,12 +61,16 @@ holder.execute("ROLLBACK")
 holder.close()
 tell("and once it is free", path("locked.db"), read, {0}, "n\n1\nrows 1\n", "")
 
-if os.geteuid():
-    shutil.copy(path("empty.db"), path("readonly.db"))
-    os.chmod(path("readonly.db"), 0o444)
-    tell("a file that may only be read", path("readonly.db"), write, {1, 5})
-else:
-    print("a file that may only be read: not tried, since the superuser may write it")
+# The superuser may write every file, so the program runs as another user there.
+other = None if os.geteuid() else "nobody"
+os.chmod(folder, 0o755)
+shutil.copy(path("empty.db"), path("readonly.db"))
+os.chmod(path("readonly.db"), 0o444)
+tell("a file that may only be read", path("readonly.db"), write, {5}, "", fault, other)
+with open(path("empty.db"), "rb") as one, open(path("readonly.db"), "rb") as two:
+    if one.read() != two.read():
+        wrong += 1
+        print("WRONG: the file that may only be read is another one now")
 
 full = path("full")
 os.mkdir(full)

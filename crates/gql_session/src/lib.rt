@@ -15,6 +15,8 @@ mod run_pieces;
 mod session;
 mod size;
 mod status;
+#[cfg(test)]
+mod tests;
 mod top_call;
 mod words;
 
