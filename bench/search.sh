@@ -22,4 +22,4 @@ for size in 1000 2000; do measure mesh $size '(x)-[e]->(y)-[f]->(z)'; done
 for size in 10 20; do measure layers $size 'ACYCLIC (x:First)-[e]->*(y:Last)'; done
 for size in 2000 4000; do measure ring $size 'ANY SHORTEST (x:First)-[e]->*(y)'; done
 for size in 8 9 10; do measure grid $size 'ALL SHORTEST (x:First)-[e]->*(y:Last)'; done
-for size in 9 18; do measure diagonals $size 'SHORTEST 3 GROUP (x:First)-[e]->*(y:Last)'; done
+for size in 8 9; do measure diagonals $size 'SHORTEST 3 GROUP (x:First)-[e]->*(y:Last)'; done
