@@ -1,7 +1,7 @@
 #!/bin/sh
 # Prints how long static checks take, with peak memory: that of a query of 10,000 and 100,000 LET items, without its reading; and, from
 # text to refusal, a MATCH over a path pattern of 5,000 and 10,000 elements, without names, with a name each, and with a condition at
-# each node. The MATCH asks a parameter that isn't set, whose refusal comes behind all others, so that it is read and checked and no more.
+# each node, and of 64 nested parentheses. The MATCH asks a parameter that isn't set, whose refusal comes behind all others, so that it is read and checked and no more.
 top=$(cd "$(dirname "$0")/.." && pwd) || exit 70
 folder=$(mktemp -d) || exit 70
 trap 'rm -rf "$folder"' EXIT
@@ -29,11 +29,15 @@ cases = {
     "a name each": lambda items: "".join(f"(x{i})-[e{i}]->" for i in range(items // 2)) + "(y)",
     "a condition at each node": lambda items: "".join(f"(x{i} WHERE x{i // 2}.n = 1)->" for i in range(items // 2)) + "(y)",
 }
+def check(name, pattern):
+    session = os.path.join(folder, "checks.gql")
+    with open(session, "w") as file:
+        file.write(f"MATCH {pattern} RETURN $p AS p;\n")
+    printed, _, seconds, peak = run(program, "run", session)
+    print(f"a path pattern of {name}: {printed}; {seconds * 1000:.0f} ms, {peak:.0f} MB at most")
+
 for items in (5000, 10000):
     for name, pattern in cases.items():
-        session = os.path.join(folder, "checks.gql")
-        with open(session, "w") as file:
-            file.write(f"MATCH {pattern(items)} RETURN $p AS p;\n")
-        printed, _, seconds, peak = run(program, "run", session)
-        print(f"a path pattern of {items} elements, {name}: {printed}; {seconds * 1000:.0f} ms, {peak:.0f} MB at most")
+        check(f"{items} elements, {name}", pattern(items))
+check("64 nested parentheses", "(" * 63 + "(x)->(y)" + ")" * 63)
 PY
