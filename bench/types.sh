@@ -1,22 +1,27 @@
 #!/bin/sh
 # Prints what a graph type costs at a statement's end: one SET of one element over typed graphs of 100,000 and 200,000 elements, with
-# few and with many element types, beside the same over a graph without a type. Other words are programs to compare with:
-# bench/types.sh [PROGRAM..]
+# few and with many element types, beside the same over a graph without a type, in milliseconds of the processor, the least of three
+# runs. Other words are programs to compare with: bench/types.sh [PROGRAM..]
 top=$(cd "$(dirname "$0")/.." && pwd) || exit 70
 folder=$(mktemp -d) || exit 70
 trap 'rm -rf "$folder"' EXIT
 if [ $# -eq 0 ]; then "$top/gql" --build >/dev/null 2>&1 || exit 70; set -- "$top/crates/gql/out/gql"; fi
 exec python3 - "$folder" "$@" <<'PY'
-import os, subprocess, sys, time
+import os, subprocess, sys
 folder, *programs = sys.argv[1:]
 
 def run(program, text):
     session = os.path.join(folder, "types.gql")
     with open(session, "w") as file:
         file.write(text)
-    begin = time.monotonic()
-    done = subprocess.run([program, "run", session], capture_output=True, text=True)
-    return done.stdout.split(), time.monotonic() - begin
+    least = None
+    for _ in range(3):
+        child = subprocess.Popen([program, "run", session], stdout=subprocess.PIPE, text=True)
+        printed = child.stdout.read().split()
+        _, _, used = os.wait4(child.pid, 0)
+        seconds = used.ru_utime + used.ru_stime
+        least = seconds if least is None else min(least, seconds)
+    return printed, least
 
 def kind(types):
     nodes = ", ".join(f"(a{i} :N{i} {{i INT NOT NULL, name STRING}})" for i in range(types))
