@@ -17,6 +17,7 @@ use crate::changes::Changes;
 use crate::fault::{NOT_A_STORE, counted};
 use crate::keys::Keys;
 use crate::place::Place;
+use crate::reader::Reader;
 use gql_ports::{KeepFault, Keeper, Key, Record};
 use sqlite::Error;
 use std::alloc::Global;
@@ -26,7 +27,7 @@ use std::alloc::Global;
 pub struct SqlKeeper<'a> {
     rt: &'a HostRuntime,
     alloc: Global,
-    place: Place,
+    reader: Reader,
     keys: Keys,
     /// How many calls failed.
     faults: u64,
@@ -41,7 +42,7 @@ impl<'a> SqlKeeper<'a> {
         SqlKeeper {
             rt,
             alloc,
-            place: Place::Nowhere,
+            reader: Reader::new(alloc, Place::Nowhere),
             keys: Keys::new(alloc),
             faults: 0,
         }
@@ -51,7 +52,7 @@ impl<'a> SqlKeeper<'a> {
     /// opening reads both.
     pub fn close(self) -> Result<(), KeepFault> {
         let mut faults = self.faults;
-        counted(&mut faults, self.place.close())
+        counted(&mut faults, self.reader.close())
     }
 }
 
@@ -68,15 +69,15 @@ impl<'a> Keeper for SqlKeeper<'a> {
         ensures later { self.old.faults ≤ self.new.faults }
         ensures failed { result ≡ Err KeepFault.Failed → Rose self.old.faults self.new.faults }
         ensures counted { self.new.faults ≡ count_after result self.old.faults }
-        ensures under { OnOk result (IsUnder (option_copied name.entry) self.new.place) }
-        ensures kept { OnErr result ((self.new.keys ≡ self.old.keys) × (self.new.place ≡ self.old.place)) }
+        ensures under { OnOk result (IsUnder (option_copied name.entry) self.new.reader.place) }
+        ensures kept { OnErr result ((self.new.keys ≡ self.old.keys) × (self.new.reader.place ≡ self.old.reader.place)) }
     {
-        if self.place.is_open_as(name) {
+        if self.reader.is_open_as(name) {
             return Ok(());
         }
         let opened = Place::open(self.rt, self.alloc, name);
         let (place, keys) = counted(&mut self.faults, opened)?;
-        self.place = place;
+        self.reader = Reader::new(self.alloc, place);
         self.keys = keys;
         Ok(())
     }
@@ -99,14 +100,14 @@ impl<'a> Keeper for SqlKeeper<'a> {
         ensures failed { result ≡ Err KeepFault.Failed → Rose self.old.faults self.new.faults }
         ensures counted { self.new.faults ≡ count_after result self.old.faults }
         ensures key { IfOk result (λ r. slice_get self.old.keys index ≡ Some r.key) }
-        ensures value { IfOk result (λ r. Fetches r.key r.value self.old.place self.new.place) }
+        ensures value { IfOk result (λ r. ∥ Fetches r.key r.value self.old.reader.place self.new.reader.place ∥₁) }
         ensures keys { self.new.keys ≡ self.old.keys }
     {
         let Some(key) = self.keys.get(index as usize) else {
             unreachable!()
         };
-        let selected = self.place.select(alloc, key);
-        counted(&mut self.faults, selected)
+        let fetched = self.reader.fetch(alloc, index, key);
+        counted(&mut self.faults, fetched)
     }
 
     fn apply(&mut self, puts: &[Record], drops: &[Key]) -> Result<(), KeepFault>
@@ -118,7 +119,7 @@ impl<'a> Keeper for SqlKeeper<'a> {
         ensures counted { self.new.faults ≡ count_after result self.old.faults }
         ensures stand { OnOk result ((key : List ℕ) → has_key self.new.keys key ≡ stands_after puts.now drops.now key (has_key self.old.keys key)) }
         ensures kept { OnErr result (self.new.keys ≡ self.old.keys) }
-        ensures writes { Writes puts.now drops.now (is_ok result) self.old.place self.new.place }
+        ensures writes { Writes puts.now drops.now (is_ok result) self.old.reader.place self.new.reader.place }
     {
         let written = self.write(puts, drops);
         let (changes, room) = counted(&mut self.faults, written)?;
@@ -132,7 +133,7 @@ impl<'a> SqlKeeper<'a> {
     fn write(&mut self, puts: &[Record], drops: &[Key]) -> Result<(Changes, Vec<Key>), Error>
         ensures keys { self.new.keys ≡ self.old.keys }
         ensures faults { self.new.faults ≡ self.old.faults }
-        ensures writes { Writes puts.now drops.now (is_ok result) self.old.place self.new.place }
+        ensures writes { Writes puts.now drops.now (is_ok result) self.old.reader.place self.new.reader.place }
         ensures stand { IfOk result (λ ready. (key : List ℕ) (before : Bool) → stands_under ready.0 key before ≡ stands_after puts.now drops.now key before) }
         ensures empty { IfOk result (λ ready. ready.1.items ≡ []) }
         ensures room { IfOk result (λ ready. length self.old.keys + length ready.0 ≤ vec_capacity ready.1) }
@@ -141,7 +142,7 @@ impl<'a> SqlKeeper<'a> {
             return Err(NOT_A_STORE);
         };
         let room = self.keys.room_for(self.alloc, &changes)?;
-        self.place.write(puts, drops)?;
+        self.reader.write(puts, drops)?;
         Ok((changes, room))
     }
 }

@@ -10,6 +10,7 @@ mod fault;
 mod keeper;
 mod keys;
 mod place;
+mod reader;
 mod store;
 mod transaction;
 

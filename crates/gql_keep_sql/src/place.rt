@@ -1,6 +1,6 @@
 ghost use Rattle.std.specs.Prelude.{◌≡◌, Some, None, IfOk, IsTrue, is_ok};
 ghost use Rattle.std.specs.Option.{option_copied};
-ghost use Rattle.gql_keep_sql.specs.Fetched.{Fetches};
+ghost use Rattle.gql_keep_sql.specs.Fetched.{IsSelected, Each};
 ghost use Rattle.gql_keep_sql.specs.Places.{IsUnder};
 ghost use Rattle.gql_keep_sql.specs.Written.{Writes};
 
@@ -8,7 +8,7 @@ use crate::fault::CLOSED;
 use crate::keys::Keys;
 use crate::{store, transaction};
 use gql_ports::{Key, Record};
-use sqlite::{Connection, Error, FileFrom, FileStore, MemStore, Wary};
+use sqlite::{Connection, Error, FileFrom, FileStore, MemStore, Row, Wary};
 use std::alloc::Global;
 
 /// A database file, whose commits survive a power cut whatever a torn write leaves.
@@ -45,14 +45,14 @@ impl Place {
         }
     }
 
-    pub fn select(&mut self, alloc: Global, key: &Key) -> Result<Record, Error>
-        ensures key { IfOk result (λ r. r.key ≡ key.now) }
-        ensures value { IfOk result (λ r. Fetches key.now r.value self.old self.new) }
+    /// The rows of a run of records, from that key on.
+    pub fn select(&mut self, from: &Key) -> Result<Vec<Row>, Error>
+        ensures { IfOk result (λ rows. Each rows.items (λ row. IsSelected row self.old self.new)) }
     {
         match self {
             Place::Nowhere => Err(CLOSED),
-            Place::Memory(conn) => store::select(alloc, conn, key),
-            Place::File(_, conn) => store::select(alloc, conn, key),
+            Place::Memory(conn) => Ok(store::select(conn, from)?),
+            Place::File(_, conn) => Ok(store::select(conn, from)?),
         }
     }
 

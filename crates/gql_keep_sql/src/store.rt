@@ -1,17 +1,18 @@
 //! A store: a database with one table, and what is read there.
 
-ghost use Rattle.std.specs.Prelude.{◌≡◌, [], ◌∷◌, IfOk, codes};
+ghost use Rattle.std.specs.Prelude.{◌≡◌, IfOk, IsTrue};
 ghost use Rattle.sqlite.specs.declared.types.Value.TheVariants.{Blob};
 ghost use Rattle.sqlite.specs.Order.{column};
-ghost use Rattle.sqlite.specs.State.{HasCleanDisk, QueriesRow};
+ghost use Rattle.sqlite.specs.State.{HasCleanDisk};
 ghost use Rattle.sqlite.specs.Held.{state};
-ghost use Rattle.gql_keep_sql.specs.Fetched.{Selects};
+ghost use Rattle.gql_keep_sql.specs.Fetched.{SelectsRun};
 
 use crate::changes::copy_key;
 use crate::fault::NOT_A_STORE;
 use crate::keys::Keys;
 use gql_ports::{Key, Record};
 use gql_values3::Bytes;
+use sqlite::types::ValueRef;
 use sqlite::{Alter, Connection, Error, Row, params};
 use std::alloc::Global;
 
@@ -23,7 +24,8 @@ const OBJECTS: &str = "SELECT sql FROM sqlite_schema WHERE sql IS NOT NULL";
 
 const KEYS: &str = "SELECT key FROM record ORDER BY key";
 
-const VALUE: &str = "SELECT value FROM record WHERE key = ?1";
+/// A run of records. More of them take more memory, and save little.
+const RUN: &str = "SELECT key, value FROM record WHERE key >= ?1 ORDER BY key LIMIT 64";
 
 /// Makes the table in a database without any object, and refuses one that has others, before anything is written.
 pub fn establish<S: Alter>(conn: &mut Connection<S>) -> Result<(), Error> {
@@ -54,7 +56,7 @@ pub fn list<S: Alter>(alloc: Global, conn: &mut Connection<S>) -> Result<Keys, E
         let Some(row) = rows.get() else {
             break;
         };
-        keys.push(blob(row)?)?;
+        keys.push(blob(row, 0)?)?;
     }
     match Keys::from_vec(keys) {
         Some(keys) => Ok(keys),
@@ -62,27 +64,40 @@ pub fn list<S: Alter>(alloc: Global, conn: &mut Connection<S>) -> Result<Keys, E
     }
 }
 
-/// The record of a key.
-pub fn select<S: Alter>(alloc: Global, conn: &mut Connection<S>, key: &Key) -> Result<Record, Error>
-    ensures key { IfOk result (λ r. r.key ≡ key.now) }
-    ensures value { HasCleanDisk (state S.Store conn.new) → IfOk result (λ r. Selects S.Store key.now r.value conn.old conn.new) }
+/// The rows of a run of records, from that key on.
+pub fn select<S: Alter>(conn: &mut Connection<S>, from: &Key) -> Result<Vec<Row>, Error>
+    ensures { IfOk result (λ rows. HasCleanDisk (state S.Store conn.new) → SelectsRun S.Store from.now rows.items conn.old conn.new) }
 {
-    let row = row_of(conn, key)?;
+    Ok(conn.query_all(RUN, params![from.as_slice()])?)
+}
+
+/// The record of a key, by the row that was read for it.
+pub fn record_of(alloc: Global, key: &Key, row: &Row) -> Result<Record, Error>
+    ensures key { IfOk result (λ r. r.key ≡ key.now) }
+    ensures own { IfOk result (λ r. column row.now 0 ≡ Blob r.key) }
+    ensures value { IfOk result (λ r. column row.now 1 ≡ Blob r.value) }
+{
+    if !is_of(row, key)? {
+        return Err(NOT_A_STORE);
+    }
     Ok(Record {
         key: copy_key(alloc, key)?,
-        value: blob(&row)?,
+        value: blob(row, 1)?,
     })
 }
 
-fn row_of<S: Alter>(conn: &mut Connection<S>, key: &Key) -> Result<Row, Error>
-    ensures { HasCleanDisk (state S.Store conn.new) → QueriesRow (codes "SELECT value FROM record WHERE key = ?1") (Blob key.now ∷ []) (state S.Store conn.old) (state S.Store conn.new) result }
+fn is_of(row: &Row, key: &Key) -> Result<bool, Error>
+    ensures { IfOk result (λ same. IsTrue same → column row.now 0 ≡ Blob key.now) }
 {
-    conn.query_row(VALUE, params![key.as_slice()])
+    match row.get_ref(0)? {
+        ValueRef::Blob(own) => Ok(own == key.as_slice()),
+        _ => Ok(false),
+    }
 }
 
-/// The first value of a row, which has to be bytes.
-fn blob(row: &Row) -> Result<Bytes, Error>
-    ensures { IfOk result (λ bytes. column row.now 0 ≡ Blob bytes) }
+/// The value at that place of a row, which has to be bytes.
+fn blob(row: &Row, at: usize) -> Result<Bytes, Error>
+    ensures { IfOk result (λ bytes. column row.now at ≡ Blob bytes) }
 {
-    Ok(Bytes::from_vec(row.get(0)?))
+    Ok(Bytes::from_vec(row.get(at)?))
 }

@@ -39,6 +39,19 @@ fn drop_one(alloc: Global, keeper: &mut SqlKeeper<'_>) -> Result<(), KeepFault> 
     keeper.apply(&puts, &drops)
 }
 
+fn put_one(alloc: Global, keeper: &mut SqlKeeper<'_>, key: u8, value: u8) -> Result<(), KeepFault> {
+    let puts = [record(alloc, &[key], &[value])?];
+    keeper.apply(&puts, &[])
+}
+
+/// More records than two queries read, each with its key as its value.
+fn put_many(alloc: Global, keeper: &mut SqlKeeper<'_>) -> Result<(), KeepFault> {
+    for key in 0..150u8 {
+        put_one(alloc, keeper, key, key)?;
+    }
+    Ok(())
+}
+
 fn is_at(alloc: Global, keeper: &mut SqlKeeper<'_>, index: u64, key: &[u8], value: &[u8]) -> bool {
     if index >= keeper.len() {
         return false;
@@ -47,6 +60,19 @@ fn is_at(alloc: Global, keeper: &mut SqlKeeper<'_>, index: u64, key: &[u8], valu
         Ok(found) => found.key.as_slice() == key && found.value.as_slice() == value,
         Err(_) => false,
     }
+}
+
+fn is_as_put(alloc: Global, keeper: &mut SqlKeeper<'_>, key: u8) -> bool {
+    is_at(alloc, keeper, u64::from(key), &[key], &[key])
+}
+
+fn are_as_put(alloc: Global, keeper: &mut SqlKeeper<'_>) -> bool {
+    for key in 0..150u8 {
+        if !is_as_put(alloc, keeper, key) {
+            return false;
+        }
+    }
+    true
 }
 
 fn remove_store(rt: &HostRuntime) {
@@ -78,5 +104,22 @@ fn a_second_keeper_finds_what_the_first_one_kept(rt: HostRuntime) -> Result<(), 
     assert!(rt; is_at(rt.alloc(), &mut third, 0, b"b", b""));
     drop(third);
     remove_store(&rt);
+    Ok(())
+}
+
+#[test]
+fn records_are_read_in_any_order_and_after_a_write(rt: HostRuntime) -> Result<(), Fail> {
+    let mut keeper = SqlKeeper::new(&rt, rt.alloc());
+    assert_eq!(rt; keeper.open(None), Ok(()));
+    assert_eq!(rt; put_many(rt.alloc(), &mut keeper), Ok(()));
+    assert!(rt; are_as_put(rt.alloc(), &mut keeper));
+    assert!(rt; are_as_put(rt.alloc(), &mut keeper));
+    assert!(rt; is_as_put(rt.alloc(), &mut keeper, 149));
+    assert!(rt; is_as_put(rt.alloc(), &mut keeper, 70));
+    assert!(rt; is_as_put(rt.alloc(), &mut keeper, 69));
+    assert!(rt; is_as_put(rt.alloc(), &mut keeper, 70));
+    assert_eq!(rt; put_one(rt.alloc(), &mut keeper, 71, 0), Ok(()));
+    assert!(rt; is_at(rt.alloc(), &mut keeper, 71, &[71], &[0]));
+    assert!(rt; is_as_put(rt.alloc(), &mut keeper, 72));
     Ok(())
 }

@@ -1,3 +1,4 @@
+pub mod ReadyLemmas
 mod ChangeLeads
 mod ClauseSteps
 mod FaultSteps

@@ -15,7 +15,7 @@ use crate::setting::Setting;
 use gql_ast::{ChangeClause, Clause};
 use gql_change::{Planned, apply as make_changes, plan, reserve};
 use gql_graph::Edit;
-use gql_norm::Matcher;
+use gql_starts::Matcher;
 use gql_table::apply;
 use gql_values3::{Columns, OutOfMemory, Row, Rows, View};
 use std::alloc::Global;

@@ -11,7 +11,7 @@ use crate::clauses::{run_clauses, table_behind};
 use crate::setting::Setting;
 use gql_ast::{Query, ends_in_change, is_change};
 use gql_graph::Edit;
-use gql_norm::Matcher;
+use gql_starts::Matcher;
 use gql_values3::{Columns, Names, OutOfMemory, Params, Rows, Table, View};
 use std::alloc::Global;
 

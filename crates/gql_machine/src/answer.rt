@@ -10,7 +10,7 @@ use crate::statement::run_statement;
 use crate::tools::Tools;
 use gql_ast::{Outcome, Refusal};
 use gql_graph::Graph;
-use gql_norm::Matcher;
+use gql_starts::Matcher;
 use gql_values3::OutOfMemory;
 
 /// What the piece came to, or none where it is blank. Nothing is kept of it yet.

@@ -13,8 +13,8 @@ use crate::state::Session;
 use crate::text::{clear, write_text};
 use crate::tools::Tools;
 use gql_graph::Graph;
-use gql_norm::Matcher;
 use gql_ports::Keeper;
+use gql_starts::Matcher;
 use gql_values3::{Bytes, OutOfMemory};
 use std::alloc::Global;
 

@@ -16,7 +16,7 @@ use crate::tools::Tools;
 use gql_ast::{Outcome, Query};
 use gql_graph::{Catalog, Graph};
 use gql_linear::{Answer, RunFault, changes_data, run_query, run_reading_query};
-use gql_norm::Matcher;
+use gql_starts::Matcher;
 use gql_values3::{OutOfMemory, Params, Text};
 
 /// What a query may give over the graph over which statements are evaluated: its table, `ok`, or its first refusal. One that is

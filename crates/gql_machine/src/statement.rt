@@ -15,7 +15,7 @@ use crate::tools::Tools;
 use crate::transaction_statement::run_transaction_statement;
 use gql_ast::{Outcome, Statement};
 use gql_graph::Graph;
-use gql_norm::Matcher;
+use gql_starts::Matcher;
 use gql_values3::OutOfMemory;
 
 /// An end that the statement may have; the session is then as it says. A statement that is refused changes nothing, and no

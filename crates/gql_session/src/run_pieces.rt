@@ -11,8 +11,8 @@ ghost use Rattle.gql_session.specs.Machinery.TextEndings.{PieceEnding, TextEndin
 use gql_graph::Graph;
 use gql_lexer::pieces;
 use gql_machine::{Session, Tools, run_piece};
-use gql_norm::Matcher;
 use gql_ports::{Keeper, Sink};
+use gql_starts::Matcher;
 use gql_txn::Txn;
 use gql_values3::Bytes;
 

@@ -22,8 +22,8 @@ use crate::status::Status;
 use crate::words::Command;
 use gql_graph::Graph;
 use gql_machine::Tools;
-use gql_norm::Matcher;
 use gql_ports::{Keeper, Sink, Source};
+use gql_starts::Matcher;
 use gql_txn::{LoadFault, Txn};
 
 /// Runs the command's session over the catalog that the records of its store stand for.

@@ -13,8 +13,8 @@ use crate::status::Status;
 use crate::words::read_words;
 use gql_graph::Graph;
 use gql_machine::Tools;
-use gql_norm::Matcher;
 use gql_ports::{Keeper, Sink, Source};
+use gql_starts::Matcher;
 use std::alloc::Global;
 
 /// The top call: reads the words, opens the keeper under the store's name and loads its records, reads the source or

@@ -2,11 +2,10 @@
 
 use gql_fan::Serial;
 use gql_graph::Graph;
-use gql_norm::{
-    MatchFault, Matcher, NormalPath, NormalPattern, ReducedList, RowOnGraph, StartListsOfEach,
-    StartNodes,
-};
-use gql_values3::{NodeId, OutOfMemory, Rows};
+use gql_norm::{NormalPath, ReducedList, RowOnGraph, StartNodes};
+use gql_rigid::PathPredicates;
+use gql_starts::Matcher;
+use gql_values3::{Columns, NodeId, OutOfMemory, Params};
 use std::alloc::Global;
 use std::marker::Sync;
 use std::thread;
@@ -23,7 +22,7 @@ impl<R> NoMatcher<R> {
 }
 
 impl<R: thread::Threads + Sync> Matcher<Graph> for NoMatcher<R> {
-    ghost use Rattle.std.specs.Prelude.{None};
+    ghost use Rattle.std.specs.Prelude.{None, []};
     ghost use Rattle.gql_norm.specs.NormalPattern.{Node, anonymous};
 
     type Fan = Serial<R>;
@@ -31,6 +30,8 @@ impl<R: thread::Threads + Sync> Matcher<Graph> for NoMatcher<R> {
     type Prepared = bool;
 
     ghost path_of = { λ _. record { name = None; selector = None; body = Node anonymous } };
+
+    ghost asked_of = { λ _ _ _ _. [] };
 
     fn fan(&self) -> &Serial<R> {
         &self.fan
@@ -41,6 +42,16 @@ impl<R: thread::Threads + Sync> Matcher<Graph> for NoMatcher<R> {
     }
 
     fn prepare(&self, _alloc: Global, _path: &NormalPath) -> Result<bool, OutOfMemory> {
+        Err(OutOfMemory)
+    }
+
+    fn predicates<'p>(
+        &self,
+        _alloc: Global,
+        _prepared: &'p bool,
+        _columns: &'p Columns,
+        _params: &'p Params,
+    ) -> Result<PathPredicates<'p>, OutOfMemory> {
         Err(OutOfMemory)
     }
 
@@ -58,19 +69,9 @@ impl<R: thread::Threads + Sync> Matcher<Graph> for NoMatcher<R> {
         _alloc: Global,
         _over: &RowOnGraph<Graph>,
         _prepared: &bool,
+        _predicates: &PathPredicates,
         _start: NodeId,
     ) -> Result<ReducedList, OutOfMemory> {
         Err(OutOfMemory)
-    }
-
-    fn rows_of(
-        &self,
-        _alloc: Global,
-        _over: &RowOnGraph<Graph>,
-        _pattern: &NormalPattern,
-        _optional: bool,
-        _lists: StartListsOfEach,
-    ) -> Result<Rows, MatchFault> {
-        Err(MatchFault::OutOfMemory)
     }
 }
