@@ -1,13 +1,11 @@
 -- The steps of grouping's loops: what is done, and what is left.
-use Rattle.std.proofs.Common.{◌≡◌, ℕ, suc, ◌+◌, ◌-◌, ◌<◌, true, false, cond, List, [], ◌∷◌, ◌++◌, length, map, take, drop, drop-drop, length-append, refl, sym, ap, ◌∙◌, add-one, arith, Result, Ok, Err}
-use Rattle.std.specs.Prelude.{slice_index_or}
+use Rattle.std.proofs.Common.{◌≡◌, ℕ, suc, ◌+◌, ◌-◌, ◌<◌, true, false, cond, List, [], ◌∷◌, ◌++◌, length, map, take, drop, drop-drop, refl, sym, ap, ◌∙◌, add-one, arith, Result, Ok, Err}
 use Rattle.std.proofs.lemmas.List.{take-map, drop-map}
-use Rattle.gql_values3.specs.Datum.{Datum, null}
+use Rattle.gql_values3.specs.Datum.{Datum}
 use Rattle.gql_values3.specs.Meaning.{datum_of}
 use Rattle.gql_values3.specs.declared.value.Value.{Value}
 use Rattle.gql_values3.specs.PropertyGraph.{PropertyGraph}
 use Rattle.gql_values3.specs.declared.table.ColumnKind.TheVariants as kind
-use Rattle.gql_ast.specs.Aggregates.{considered, aggregated}
 use Rattle.gql_ast.specs.Projections.{has_none}
 use Rattle.gql_ast.specs.RowAggregates.{RowAggregate, result_name}
 use Rattle.gql_ast.specs.declared.fault.DataFault.{DataFault}
@@ -15,11 +13,10 @@ use Rattle.gql_eval.specs.Machinery.Next.{next}
 use Rattle.gql_eval.specs.Gives.{Fails}
 use Rattle.gql_eval.specs.declared.error.EvalError.{EvalError}
 use Rattle.gql_eval.specs.declared.error.EvalError.TheVariants as error
-use Rattle.gql_eval.specs.RowLists.{RowList}
 use Rattle.gql_table.specs.Sorting.{first_key, later_keys}
 use Rattle.gql_table.specs.Grouping.{results}
 use Rattle.gql_table.specs.Machinery.Preparations.{prepared_value}
-use Rattle.gql_table.specs.Machinery.GroupPlan.{PreparedPlan, Kept, names_from, note_in, kept_behind, rows_kept_behind, results_behind, values_in_group}
+use Rattle.gql_table.specs.Machinery.GroupPlan.{PreparedPlan, Kept, names_from, note_in, kept_behind, values_in_group}
 use Rattle.gql_eval.proofs.EachSteps.{fails_first, each_cons}
 use Rattle.gql_table.proofs.KeyLemmas.{later_drop}
 

@@ -22,7 +22,7 @@ use Rattle.gql_eval.specs.Machinery.Next.{next}
 use Rattle.gql_eval.specs.RowLists.{RowList}
 use Rattle.gql_table.specs.Sorting.{first_key, later_keys}
 use Rattle.gql_table.specs.Grouping.{Note, key_in, notes_at, results, result_columns, group_part, group_parts, item_value, item_values}
-use Rattle.gql_table.specs.Machinery.GroupPlan.{PreparedPlan, names_from, results_behind, value_in_group, values_in_group, keys_behind, result_count}
+use Rattle.gql_table.specs.Machinery.GroupPlan.{names_from, results_behind, value_in_group, values_in_group, keys_behind}
 use Rattle.gql_table.proofs.ReturnLemmas.{next_next, each_length_cons}
 use Rattle.gql_table.proofs.NoteLemmas.{plan_of, plans, arguments_in, Shaped, width_of, both_ok}
 

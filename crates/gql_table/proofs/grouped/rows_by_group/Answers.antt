@@ -1,4 +1,4 @@
-use Rattle.std.proofs.Common.{◌≡◌, ◌∙◌, List, map, ap, subst, sym, Result}
+use Rattle.std.proofs.Common.{List, map, subst, sym, Result}
 use Rattle.std.specs.List.{AllByRecursion}
 use Rattle.gql_ast.specs.Faults.{each}
 use Rattle.gql_ast.specs.declared.fault.DataFault.{DataFault}

@@ -1,5 +1,5 @@
-use Rattle.std.proofs.Common.{◌≡◌, ◌∷◌, ◌++◌, ◌∙◌, ◌<◌, ◌≤◌, ◌+◌, [], List, map, length, take, drop, set, get_or, sym, ap, refl, arith, append-nil}
-use Rattle.std.proofs.lemmas.List.{map-set, get_or-map, length-set, drop_all, take_all}
+use Rattle.std.proofs.Common.{◌≡◌, ◌++◌, ◌∙◌, ◌<◌, ◌≤◌, ◌+◌, List, map, length, take, drop, get_or, sym, ap, arith}
+use Rattle.std.proofs.lemmas.List.{map-set, get_or-map, length-set}
 use Rattle.gql_values3.specs.Datum.{Datum}
 use Rattle.gql_values3.specs.Meaning.{datum_of}
 use Rattle.gql_table.specs.Sorting.{first_key}
