@@ -28,6 +28,7 @@ abbrev pub addend : Datum → Result ℤ DataFault
 addend (integer z) = Ok z
 addend _ = Err fault.WrongKind
 
+-- the sum of integers, without a limit
 abbrev pub total : List ℤ → ℤ
 total [] = pos 0
 total (z ∷ zs) = z +ℤ total zs

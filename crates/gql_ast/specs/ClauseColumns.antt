@@ -20,6 +20,7 @@ use Rattle.gql_ast.specs.declared.pattern.PathExpr.TheVariants as path
 abbrev pub ColumnList : Type 0
 ColumnList = List (List ℕ × ColumnKind)
 
+-- a column has this name
 abbrev pub is_column : ColumnList → List ℕ → Bool
 is_column columns x = list_any (λ (c : List ℕ × ColumnKind). same_text x c.0) columns
 
@@ -37,31 +38,35 @@ counter_column (Some c) = (c.1, kind.Plain) ∷ []
 abbrev pub for_columns : ColumnList → For → ColumnList
 for_columns columns f = columns ++ (f.name, element_kind (kind_of columns (tree_of f.list))) ∷ counter_column f.counter
 
--- the one node of a pattern that is a node alone, without a name and a prefix; patterns of more come at a later stage
+-- the node of a path pattern that is a node alone
 abbrev pub node_alone : PathExpr → Option Filler
 node_alone (path.Node f) = Some f
 node_alone _ = None
 
+-- the same, where the path pattern has neither a name nor a prefix
 abbrev pub bare_path : Option (List ℕ) → Option Prefix → PathExpr → Option Filler
 bare_path None None e = node_alone e
 bare_path _ _ e = None
 
-abbrev pub node_among : List PathPattern → Option Filler
-node_among (p ∷ []) = bare_path p.name p.prefix p.expr
-node_among _ = None
+-- the node of a list of path patterns that is one such pattern
+abbrev pub node_of_paths : List PathPattern → Option Filler
+node_of_paths (p ∷ []) = bare_path p.name p.prefix p.expr
+node_of_paths _ = None
 
+-- the node of the pattern of a MATCH that is a node alone
 abbrev pub node_of_pattern : GraphPattern → Option Filler
-node_of_pattern g = node_among g.paths
+node_of_pattern g = node_of_paths g.paths
 
 -- a node's variable that is no column yet becomes one
 abbrev pub with_node : ColumnList → Option (List ℕ) → ColumnList
 with_node columns None = columns
 with_node columns (Some x) = if is_column columns x then columns else columns ++ (x, kind.Node) ∷ []
 
+-- the columns with the variable of a node, where there is a node
 abbrev pub with_filler : ColumnList → Option Filler → ColumnList
 with_filler columns None = columns
 with_filler columns (Some f) = with_node columns f.variable
 
--- MATCH gives the columns of the pattern's variables
+-- a MATCH of a node alone gives the column of its variable; what all patterns give is `columns_after` of gql_norm
 abbrev pub match_columns : ColumnList → GraphPattern → ColumnList
 match_columns columns g = with_filler columns (node_of_pattern g)

@@ -22,6 +22,7 @@ abbrev pub is_there : PropertyGraph → Elem → Bool
 is_there g (elem.Node n) = is_some (node_of g n)
 is_there g (elem.Edge e) = is_some (edge_of g e)
 
+-- the element, or the fault of asking for one that was deleted
 abbrev pub undeleted : PropertyGraph → Elem → Result Elem DataFault
 undeleted g e = alive (is_there g e)
   where

@@ -7,6 +7,7 @@ use Rattle.gql_ast.specs.Outputs.{kind_of_name}
 use Rattle.gql_ast.specs.ClauseColumns.{ColumnList, is_column}
 use Rattle.gql_ast.specs.InsertColumns.{Spots, with_variable}
 
+-- a column of nodes
 abbrev pub is_node : ColumnKind → Bool
 is_node kind.Node = true
 is_node _ = false

@@ -32,6 +32,7 @@ number_text (c ∷ cs) = if c == 48 then number_text cs else c ∷ cs
 abbrev pub in_parens : List ℕ → List ℕ
 in_parens t = 40 ∷ (t ++ 41 ∷ [])
 
+-- the signs and words of operators as they print
 abbrev pub comparison_text : Comparison → List ℕ
 comparison_text comparison.Eq = codes "="
 comparison_text comparison.Ne = codes "<>"
@@ -66,6 +67,7 @@ abbrev pub quantifier_text : SetQuantifier → List ℕ
 quantifier_text quantifiers.All = []
 quantifier_text quantifiers.Distinct = codes "DISTINCT "
 
+-- the word of a function
 abbrev pub function_text : Function → List ℕ
 function_text functions.Abs = codes "ABS"
 function_text functions.CharLength = codes "CHAR_LENGTH"
@@ -73,6 +75,7 @@ function_text functions.Cardinality = codes "CARDINALITY"
 function_text functions.PathLength = codes "PATH_LENGTH"
 function_text functions.Elements = codes "ELEMENTS"
 
+-- IS and IS NOT with the spaces around them, and the words that may stand behind
 abbrev pub sense_text : Sense → List ℕ
 sense_text senses.Is = codes " IS "
 sense_text senses.IsNot = codes " IS NOT "

@@ -18,9 +18,11 @@ Spots = List (ColumnKind × Fill)
 abbrev pub step_spots : InsertStep → Spots
 step_spots s = (kind.Edge, s.edge) ∷ (kind.Node, s.node) ∷ []
 
+-- the first node of a path to be inserted, and then its steps in order
 abbrev pub path_spots : InsertPath → Spots
 path_spots p = (kind.Node, p.start) ∷ flat_map step_spots p.steps
 
+-- the nodes and edges of all paths of an INSERT
 abbrev pub insert_spots : List InsertPath → Spots
 insert_spots ps = flat_map path_spots ps
 
@@ -29,6 +31,7 @@ abbrev pub with_variable : ColumnList → ColumnKind → Option (List ℕ) → C
 with_variable columns k None = columns
 with_variable columns k (Some x) = if is_column columns x then columns else columns ++ (x, k) ∷ []
 
+-- the columns with the variables of these nodes and edges, each behind those before
 abbrev pub spot_columns : ColumnList → Spots → ColumnList
 spot_columns columns [] = columns
 spot_columns columns (s ∷ ss) = spot_columns (with_variable columns s.0 s.1.variable) ss

@@ -1,6 +1,7 @@
 -- Label expressions as plain data.
 use Rattle.std.specs.Prelude.{ℕ, List, [], ◌∷◌}
 
+-- a label expression, and a list of label expressions
 mutual
   pub data Label : Type 0 where
     -- a label, and `%`, which is any label

@@ -3,6 +3,7 @@ use Rattle.gql_ast.specs.Label.{Label, labels_listed, items_of_labels, name, wil
 use Rattle.gql_ast.specs.declared.label.LabelExpr.{LabelExpr}
 use Rattle.gql_ast.specs.declared.label.LabelExpr.TheVariants as label
 
+-- the tree that a label expression means
 abbrev pub label_of : LabelExpr → Label
 label_of (label.Name n) = name n
 label_of label.Wildcard = wildcard

@@ -6,6 +6,7 @@ use Rattle.gql_ast.specs.declared.expr.Expr.{Expr}
 use Rattle.gql_ast.specs.declared.expr.Step.{Step}
 use Rattle.gql_ast.specs.declared.expr.Expr.TheVariants as expr
 
+-- the tree that an expression means; its constants mean their data
 abbrev pub tree_of : Expr → Tree
 tree_of (expr.Constant d) = constant (datum_of d)
 tree_of expr.Unknown = unknown

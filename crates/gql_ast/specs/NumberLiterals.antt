@@ -91,6 +91,7 @@ abbrev pub numeral : Option (List ℕ) → Numerals
 numeral None = []
 numeral (Some digits) = digits ∷ []
 
+-- the same of an expression of the code
 abbrev pub numbers_in_expr : Expr → Numerals
 numbers_in_expr e = numbers_in (tree_of e)
 
@@ -98,19 +99,23 @@ numbers_in_expr e = numbers_in (tree_of e)
 abbrev pub numbers_in_named : List ℕ × Tree → Numerals
 numbers_in_named p = numbers_in p.1
 
+-- those of the properties or the WHERE of a node or an edge
 abbrev pub numbers_in_condition : ConditionTree → Numerals
 numbers_in_condition (properties ps) = flat_map numbers_in_named ps
 numbers_in_condition (holds e) = numbers_in e
 
+-- those between the brackets of a node or an edge; labels have none
 abbrev pub numbers_in_filler : FillerTree → Numerals
 numbers_in_filler f = within numbers_in_condition f.condition
 
+-- the numbers that say how often a part of a pattern stands
 abbrev pub numbers_in_quantifier : Quantifier → Numerals
 numbers_in_quantifier quantifier.Star = []
 numbers_in_quantifier quantifier.Plus = []
 numbers_in_quantifier (quantifier.Exactly n) = n ∷ []
 numbers_in_quantifier (quantifier.Between m n) = numeral m ++ numeral n
 
+-- those of a path pattern without its prefix, in the order of the text
 abbrev mutual
   pub numbers_in_pattern : Pattern → Numerals
   numbers_in_pattern (node f) = numbers_in_filler f
@@ -136,9 +141,11 @@ numbers_in_prefix (prefix.AnyShortest m) = []
 numbers_in_prefix (prefix.Shortest n m) = n ∷ []
 numbers_in_prefix (prefix.ShortestGroups n m) = numeral n
 
+-- those of the prefix, and then those of the pattern
 abbrev pub numbers_in_path : PathPattern → Numerals
 numbers_in_path p = within numbers_in_prefix p.prefix ++ numbers_in_pattern (pattern_of p.expr)
 
+-- those of the path patterns of a MATCH, and then those of its WHERE
 abbrev pub numbers_in_graph_pattern : GraphPattern → Numerals
 numbers_in_graph_pattern g = flat_map numbers_in_path g.paths ++ within numbers_in_expr g.condition
 
@@ -198,6 +205,7 @@ numbers_in_columns (return_items.Listed is) = flat_map numbers_in_column is
 abbrev pub numbers_in_return : Return → Numerals
 numbers_in_return r = numbers_in_columns r.items ++ within numbers_in_order r.order ++ numbers_in_range r.skip r.limit
 
+-- those of a clause
 abbrev pub numbers_in_let : LetItem → Numerals
 numbers_in_let i = numbers_in_expr i.value
 
@@ -210,6 +218,7 @@ numbers_in_clause (clause.Page p) = numbers_in_page p
 numbers_in_clause (clause.Change c) = numbers_in_change c
 numbers_in_clause (clause.Return r) = numbers_in_return r
 
+-- those of SESSION SET VALUE; other statements about the session have none
 abbrev pub numbers_in_session : SessionStatement → Numerals
 numbers_in_session (session.SetValue p e) = numbers_in_expr e
 numbers_in_session _ = []

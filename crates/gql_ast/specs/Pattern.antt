@@ -6,6 +6,7 @@ use Rattle.gql_ast.specs.declared.pattern.Direction.{Direction}
 use Rattle.gql_ast.specs.declared.pattern.Quantifier.{Quantifier}
 use Rattle.gql_ast.specs.declared.mode.Mode.{Mode}
 
+-- a path pattern without its name and prefix, and a list of such patterns
 mutual
   pub data Pattern : Type 0 where
     -- one element

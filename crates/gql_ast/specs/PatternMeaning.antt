@@ -16,10 +16,12 @@ use Rattle.gql_ast.specs.declared.pattern.PathExpr.TheVariants as path
 abbrev pub item_of : MapItem → List ℕ × Tree
 item_of i = (i.name, tree_of i.value)
 
+-- what the map or the WHERE of a node or an edge means
 abbrev pub condition_of : Condition → ConditionTree
 condition_of (condition.Map is) = properties (map item_of is)
 condition_of (condition.Where e) = holds (tree_of e)
 
+-- what stands between the brackets of a node or an edge means
 abbrev pub filler_of : Filler → FillerTree
 filler_of f = record {
   variable = f.variable;
@@ -27,6 +29,7 @@ filler_of f = record {
   condition = option_map condition_of f.condition;
 }
 
+-- the tree that a path pattern means
 abbrev pub pattern_of : PathExpr → Pattern
 pattern_of (path.Node f) = node (filler_of f)
 pattern_of (path.Edge d f) = edge d (filler_of f)

@@ -27,6 +27,7 @@ abbrev pub output_trees : ColumnList → ReturnItems → List Tree
 output_trees columns items.All = map (λ (c : List ℕ × ColumnKind). name c.0) columns
 output_trees columns (items.Listed is) = map (λ (i : ReturnItem). tree_of i.value) is
 
+-- there is no aggregate over rows
 abbrev pub has_none : List RowAggregate → Bool
 has_none [] = true
 has_none (a ∷ more) = false
@@ -39,6 +40,7 @@ is_key columns e = has_none (row_aggregates columns e)
 abbrev pub is_grouped : ColumnList → Return → Bool
 is_grouped columns r = is_some r.grouping || list_any (λ e. not (is_key columns e)) (output_trees columns r.items)
 
+-- DISTINCT stands there
 abbrev pub is_distinct : SetQuantifier → Bool
 is_distinct quantifier.Distinct = true
 is_distinct quantifier.All = false
@@ -50,7 +52,7 @@ sort_columns columns r =
     then output_columns columns r.items
     else output_columns columns r.items ++ columns
 
--- the columns behind a clause
+-- the columns behind a clause; of the patterns of MATCH a node alone counts here, and all in `columns_after` of gql_norm
 abbrev pub columns_behind : ColumnList → Clause → ColumnList
 columns_behind columns (clause.Match m) = match_columns columns m.pattern
 columns_behind columns (clause.Let is) = let_columns columns is

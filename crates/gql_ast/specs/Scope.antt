@@ -28,6 +28,7 @@ row_scope [] ds = []
 row_scope (c ∷ cs) [] = []
 row_scope (c ∷ cs) (d ∷ ds) = record { name = c.0; is_group = holds_group c.1; datum = d } ∷ row_scope cs ds
 
+-- the first entry of a name, where there is one
 abbrev pub entry_of : Scope → List ℕ → Option Entry
 entry_of scope x = find (λ (e : Entry). same_text x e.name) scope
 
@@ -36,6 +37,7 @@ abbrev pub datum_in : Option Entry → Datum
 datum_in None = null
 datum_in (Some e) = e.datum
 
+-- what a name stands for in a scope
 abbrev pub datum_of_name : Scope → List ℕ → Datum
 datum_of_name scope x = datum_in (entry_of scope x)
 
@@ -44,6 +46,7 @@ abbrev pub group_in : Option Entry → Bool
 group_in None = false
 group_in (Some e) = e.is_group
 
+-- the name stands for a group in a scope
 abbrev pub is_group_name : Scope → List ℕ → Bool
 is_group_name scope x = group_in (entry_of scope x)
 

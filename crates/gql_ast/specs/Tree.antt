@@ -12,6 +12,7 @@ use Rattle.gql_ast.specs.declared.words.Sense.{Sense}
 use Rattle.gql_ast.specs.declared.words.SetQuantifier.{SetQuantifier}
 use Rattle.gql_ast.specs.declared.words.Sign.{Sign}
 
+-- an expression, and its parts: lists of expressions, and operands that stand behind an operator
 mutual
   pub data Tree : Type 0 where
     -- constants, parameters, variables and their properties; a number keeps its digits

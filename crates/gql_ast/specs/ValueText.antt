@@ -37,9 +37,11 @@ in_ticks b = if b == 96 then codes "``" else escaped_byte b
 abbrev pub in_header : ℕ → List ℕ
 in_header b = if b == 92 then 92 ∷ [] else escaped_byte b
 
+-- a string between its quotes
 abbrev pub string_text : List ℕ → List ℕ
 string_text t = 39 ∷ (flat_map in_string t ++ 39 ∷ [])
 
+-- a name between its backticks
 abbrev pub ticked_text : List ℕ → List ℕ
 ticked_text x = 96 ∷ (flat_map in_ticks x ++ 96 ∷ [])
 
@@ -55,22 +57,27 @@ any_name_text x = if is_name x then x else ticked_text x
 abbrev pub header_text : List ℕ → List ℕ
 header_text x = flat_map in_header x
 
+-- a node prints as its number in parentheses, an edge as its number in brackets
 abbrev pub node_text : ℕ → List ℕ
 node_text n = 40 ∷ (decimal n ++ 41 ∷ [])
 
 abbrev pub edge_text : ℕ → List ℕ
 edge_text e = 91 ∷ (decimal e ++ 93 ∷ [])
 
+-- a step of a path: its edge, and the node to which it leads
 abbrev pub step_text : ℕ × ℕ → List ℕ
 step_text s = edge_text s.0 ++ node_text s.1
 
+-- the first node of a path, and its steps in order
 abbrev pub path_text : PathData → List ℕ
 path_text p = node_text p.start ++ flat_map step_text p.steps
 
+-- a boolean prints as its word
 abbrev pub boolean_text : Bool → List ℕ
 boolean_text true = codes "TRUE"
 boolean_text false = codes "FALSE"
 
+-- the text of a value
 abbrev mutual
   pub value_text : Datum → List ℕ
   value_text null = codes "NULL"

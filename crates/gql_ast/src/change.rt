@@ -1,3 +1,5 @@
+//! The clauses that change data: INSERT, SET, REMOVE and DELETE.
+
 use crate::expr::Expr;
 use crate::filler::Map;
 use gql_values3::{Names, Sequence, Text};

@@ -1,3 +1,5 @@
+//! The clauses of a query, and the query that they make.
+
 use crate::change::ChangeClause;
 use crate::expr::Expr;
 use crate::page::Page;

@@ -1,3 +1,5 @@
+//! Expressions, and the lists of their parts.
+
 ghost use Rattle.std.specs.Prelude.{◌≡◌, [], ◌∷◌, ◌++◌, map, length, IfOk, OnOk, OnErr, ◌==◌};
 ghost use Rattle.gql_ast.specs.Meaning.{tree_of, link_of};
 

@@ -1,3 +1,5 @@
+//! The faults of values, for which an expression has no value.
+
 /// A fault of a value that is met while a statement runs: why an expression has no value.
 #[derive(Clone, Copy, Debug, PartialEq, Eq)]
 pub enum DataFault {

@@ -1,3 +1,5 @@
+//! What stands between the brackets of a node or an edge of a pattern, and the maps that may stand there.
+
 use crate::expr::Expr;
 use crate::label::LabelExpr;
 use gql_values3::{Sequence, Text};

@@ -1,3 +1,5 @@
+//! Graph types: the nodes and edges that a typed graph may hold.
+
 use crate::change::Arrow;
 use gql_values3::{Names, PropKind, Sequence, Text};
 

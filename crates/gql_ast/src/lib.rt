@@ -1,11 +1,9 @@
 //! The trees of the language: statements, clauses, patterns and expressions, and why a statement is refused.
 //!
-//! Each alternative of the grammar is a variant, each repetition a list, and parentheses are kept. The crate's promise
-//! is that each type that leads back to itself has one plain meaning: `tree_of` of an expression, `label_of` of a label
-//! expression, `pattern_of` of a path pattern; the parts of trees are seen as these, and copies mean the same. It
-//! stands on `gql_values3`, whose texts and values stand in the trees. `text` prints expressions, values and names as
-//! `specs/ExprText.antt` and `specs/ValueText.antt` define. Beside the trees stands a definition that the crates above
-//! are proved against: what evaluation gives (`specs/Evaluation.antt`).
+//! Each alternative of the grammar is a variant, each repetition a list, and parentheses are kept. The crate's promise is that
+//! expressions, label expressions and path patterns have one plain meaning each (`tree_of`, `label_of`, `pattern_of`), that copies
+//! mean the same, and that `text` prints as `specs/ExprText.antt` and `specs/ValueText.antt` define. Beside the trees stands what
+//! evaluation gives (`specs/Evaluation.antt`), for the crates above. It stands on `gql_values3`, whose texts and values it has.
 #![tactic(auto)]
 
 mod change;

@@ -1,8 +1,8 @@
-//! Patterns that are one node alone: the ones that run before there are longer ones.
+//! Patterns that are one node alone, without a name and a prefix.
 
 ghost use Rattle.std.specs.Prelude.{◌≡◌};
 ghost use Rattle.std.specs.Option.{option_copied};
-ghost use Rattle.gql_ast.specs.ClauseColumns.{node_among, node_of_pattern};
+ghost use Rattle.gql_ast.specs.ClauseColumns.{node_of_paths, node_of_pattern};
 
 use crate::filler::Filler;
 use crate::path::{GraphPattern, PathPattern};
@@ -12,11 +12,11 @@ use crate::pattern::PathExpr;
 pub fn node_of_pattern(pattern: &GraphPattern) -> Option<&Filler>
     ensures { option_copied result ≡ node_of_pattern pattern.now }
 {
-    node_among(pattern.paths.as_slice())
+    node_of_paths(pattern.paths.as_slice())
 }
 
-fn node_among(paths: &[PathPattern]) -> Option<&Filler>
-    ensures { option_copied result ≡ node_among paths.now }
+fn node_of_paths(paths: &[PathPattern]) -> Option<&Filler>
+    ensures { option_copied result ≡ node_of_paths paths.now }
 {
     match paths {
         [

@@ -1,3 +1,5 @@
+//! The path modes: WALK, TRAIL, ACYCLIC and SIMPLE.
+
 /// A path mode: what a path may pass twice.
 #[derive(Clone, Copy, Debug, PartialEq, Eq)]
 pub enum Mode {

@@ -1,3 +1,5 @@
+//! ORDER BY, OFFSET and LIMIT: the keys that sort rows, and how many of them are kept.
+
 use crate::expr::Expr;
 use gql_values3::{Sequence, Text};
 

@@ -1,3 +1,5 @@
+//! Why no tree was read.
+
 use gql_values3::OutOfMemory;
 
 /// Why lexemes gave no tree.

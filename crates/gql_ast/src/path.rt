@@ -1,3 +1,5 @@
+//! What MATCH asks for: path patterns with their names and prefixes, and what must hold of them together.
+
 use crate::expr::Expr;
 use crate::mode::Mode;
 use crate::pattern::PathExpr;

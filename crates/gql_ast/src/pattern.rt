@@ -1,3 +1,5 @@
+//! Path patterns: nodes and edges, in a row, repeated, optional or as alternatives.
+
 ghost use Rattle.std.specs.Prelude.{◌≡◌, [], ◌∷◌, ◌++◌, map, length, IfOk, OnOk, OnErr, ◌==◌};
 ghost use Rattle.gql_ast.specs.PatternMeaning.{pattern_of};
 

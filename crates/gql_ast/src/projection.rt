@@ -1,3 +1,5 @@
+//! RETURN: the columns that it gives, and what else belongs to it.
+
 use crate::expr::Expr;
 use crate::page::{RowCount, SortItems};
 use crate::words::SetQuantifier;

@@ -1,3 +1,5 @@
+//! What comes of a statement: a table, no more than that it was done, or a refusal and why.
+
 use crate::fault::DataFault;
 use gql_values3::{EdgeId, Elem, NodeId, Table, Text, Value};
 

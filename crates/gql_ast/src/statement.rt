@@ -1,3 +1,5 @@
+//! Statements: queries, and what is said about the session, transactions, graphs and graph types.
+
 use crate::clause::Query;
 use crate::expr::Expr;
 use crate::graph_type::TypeBody;

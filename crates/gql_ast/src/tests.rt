@@ -1,3 +1,5 @@
+//! That trees are copied and printed with ample memory, and that want of memory is a fault of its own.
+
 use crate::{
     Direction, Expr, Exprs, Filler, LabelExpr, LabelList, LabelSub, Operator, ParseFault, PathExpr,
     PathList, PathSub, Setting, Step, Steps, Sub, expr_text, push_any_name, push_digits,

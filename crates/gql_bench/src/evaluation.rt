@@ -2,7 +2,7 @@
 
 use anyhow::{Result, bail};
 use gql_ast::{Expr, Operator, Step, Steps, Sub};
-use gql_eval::{EvalError, value};
+use gql_eval::{EvalError, Header, Prepared};
 use gql_graph::{Graph, NodeRecords};
 use gql_values3::{
     ColumnKind, Columns, Comparison, List, Names, NodeId, NodeRecord, OutOfMemory, Params,
@@ -57,19 +57,16 @@ fn measure(
     ) else {
         bail!("the nodes are no graph");
     };
+    let columns = Header::Listed(setting.columns.as_slice());
+    let Ok(prepared) = Prepared::new(alloc, columns, &setting.params, &setting.condition) else {
+        bail!("no memory for the condition");
+    };
     let begun = Instant::now(rt)?;
     let mut holding: u32 = 0;
     for row in setting.rows.as_slice() {
-        match answer(
-            alloc,
-            &graph,
-            &setting.columns,
-            row,
-            &setting.params,
-            &setting.condition,
-        ) {
-            Ok(Value::Bool(true)) => holding = holding.saturating_add(1),
-            Ok(_) => {}
+        match holds(alloc, &graph, &prepared, row) {
+            Ok(true) => holding = holding.saturating_add(1),
+            Ok(false) => {}
             Err(EvalError::Fault(_)) => bail!("a fault"),
             Err(EvalError::OutOfMemory) => bail!("no memory for a value"),
         }
@@ -80,16 +77,10 @@ fn measure(
     Ok(())
 }
 
-/// The value of an expression over a row.
-pub fn answer(
-    alloc: Global,
-    graph: &Graph,
-    columns: &Columns,
-    row: &Row,
-    params: &Params,
-    condition: &Expr,
-) -> Result<Value, EvalError> {
-    value(alloc, graph, columns, row, params, condition)
+/// Whether the condition is true over a row.
+fn holds(alloc: Global, graph: &Graph, condition: &Prepared, row: &Row) -> Result<bool, EvalError> {
+    let held = condition.value(alloc, graph, row.as_slice())?;
+    Ok(matches!(held.value(), Value::Bool(true)))
 }
 
 fn make_setting(alloc: Global, nodes: u32) -> Result<Setting, OutOfMemory> {

@@ -1,9 +1,8 @@
 //! A chain is a loop, however long it is: a recursion over its sides would want a stack frame for each.
 
-use crate::evaluation::answer;
 use anyhow::{Result, bail};
 use gql_ast::{Expr, Operator, Step, Steps, Sub};
-use gql_eval::EvalError;
+use gql_eval::{EvalError, value};
 use gql_graph::Graph;
 use gql_values3::{Columns, OutOfMemory, Params, Row, Text, Value};
 use std::alloc::Global;
@@ -46,5 +45,5 @@ fn value_of(alloc: Global, expr: &Expr) -> Result<Value, EvalError> {
     let columns = Columns::new(alloc);
     let row = Row::new(alloc);
     let params = Params::new(alloc);
-    answer(alloc, &graph, &columns, &row, &params, expr)
+    value(alloc, &graph, &columns, &row, &params, expr)
 }

@@ -39,14 +39,17 @@ module _ (g : PropertyGraph) (params : List (List ℕ × Datum)) where
   set_property None p d = Ok []
   set_property (Some e) p d = stored d >>= λ kept. Ok (on (Some e) (act.Property p (as_value kept)))
 
+  -- what one item of SET does for a row
   abbrev pub set_by : Scope → SetItem → Result (List Assignment) DataFault
   set_by scope (set_item.Property x p e) = target_in scope x >>= λ t. value_of g params scope (tree_of e) >>= λ d. set_property t p d
   set_by scope (set_item.Label x l) = target_in scope x >>= λ t. Ok (on t (act.Label l))
 
+  -- what one item of REMOVE does for a row: a property becomes NULL, or a label goes
   abbrev pub removed_by : Scope → RemoveItem → Result (List Assignment) DataFault
   removed_by scope (remove_item.Property x p) = target_in scope x >>= λ t. Ok (on t (act.Property p v.Null))
   removed_by scope (remove_item.Label x l) = target_in scope x >>= λ t. Ok (on t (act.NoLabel l))
 
+  -- what SET does for all rows, and what REMOVE does, or the first fault
   abbrev pub set_assignments : ColumnList → List SetItem → RowList → Result (List Assignment) DataFault
   set_assignments columns items rows = each_some (λ row. each_some (set_by (row_scope columns row)) items) rows
 

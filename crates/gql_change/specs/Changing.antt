@@ -33,6 +33,7 @@ abbrev pub unless_fault : {A : Type 0} → Result A DataFault → (A → Result 
 unless_fault (Ok x) f = f x
 unless_fault (Err e) f = Err (refusal.Fault e)
 
+-- the change, unless there is a refusal
 abbrev pub refused_by : Option Refusal → Changed → Result Changed Refusal
 refused_by None c = Ok c
 refused_by (Some r) c = Err r
@@ -42,6 +43,7 @@ abbrev pub unless_full : Result Changed ElemKind → Result Changed Refusal
 unless_full (Ok c) = Ok c
 unless_full (Err k) = Err (refusal.Full k)
 
+-- there are no names
 abbrev pub is_empty : List (List ℕ) → Bool
 is_empty [] = true
 is_empty (x ∷ xs) = false
@@ -52,6 +54,7 @@ abbrev pub has_endpoints : ColumnList → RowList → List InsertPath → Bool
 has_endpoints columns rows ps = list_all (λ (row : List Datum). length row == length columns) rows && is_empty (wrong_in_spots columns (insert_spots ps))
 
 module _ (g : PropertyGraph) (params : List (List ℕ × Datum)) (columns : ColumnList) (rows : RowList) where
+  -- INSERT: the values of all rows first, and then the elements row by row
   abbrev pub changed_by_insert : List InsertPath → Result Changed Refusal
   changed_by_insert ps = unless_fault (rows_values g params columns ps rows) (λ values. unless_full (make_rows columns ps g rows values))
 
@@ -64,6 +67,7 @@ module _ (g : PropertyGraph) (params : List (List ℕ × Datum)) (columns : Colu
   changed_by_deletion d names =
       refused_by (first_left d (named_elements columns names rows) g g.nodes) (deleted d (named_elements columns names rows) g, rows)
 
+  -- what the clause comes to
   abbrev pub change_of : ChangeClause → Result Changed Refusal
   change_of (change.Insert ps) = if has_endpoints columns rows ps then changed_by_insert ps else Err (refusal.Fault fault.WrongKind)
   change_of (change.Set is) = changed_by_assignments (set_assignments g params columns is rows)

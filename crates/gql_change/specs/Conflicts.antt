@@ -33,9 +33,11 @@ act_cmp (act.Property x a) b = Less
 act_cmp a (act.Property y b) = Greater
 act_cmp a b = Equal
 
+-- by element, and then by what is done to it
 abbrev pub assignment_cmp : Assignment → Assignment → Ordering
 assignment_cmp a b = ordering_then (elem_cmp a.target b.target) (act_cmp a.act b.act)
 
+-- the assignment is strictly less
 abbrev pub comes_before : Assignment → Assignment → Bool
 comes_before a b = is_lt (assignment_cmp a b)
 
@@ -43,6 +45,7 @@ comes_before a b = is_lt (assignment_cmp a b)
 abbrev pub in_order : List Assignment → List Assignment
 in_order given = stably_sorted comes_before given
 
+-- both are one node, or one edge
 abbrev pub same_elem : Elem → Elem → Bool
 same_elem (elem.Node m) (elem.Node n) = m.0 == n.0
 same_elem (elem.Edge m) (elem.Edge n) = m.0 == n.0
@@ -60,6 +63,7 @@ act_conflict e (act.Property x a) (act.Property y b) =
     then Some (refusal.Conflict e x a b) else None
 act_conflict e _ _ = None
 
+-- the conflict of two assignments, where they give one property of one element different values
 abbrev pub conflict_of : Assignment → Assignment → Option Refusal
 conflict_of a b = if same_elem a.target b.target then act_conflict a.target a.act b.act else None
 
@@ -69,5 +73,6 @@ neighbours_conflict [] = None
 neighbours_conflict (a ∷ []) = None
 neighbours_conflict (a ∷ b ∷ bs) = option_or (conflict_of a b) (neighbours_conflict (b ∷ bs))
 
+-- the conflict for which the clause is refused, where there is one
 abbrev pub conflict_among : List Assignment → Option Refusal
 conflict_among given = neighbours_conflict (in_order given)

@@ -30,6 +30,7 @@ elements_in _ = []
 abbrev pub named_elements : ColumnList → List (List ℕ) → RowList → List Elem
 named_elements columns names rows = flat_map (λ row. flat_map (λ x. elements_in (datum_of_name (row_scope columns row) x)) names) rows
 
+-- the element is named
 abbrev pub is_named : List Elem → Elem → Bool
 is_named es e = list_any (same_elem e) es
 
@@ -47,6 +48,7 @@ edge_goes detachment.NoDetach es r = is_named es (elem.Edge r.number)
 abbrev pub edge_left : Detachment → List Elem → PropertyGraph → NodeRecord → Option EdgeRecord
 edge_left d es g n = find (λ (r : EdgeRecord). touches n.number r && not (edge_goes d es r)) g.edges
 
+-- the refusal for an edge that is left on a deleted node
 abbrev pub left_on : NodeRecord → Option EdgeRecord → Option Refusal
 left_on n None = None
 left_on n (Some r) = Some (refusal.Edges n.number r.number)
@@ -57,6 +59,7 @@ first_left d es g [] = None
 first_left d es g (n ∷ ns) =
     if is_named es (elem.Node n.number) then option_or (left_on n (edge_left d es g n)) (first_left d es g ns) else first_left d es g ns
 
+-- the graph without the named nodes and without the edges that go
 abbrev pub deleted : Detachment → List Elem → PropertyGraph → PropertyGraph
 deleted d es g = record {
   nodes = filter (λ (r : NodeRecord). not (is_named es (elem.Node r.number))) g.nodes;

@@ -38,10 +38,12 @@ abbrev pub refers : ColumnList → Option (List ℕ) → Bool
 refers columns None = false
 refers columns (Some x) = is_column columns x
 
+-- the items of a property map; without a map there are none
 abbrev pub items_in : Option (List MapItem) → List MapItem
 items_in None = []
 items_in (Some is) = is
 
+-- the labels that a spot gives; where none stand, there are none
 abbrev pub labels_given : Option (List (List ℕ)) → List (List ℕ)
 labels_given None = []
 labels_given (Some ls) = ls
@@ -84,6 +86,7 @@ pub record Making : Type 0 where
 abbrev pub is_used_up : ℕ → Bool
 is_used_up next = nat_le (pred (2 ^ 32)) next
 
+-- the properties of the next spot, and those of the spots behind it
 abbrev pub first_values : List PropertyList → PropertyList
 first_values [] = []
 first_values (ps ∷ pss) = ps
@@ -102,6 +105,7 @@ abbrev pub node_number : Datum → ℕ
 node_number (node n) = n
 node_number _ = 0
 
+-- the number of the node under a variable
 abbrev pub number_under : Making → Option (List ℕ) → ℕ
 number_under m None = 0
 number_under m (Some x) = node_number (datum_of_name (row_scope m.columns m.row) x)
@@ -110,6 +114,7 @@ number_under m (Some x) = node_number (datum_of_name (row_scope m.columns m.row)
 abbrev pub OrFull : Type 0 → Type 0
 OrFull A = Result A ElemKind
 
+-- one making after the other, until one is refused
 infixl 10 ◌>>>◌
 abbrev pub ◌>>>◌ : {A B : Type 0} → OrFull A → (A → OrFull B) → OrFull B
 (Ok x) >>> f = f x
@@ -124,6 +129,7 @@ past_spot m g k x d = record {
   values = later_values m.values;
 }
 
+-- the node of a spot: the next number, its labels as a set, and the properties that the spot gives
 abbrev pub new_node : Making → Fill → NodeRecord
 new_node m f = record {
   number = record { 0 = m.graph.next_node };
@@ -144,6 +150,7 @@ ends_between arrow.Right a b = Directed (record { 0 = a }) (record { 0 = b })
 ends_between arrow.Left a b = Directed (record { 0 = b }) (record { 0 = a })
 ends_between arrow.Undirected a b = if nat_le a b then Undirected (record { 0 = a }) (record { 0 = b }) else Undirected (record { 0 = b }) (record { 0 = a })
 
+-- the edge of a spot between these ends
 abbrev pub new_edge : Making → Fill → Ends → EdgeRecord
 new_edge m f ends = record {
   number = record { 0 = m.graph.next_edge };
@@ -171,13 +178,16 @@ make_step s at =
     else (make_node (past_spot at.0 at.0.graph kind.Edge s.edge.variable (edge at.0.graph.next_edge)) s.node
     >>> λ made. Ok (with_edge_made (new_edge at.0 s.edge (ends_between s.arrow at.1 made.1)) made))
 
+-- the steps of a path, one after the other
 abbrev pub make_steps : List InsertStep → Making × ℕ → OrFull (Making × ℕ)
 make_steps [] at = Ok at
 make_steps (s ∷ ss) at = make_step s at >>> make_steps ss
 
+-- a path: its first node, and then its steps
 abbrev pub make_path : Making → InsertPath → OrFull Making
 make_path m p = make_node m p.start >>> make_steps p.steps >>> λ at. Ok at.0
 
+-- the paths of a row, in the order of the text
 abbrev pub make_paths : List InsertPath → Making → OrFull Making
 make_paths [] m = Ok m
 make_paths (p ∷ ps) m = make_path m p >>> make_paths ps

@@ -29,6 +29,7 @@ abbrev pub put_property : List ℕ → Datum → PropertyList → PropertyList
 put_property x d [] = (x, d) ∷ []
 put_property x d (p ∷ ps) = by_order (slice_cmp nat_cmp x p.0) ((x, d) ∷ p ∷ ps) ((x, d) ∷ ps) (p ∷ put_property x d ps)
 
+-- the properties but the one of this name
 abbrev pub without_property : List ℕ → PropertyList → PropertyList
 without_property x ps = filter (λ (p : List ℕ × Datum). not (same_text x p.0)) ps
 
@@ -42,6 +43,7 @@ abbrev pub put_label : List ℕ → List (List ℕ) → List (List ℕ)
 put_label l [] = l ∷ []
 put_label l (k ∷ ks) = by_order (slice_cmp nat_cmp l k) (l ∷ k ∷ ks) (k ∷ ks) (k ∷ put_label l ks)
 
+-- the labels but this one
 abbrev pub without_label : List ℕ → List (List ℕ) → List (List ℕ)
 without_label l ls = filter (λ k. not (same_text l k)) ls
 

@@ -1,4 +1,4 @@
-//! SET and REMOVE.
+//! SET and REMOVE: the changes that their assignments come to, or the refusal of two that conflict.
 
 ghost use Rattle.std.specs.Prelude.{IsTrue};
 ghost use Rattle.gql_change.specs.AssignedGraph.{assigned};

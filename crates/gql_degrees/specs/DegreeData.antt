@@ -5,6 +5,7 @@ use Rattle.gql_norm.specs.declared.degree.Degree.TheVariants.{Singleton, Conditi
 use Rattle.gql_degrees.specs.declared.degrees.Degree.{Degree as CodeDegree}
 use Rattle.gql_degrees.specs.declared.degrees.Degree.TheVariants as degree
 
+-- a degree, and that of a name which may not be declared
 abbrev pub degree_data : CodeDegree → Degree
 degree_data degree.Singleton = Singleton
 degree_data degree.Conditional = Conditional

@@ -19,5 +19,6 @@ told_number n = pos (at_most_largest n)
 abbrev pub first_bound_at_fault : GraphPattern → Option ℤ
 first_bound_at_fault p = option_map told_number (first (bounds_at_fault (normal_form p)))
 
+-- of a normal pattern over these columns
 abbrev pub first_wrong_kind : ColumnList → NormalPattern → Option (List ℕ)
 first_wrong_kind columns p = first (wrong_in_match columns p)

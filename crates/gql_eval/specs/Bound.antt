@@ -23,6 +23,7 @@ abbrev pub is_bound_group : Binding → Bool
 is_bound_group (binding.Many es) = true
 is_bound_group _ = false
 
+-- a name with what it stands for, as an entry of a scope
 abbrev pub bound_entry : List ℕ × Binding → Entry
 bound_entry b = record { name = b.0; is_group = is_bound_group b.1; datum = bound_datum b.1 }
 

@@ -27,5 +27,6 @@ column_kinds columns = map (λ (c : List ℕ × ColumnKind). c.1) columns
 abbrev pub row_fits : ColumnList → List Datum → Bool
 row_fits columns row = fit_kinds (column_kinds columns) row
 
+-- each row fits the columns
 abbrev pub rows_fit : ColumnList → RowList → Bool
 rows_fit columns rows = list_all (row_fits columns) rows

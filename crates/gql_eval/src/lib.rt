@@ -44,6 +44,6 @@ pub use labels::satisfies;
 pub use leaves::number_value;
 pub use pattern::holds_in_pattern;
 pub use prepared::Prepared;
-pub use rows::{value, value_under};
+pub use rows::value;
 pub use scope::{Header, Scope, look_up};
 pub use truths::truth_of_value;

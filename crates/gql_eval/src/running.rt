@@ -24,7 +24,7 @@ use crate::instruction::Instruction;
 use crate::operations::{binary_value, operation_value};
 use crate::operators::operate;
 use crate::scope::{Scope, held_at};
-use crate::stack::{Held, Stack};
+use crate::stack::{Stack, StackValue};
 use crate::truths::{join_truths, truth_of_value, truth_value};
 use gql_ast::{DataFault, Expr, Operator};
 use gql_values3::{Params, Text, View, and3};
@@ -98,7 +98,7 @@ fn run_alone<'r, V: View>(
     ensures { Gives cow_datum result (next (acted (V.graph view.now) params.now scope.now (op_of instruction.now) []) top_of) }
 {
     let mut stack = Stack::new(alloc);
-    act(alloc, view, scope, params, instruction, &mut stack)?;
+    run_instruction(alloc, view, scope, params, instruction, &mut stack)?;
     top_of(stack)
 }
 
@@ -131,7 +131,7 @@ fn run_on<'r, V: View>(
         let at = left - 1;
         let instruction = &program[at];
         let count = skipped(instruction, stack);
-        act(alloc, view, scope, params, instruction, stack)?;
+        run_instruction(alloc, view, scope, params, instruction, stack)?;
         left = at.saturating_sub(count);
     }
     Ok(())
@@ -148,7 +148,7 @@ fn skipped(instruction: &Instruction, stack: &Stack) -> usize
 }
 
 /// Does one step.
-fn act<'r, V: View>(
+fn run_instruction<'r, V: View>(
     alloc: Global,
     view: &'r V,
     scope: &Scope<'r>,
@@ -179,7 +179,7 @@ fn act<'r, V: View>(
 fn put<'r>(stack: &mut Stack<'r>, value: CowValue<'r>) -> Result<(), EvalError>
     ensures { Gives (λ _. stack.new) result (Ok (cow_datum value.entry ∷ stack.old)) }
 {
-    Ok(stack.push(Held::any(value))?)
+    Ok(stack.push(StackValue::any(value))?)
 }
 
 /// Puts what a name stands for.
@@ -273,7 +273,7 @@ fn join_side<'r>(alloc: Global, operator: Operator, stack: &mut Stack<'r>) -> Re
     };
     let (a, is_within) = a.into_parts();
     let value = operate(alloc, operator, a, is_within, b.value())?;
-    Ok(stack.push(Held::within(value, operator == Operator::Concatenate))?)
+    Ok(stack.push(StackValue::within(value, operator == Operator::Concatenate))?)
 }
 
 /// Reads the top as a truth.

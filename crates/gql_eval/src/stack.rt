@@ -1,6 +1,7 @@
 //! The stack on which the steps of a program work.
 
 ghost use Rattle.std.specs.Prelude.{◌≡◌, [], ◌∷◌, true, nat_le, OnOk, MatchOption};
+ghost use Rattle.gql_values3.specs.Datum.{null};
 ghost use Rattle.gql_values3.specs.Nesting.{depth};
 ghost use Rattle.gql_values3.specs.Meaning.{datum_of};
 ghost use Rattle.gql_eval.specs.CowValue.{cow_datum};
@@ -8,17 +9,18 @@ ghost use Rattle.gql_eval.specs.Machinery.Program.{is_boolean, has_on_top};
 
 use crate::cow::CowValue;
 use gql_values3::{OutOfMemory, Value};
+use smallvec::SmallVec;
 use std::alloc::Global;
 use std::marker::Model;
 
 /// A value, and whether it is known that its lists are nested within the limit, so that nobody looks again.
 #[derive(Drop)]
-pub struct Held<'a> {
+pub struct StackValue<'a> {
     value: CowValue<'a>,
     is_within: bool,
 }
 
-impl<'a> Model for Held<'a> {
+impl<'a> Model for StackValue<'a> {
     ghost use Rattle.std.specs.Prelude.{◌≡◌, true, nat_le};
     ghost use Rattle.gql_values3.specs.Datum.{Datum, coded_datum};
     ghost use Rattle.gql_values3.specs.Nesting.{depth};
@@ -33,23 +35,34 @@ impl<'a> Model for Held<'a> {
     ghost invariant = { λ h. h.is_within ≡ true → nat_le (depth (cow_datum h.value)) 64 ≡ true };
 }
 
-impl<'a> Held<'a> {
+/// NULL, which stands in the room that a stack has left.
+impl<'a> Default for StackValue<'a> {
+    ghost is_default = { λ h. h ≡ null };
+
+    fn default() -> StackValue<'a>
+        ensures { result ≡ null }
+    {
+        StackValue::any(CowValue::Owned(Value::Null))
+    }
+}
+
+impl<'a> StackValue<'a> {
     /// A value of which nothing is known.
-    pub fn any(value: CowValue<'a>) -> Held<'a>
+    pub fn any(value: CowValue<'a>) -> StackValue<'a>
         ensures { result ≡ cow_datum value.entry }
     {
-        Held {
+        StackValue {
             value,
             is_within: false,
         }
     }
 
     /// A value whose lists are nested within the limit, where the flag is set.
-    pub fn within(value: Value, is_within: bool) -> Held<'a>
+    pub fn within(value: Value, is_within: bool) -> StackValue<'a>
         requires { is_within ≡ true → nat_le (depth (datum_of value)) 64 ≡ true }
         ensures { result ≡ datum_of value }
     {
-        Held {
+        StackValue {
             value: CowValue::Owned(value),
             is_within,
         }
@@ -67,15 +80,18 @@ impl<'a> Held<'a> {
         ensures value { cow_datum result.0 ≡ self.entry }
         ensures within { result.1 ≡ true → nat_le (depth self.entry) 64 ≡ true }
     {
-        let Held { value, is_within } = self;
+        let StackValue { value, is_within } = self;
         (value, is_within)
     }
 }
 
+/// How many values stand in their place, so that the programs of most expressions take no memory.
+const ROOM: usize = 4;
+
 /// Values, the last of which is the top. It is seen from the top on.
 #[derive(Drop)]
 pub struct Stack<'a> {
-    items: Vec<Held<'a>>,
+    items: SmallVec<StackValue<'a>, ROOM>,
 }
 
 impl<'a> Model for Stack<'a> {
@@ -97,13 +113,13 @@ impl<'a> Stack<'a> {
         ensures { result ≡ [] }
     {
         Stack {
-            items: Vec::new(alloc),
+            items: SmallVec::new(alloc),
         }
     }
 
     /// Puts a value on top.
     #[tactic(auto, using(crate::proofs::TurnedLemmas::turned_last))]
-    pub fn push(&mut self, held: Held<'a>) -> Result<(), OutOfMemory>
+    pub fn push(&mut self, held: StackValue<'a>) -> Result<(), OutOfMemory>
         ensures { OnOk result (self.new ≡ held.entry ∷ self.old) }
     {
         self.items.push(held)?;
@@ -112,7 +128,7 @@ impl<'a> Stack<'a> {
 
     /// Takes the top.
     #[tactic(auto, using(crate::proofs::TurnedLemmas::turned_last))]
-    pub fn pop(&mut self) -> Option<Held<'a>>
+    pub fn pop(&mut self) -> Option<StackValue<'a>>
         ensures { MatchOption result (self.old ≡ []) (λ held. self.old ≡ held ∷ self.new) }
     {
         self.items.pop()
@@ -123,7 +139,7 @@ impl<'a> Stack<'a> {
     pub fn has_on_top(&self, wanted: bool) -> bool
         ensures { result ≡ has_on_top wanted self.now }
     {
-        match self.items.last() {
+        match self.items.as_slice().last() {
             Some(held) => is_boolean(held.value(), wanted),
             None => false,
         }

@@ -26,6 +26,7 @@ abbrev pub bars_aggregates : Place → Bool
 bars_aggregates within = true
 bars_aggregates _ = false
 
+-- the name is a column that holds a group
 abbrev pub is_group_column : ColumnList → List ℕ → Bool
 is_group_column columns x = holds_group (kind_of_name columns x)
 
@@ -92,5 +93,6 @@ unfoldable mutual
   misused_side columns p no_links = false
   misused_side columns p (more_links (link op e) ls) = misused columns p e || misused_side columns p ls
 
+-- the same of an expression as the code keeps it
 abbrev pub misused_expr : ColumnList → Place → Expr → Bool
 misused_expr columns p e = misused columns p (tree_of e)

@@ -10,5 +10,6 @@ use Rattle.gql_ast.specs.declared.expr.Expr.{Expr}
 abbrev pub unknown_in : ColumnList → Tree → List (List ℕ)
 unknown_in columns e = filter (λ x. not (is_column columns x)) (names_in e)
 
+-- the same of an expression as the code keeps it
 abbrev pub unknown_in_expr : ColumnList → Expr → List (List ℕ)
 unknown_in_expr columns e = unknown_in columns (tree_of e)

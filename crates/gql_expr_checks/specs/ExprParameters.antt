@@ -42,6 +42,7 @@ abbrev mutual
   parameters_in_sides no_links = []
   parameters_in_sides (more_links (link op e) ls) = parameters_in e ++ parameters_in_sides ls
 
+-- the same of an expression as the code keeps it
 abbrev pub parameters_of : Expr → List (List ℕ)
 parameters_of e = parameters_in (tree_of e)
 

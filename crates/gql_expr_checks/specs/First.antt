@@ -1,6 +1,7 @@
 -- The first of a list.
 use Rattle.std.specs.Prelude.{List, [], ◌∷◌, Option, Some, None}
 
+-- its item at the head, if it has one
 abbrev pub first : {A : Type 0} → List A → Option A
 first [] = None
 first (x ∷ xs) = Some x

@@ -10,5 +10,6 @@ abbrev pub Fails : ScopeFault → Option Refusal → Type 0
 Fails (fault.Defect r) o = o ≡ Some r
 Fails fault.OutOfMemory o = Unit {0}
 
+-- Ok says that nothing is refused, a defect what is; want of memory says neither
 abbrev pub Gives : Result (Unit {0}) ScopeFault → Option Refusal → Type 0
 Gives = AnswersBy (λ (u : Unit {0}). None) Fails

@@ -14,7 +14,7 @@ use Rattle.gql_exprs.specs.declared.atom_word.AtomWord.TheVariants as atom
 use Rattle.gql_lexer.specs.SymbolPlaces.{opening, closing, opening_bracket, closing_bracket, comma, dot, star}
 use Rattle.gql_lexer.specs.WordPlaces.{ALL, DISTINCT}
 use Rattle.gql_front.specs.Tables.{entry, Begins}
-use Rattle.gql_front.specs.Reading.{◌>>=◌, Reader, is_sign, any_name_in, after, op_at, ended}
+use Rattle.gql_front.specs.Reading.{◌>>=◌, Reader, is_sign, any_name_in, after, op_at, with_ending}
 use Rattle.gql_front.proofs.Found.{Goes, Found, exact, longer, Sound, some_is, bind_some}
 use Rattle.gql_front.proofs.LexemeTests.{after_sign}
 use Rattle.gql_front.proofs.TableLemmas.{read_begins, word_row}
@@ -37,7 +37,7 @@ pub name_found : (x : List ℕ) (s : List Lexeme) → Found (named x s) goes_ato
 unfolding named
 name_found x s = go (field s) refl
   where
-    go : (o : Option (List ℕ × List Lexeme)) → field s ≡ o → Found (Some (ended (λ e p. property x p) (name x) s o)) goes_atom (name x) s
+    go : (o : Option (List ℕ × List Lexeme)) → field s ≡ o → Found (Some (with_ending (λ e p. property x p) (name x) s o)) goes_atom (name x) s
     go None e = exact refl
     go (Some (p, r)) e =
         let h = field_is s p r e in
@@ -49,9 +49,9 @@ property_read x p t r e = rw e refl
 
 name_sound : (x : List ℕ) (ts : List Lexeme) (y : Tree) (r : List Lexeme) → named x ts ≡ Some (y, r) → At at_atom y (lex.Name x ∷ ts) r
 unfolding named
-name_sound x ts y r e = go (field ts) refl (some_is (ended (λ e p. property x p) (name x) ts (field ts)) (y, r) e)
+name_sound x ts y r e = go (field ts) refl (some_is (with_ending (λ e p. property x p) (name x) ts (field ts)) (y, r) e)
   where
-    go : (o : Option (List ℕ × List Lexeme)) → field ts ≡ o → ended (λ e p. property x p) (name x) ts o ≡ (y, r) → At at_atom y (lex.Name x ∷ ts) r
+    go : (o : Option (List ℕ × List Lexeme)) → field ts ≡ o → with_ending (λ e p. property x p) (name x) ts o ≡ (y, r) → At at_atom y (lex.Name x ∷ ts) r
     go None q e = subst (λ (z : Tree × List Lexeme). At at_atom z.0 (lex.Name x ∷ ts) z.1) e (record { ranked = omega arith; derived = refl })
     go (Some (p, s)) q e =
         let h = field_is ts p s q in

@@ -9,7 +9,7 @@ use Rattle.gql_front.specs.Reading.{◌>>=◌, Reader, is_sign, after, op_at, be
 use Rattle.gql_front.proofs.Loops.{with_front, loop_stops, loop_goes_on}
 use Rattle.gql_front.proofs.Found.{Shrinks, step_shrinks}
 use Rattle.gql_exprs.specs.Grammar.{at_signed, at_product, at_not, at_and}
-use Rattle.gql_exprs.specs.Machinery.Readers.{comma_op, operand, operator_in, node_of, chain_or_side, side_of, steps_of, chain_of, list_of, read_expr, or_of, and_of, not_of, product_of, signed_of, sum_of}
+use Rattle.gql_exprs.specs.Machinery.Readers.{comma_op, operand, operator_in, chain_tree, chain_or_side, side_of, steps_of, chain_of, list_of, read_expr, or_of, and_of, not_of, product_of, signed_of, sum_of}
 use Rattle.gql_exprs.proofs.ExprChains.{at_shrinks}
 use Rattle.gql_exprs.proofs.ExprLists.{shrinks}
 use Rattle.gql_exprs.proofs.ExprLevels.{signed_reads, product_reads, not_reads, and_reads}
@@ -35,7 +35,7 @@ abbrev pub list_from : List Lexeme → Option (List Tree × List Lexeme)
 list_from ts = list_of read_expr ts
 
 -- a chain is its first side, and further ones
-pub chain_is : (c : Chain) (f : Reader Tree) (ts : List Lexeme) → chain_of c f ts ≡ (side_of c f ts >>= λ x. Some (chain_or_side (node_of c) x.0 (steps_of c f x.1).0, (steps_of c f x.1).1))
+pub chain_is : (c : Chain) (f : Reader Tree) (ts : List Lexeme) → chain_of c f ts ≡ (side_of c f ts >>= λ x. Some (chain_or_side (chain_tree c) x.0 (steps_of c f x.1).0, (steps_of c f x.1).1))
 unfolding steps_of or_of and_of sum_of product_of sequence
 chain_is level.Or f ts = refl
 chain_is level.And f ts = refl

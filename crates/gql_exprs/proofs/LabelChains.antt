@@ -8,7 +8,7 @@ use Rattle.gql_ast.specs.Label.{Label}
 use Rattle.gql_exprs.specs.declared.labels.LabelChain.{LabelChain}
 use Rattle.gql_exprs.specs.declared.labels.LabelChain.TheVariants.{Or, And}
 use Rattle.gql_exprs.specs.LabelGrammar.{at_factor, at_term}
-use Rattle.gql_exprs.specs.Machinery.LabelReaders.{symbol_op, operand, symbol_of, node_of, side_of, sides_of, chain_of, term_of, expression_of, read_label}
+use Rattle.gql_exprs.specs.Machinery.LabelReaders.{symbol_op, operand, symbol_of, chain_label, side_of, sides_of, chain_of, term_of, expression_of, read_label}
 use Rattle.gql_exprs.proofs.LabelLevels.{at_consumes, read_label_reads, factor_reads, term_reads}
 
 -- how far a chain is above a base, for measures
@@ -25,7 +25,7 @@ abbrev pub sides_from : LabelChain → List Lexeme → List Label × List Lexeme
 sides_from c ts = many (step_of c) (length ts) ts
 
 -- a chain is its first side, and the others
-pub chain_is : (c : LabelChain) (f : Reader Label) (ts : List Lexeme) → chain_of c f ts ≡ (side_of c f ts >>= λ x. Some (one_or (node_of c) x.0 (sides_of c f x.1).0, (sides_of c f x.1).1))
+pub chain_is : (c : LabelChain) (f : Reader Label) (ts : List Lexeme) → chain_of c f ts ≡ (side_of c f ts >>= λ x. Some (one_or (chain_label c) x.0 (sides_of c f x.1).0, (sides_of c f x.1).1))
 unfolding sides_of expression_of term_of sequence
 chain_is Or f ts = refl
 chain_is And f ts = refl

@@ -4,7 +4,7 @@ ghost use Rattle.std.specs.Prelude.{◌≡◌, ◌<◌, length, IfOk};
 ghost use Rattle.gql_front.specs.Reading.{op_at};
 ghost use Rattle.gql_front.specs.Reads.{Takes};
 ghost use Rattle.gql_ast.specs.Meaning.{tree_of};
-ghost use Rattle.gql_exprs.specs.Machinery.Readers.{operator_in, node_of, chain_or_side};
+ghost use Rattle.gql_exprs.specs.Machinery.Readers.{operator_in, chain_tree, chain_or_side};
 
 use gql_ast::{Expr, Operator, Steps, Sub};
 use gql_front::NoFront;
@@ -63,7 +63,7 @@ pub fn chain_or_side(
     first: Expr,
     steps: Steps,
 ) -> Result<Expr, OutOfMemory>
-    ensures { IfOk result (λ e. tree_of e ≡ chain_or_side (node_of kind) (tree_of first) steps) }
+    ensures { IfOk result (λ e. tree_of e ≡ chain_or_side (chain_tree kind) (tree_of first) steps) }
 {
     if steps.is_empty() {
         return Ok(first);

@@ -1,4 +1,4 @@
-//! How deep brackets are nested.
+//! How deep brackets of all kinds are nested, counted from the left.
 
 ghost use Rattle.std.specs.Prelude.{◌≡◌, ◌≤◌};
 ghost use Rattle.gql_exprs.specs.Depth.{is_opening, is_closing, count_behind, too_deep};

@@ -1,4 +1,4 @@
-//! What may stand behind a comparison.
+//! What may stand behind a comparison and makes a test of it: IS or IS NOT and what is asked, or a colon and labels.
 
 ghost use Rattle.std.specs.Prelude.{◌≡◌, ◌<◌, ◌≤◌, length, IfOk};
 ghost use Rattle.gql_front.specs.Reads.{ReadsAs, MayReadAs};

@@ -1,10 +1,10 @@
-//! Label expressions.
+//! The recursion over label expressions: a function a production, and a loop for the sides of a chain.
 
 ghost use Rattle.std.specs.Prelude.{◌≡◌, ◌<◌, ◌≤◌, length, IfOk};
 ghost use Rattle.gql_front.specs.Reads.{ReadsAs};
 ghost use Rattle.gql_front.specs.Reading.{one_or};
 ghost use Rattle.gql_ast.specs.LabelMeaning.{label_of};
-ghost use Rattle.gql_exprs.specs.Machinery.LabelReaders.{paren_of, base_of, factor_of, symbol_of, node_of, side_of, sides_of, chain_of, read_label};
+ghost use Rattle.gql_exprs.specs.Machinery.LabelReaders.{paren_of, base_of, factor_of, symbol_of, chain_label, side_of, sides_of, chain_of, read_label};
 
 use gql_ast::{LabelExpr, LabelList, LabelSub, ParseFault};
 use gql_front::{ParseResult, after_sign};
@@ -140,7 +140,7 @@ fn node(
     first: LabelExpr,
     others: LabelList,
 ) -> Result<LabelExpr, OutOfMemory>
-    ensures { IfOk result (λ e. label_of e ≡ one_or (node_of kind) (label_of first) others) }
+    ensures { IfOk result (λ e. label_of e ≡ one_or (chain_label kind) (label_of first) others) }
 {
     if others.is_empty() {
         return Ok(first);

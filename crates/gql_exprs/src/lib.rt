@@ -1,10 +1,8 @@
 //! Expressions and label expressions, read from lexemes.
 //!
-//! `expression`, `label_expression` and `parse_expr` read the longest front of some lexemes that derives an expression or
-//! a label expression, and `too_deep` says whether brackets are nested too deep. The crate's promise is that a reader finds
-//! the longest front that the grammar derives (`specs/Grammar.antt`, `specs/LabelGrammar.antt`), with the one tree of that
-//! front. It stands on `gql_front`, whose readers serve every grammar, on the lexemes of `gql_lexer` and on the trees of
-//! `gql_ast`.
+//! The promise: `parse_expr`, `expression` and `label_expression` read the longest front of some lexemes that derives an expression
+//! or a label expression (`specs/Grammar.antt`, `specs/LabelGrammar.antt`), with its one tree, and `too_deep` says whether brackets
+//! are nested more than 64 deep.
 #![tactic(auto)]
 
 mod atom_word;

@@ -1,4 +1,4 @@
-//! The top call.
+//! The top call: an expression from a place in the lexemes on.
 
 ghost use Rattle.std.specs.Prelude.{◌≡◌, ℕ, ◌^◌, ◌<◌, ◌≤◌, ◌⊎◌, length, false, IfOk};
 ghost use Rattle.gql_front.specs.Gives.{IsSyntax, IsDeep};

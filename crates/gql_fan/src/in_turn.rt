@@ -1,3 +1,5 @@
+//! A job done for one input after the other.
+
 ghost use Rattle.std.specs.Prelude.{IfOk};
 ghost use Rattle.gql_fan.specs.Answers.{Answers};
 

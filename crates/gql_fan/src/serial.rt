@@ -1,3 +1,5 @@
+//! The fan of one thread, the caller's.
+
 use crate::fan::Fan;
 use std::marker::{PhantomData, Sync};
 use std::thread;

@@ -1,3 +1,5 @@
+//! The fan that puts several threads to work.
+
 use crate::fan::Fan;
 use std::marker::Sync;
 use std::thread;

@@ -27,6 +27,7 @@ pub record AreKeptLabels (labels : List (List ℕ)) : Type 0 where
   pub ascend : IsTrue (texts_ascend labels)
   pub texts : AllByRecursion IsText labels
 
+-- a property: its name is a text, and its value can be kept
 abbrev pub IsKeptProperty : List ℕ × Datum → Type 0
 IsKeptProperty p = IsText p.0 × IsKeptValue p.1
 

@@ -1,3 +1,5 @@
+//! Numbers and texts, read.
+
 ghost use Rattle.std.specs.Prelude.{◌≡◌, List, length, Some, None};
 ghost use Rattle.std.specs.Int.{w32, w64};
 ghost use Rattle.gql_fields.specs.Machinery.Reading.{GivesFree, Gives, number_at, text_at, utf8_at};

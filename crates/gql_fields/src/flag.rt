@@ -1,3 +1,5 @@
+//! Yes or no in one byte, read and written.
+
 ghost use Rattle.std.specs.Prelude.{◌≡◌, [], ◌∷◌, ◌++◌, OnOk};
 ghost use Rattle.gql_fields.specs.Spelling.{flag_spelled};
 ghost use Rattle.gql_fields.specs.Machinery.Reading.{GivesFree, flag_at};

@@ -1,3 +1,5 @@
+//! Label sets, read.
+
 ghost use Rattle.std.specs.Prelude.{◌≡◌, List};
 ghost use Rattle.gql_values3.specs.Texts.{texts_ascend};
 ghost use Rattle.gql_fields.specs.Machinery.Reading.{Gives, items_at, text_at, labels_at};
@@ -9,7 +11,7 @@ use std::alloc::Global;
 
 /// The set of labels at the front, behind their count, and the bytes after it.
 #[tactic(auto, unfolding(crate::specs::Machinery::Reading::labels_at))]
-pub fn labels_of(alloc: Global, bytes: &[u8]) -> Result<(Names, &[u8]), Misread>
+pub fn label_set_of(alloc: Global, bytes: &[u8]) -> Result<(Names, &[u8]), Misread>
     ensures { Gives (λ x. (x.0, x.1.now)) result (labels_at bytes.now) }
 {
     let (count, rest) = u64_at(bytes)?;

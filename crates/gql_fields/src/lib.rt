@@ -16,7 +16,7 @@ mod writing;
 
 pub use bytes::{str_at, text_of, u32_at, u64_at};
 pub use flag::{flag_of, put_flag};
-pub use labels::labels_of;
+pub use labels::label_set_of;
 pub use misread::Misread;
 pub use properties::properties_of;
 pub use property_writing::put_properties;

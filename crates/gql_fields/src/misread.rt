@@ -1,3 +1,5 @@
+//! Why bytes were not read.
+
 use gql_values3::OutOfMemory;
 
 /// Why bytes were not read: they spell nothing that is known here, or there is no memory.

@@ -1,3 +1,5 @@
+//! Property maps, read.
+
 ghost use Rattle.std.specs.Prelude.{◌≡◌, map};
 ghost use Rattle.gql_values3.specs.Texts.{texts_ascend};
 ghost use Rattle.gql_fields.specs.Machinery.Reading.{Gives, property_at, properties_at, items_at, pair_of};

@@ -1,3 +1,5 @@
+//! Property maps, written.
+
 ghost use Rattle.std.specs.Prelude.{◌≡◌, ◌++◌, IsTrue, OnOk};
 ghost use Rattle.std.specs.List.{flat_map, AllByRecursion};
 ghost use Rattle.gql_values3.specs.PropertyGraph.{are_properties};

@@ -1,3 +1,5 @@
+//! Values, written; nodes, edges and paths, which no property holds, are written as nothing.
+
 ghost use Rattle.std.specs.Prelude.{◌≡◌, ◌++◌, length, OnOk};
 ghost use Rattle.std.specs.Int.{w64, to_be_bytes};
 ghost use Rattle.std.specs.List.{flat_map, AllByRecursion};

@@ -1,3 +1,5 @@
+//! Values, read: NULL, booleans, integers, strings, and lists of values.
+
 ghost use Rattle.std.specs.Prelude.{◌≡◌, Some, None};
 ghost use Rattle.gql_values3.specs.Meaning.{datum_of};
 ghost use Rattle.gql_fields.specs.Machinery.Reading.{GivesFree, Gives, boolean_at, integer_at, string_at, lists_at, value_at, items_at};

@@ -1,7 +1,7 @@
 -- What a reader owes, and how readers are put together. These serve every grammar.
 use Rattle.std.proofs.Common.{◌≡◌, ℕ, zero, suc, ◌<◌, ◌≤◌, ◌⊎◌, inl, inr, Bool, true, false, ◌||◌, List, [], ◌∷◌, length, Option, Some, None, refl, sym, ap, subst, ◌∙◌, arith}
 use Rattle.gql_lexer.specs.declared.lexeme.Lexeme.{Lexeme}
-use Rattle.gql_front.specs.Reading.{◌>>=◌, Reader, op_at, before, step, with_step, many, sequence, prefixed, prefix, ended, suffix}
+use Rattle.gql_front.specs.Reading.{◌>>=◌, Reader, op_at, before, step, with_step, many, sequence, prefixed, prefix, with_ending, suffix}
 
 abbrev pub is_there : {A : Type 0} → Option A → Bool
 is_there None = false
@@ -185,7 +185,7 @@ module _ {A O : Type 0} (op : Lexeme → Option O) (build : O → A → A) (item
 -- item [ending]: an ending begins with a lexeme of h, and goes on with one of k
 module _ {A C : Type 0} (ending : Reader C) (build : A → C → A) (item : Reader A) (g h k : Lexeme → Bool)
     (shrinks : Shrinks ending) (opens : (ts : List Lexeme) (x : C × List Lexeme) → ending ts ≡ Some x → Goes h ts) where
-  suffixed : (ts : List Lexeme) (x : A) (m : List Lexeme) → item ts ≡ Some (x, m) → suffix ending build item ts ≡ Some (ended build x m (ending m))
+  suffixed : (ts : List Lexeme) (x : A) (m : List Lexeme) → item ts ≡ Some (x, m) → suffix ending build item ts ≡ Some (with_ending build x m (ending m))
   unfolding suffix
   suffixed ts x m e = rw e refl
 
@@ -208,10 +208,10 @@ module _ {A C : Type 0} (ending : Reader C) (build : A → C → A) (item : Read
   pub suffix_split : (ts : List Lexeme) (x : A) (r : List Lexeme) → suffix ending build item ts ≡ Some (x, r) → SuffixRead ending build item ts x r
   unfolding suffix
   suffix_split ts x r e =
-      let a = bind_some (item ts) (λ y. Some (ended build y.0 y.1 (ending y.1))) (x, r) e in
-      go a.0.0 a.0.1 a.1 (ending a.0.1) refl (some_is (ended build a.0.0 a.0.1 (ending a.0.1)) (x, r) a.2)
+      let a = bind_some (item ts) (λ y. Some (with_ending build y.0 y.1 (ending y.1))) (x, r) e in
+      go a.0.0 a.0.1 a.1 (ending a.0.1) refl (some_is (with_ending build a.0.0 a.0.1 (ending a.0.1)) (x, r) a.2)
     where
-      go : (y : A) (m : List Lexeme) → item ts ≡ Some (y, m) → (o : Option (C × List Lexeme)) → ending m ≡ o → ended build y m o ≡ (x, r) → SuffixRead ending build item ts x r
+      go : (y : A) (m : List Lexeme) → item ts ≡ Some (y, m) → (o : Option (C × List Lexeme)) → ending m ≡ o → with_ending build y m o ≡ (x, r) → SuffixRead ending build item ts x r
       go y m p None q e = inl (p ∙ ap (λ (z : A × List Lexeme). Some z) e)
       go y m p (Some z) q e = inr (y, m, z.0, p, q ∙ ap (λ (w : A × List Lexeme). Some (z.0, w.1)) e, sym (ap (λ (w : A × List Lexeme). w.0) e))
 

@@ -81,13 +81,13 @@ unfoldable pub prefix : {A O : Type 0} → (Lexeme → Option O) → (O → A �
 prefix op build item ts = prefixed build item ts (op_at op ts)
 
 -- the item with the ending that stands behind it, if one does
-abbrev pub ended : {A C : Type 0} → (A → C → A) → A → List Lexeme → Option (C × List Lexeme) → A × List Lexeme
-ended build x ts None = (x, ts)
-ended build x ts (Some e) = (build x e.0, e.1)
+abbrev pub with_ending : {A C : Type 0} → (A → C → A) → A → List Lexeme → Option (C × List Lexeme) → A × List Lexeme
+with_ending build x ts None = (x, ts)
+with_ending build x ts (Some e) = (build x e.0, e.1)
 
 -- item [ending]
 unfoldable pub suffix : {A C : Type 0} → Reader C → (A → C → A) → Reader A → Reader A
-suffix ending build item ts = item ts >>= λ x. Some (ended build x.0 x.1 (ending x.1))
+suffix ending build item ts = item ts >>= λ x. Some (with_ending build x.0 x.1 (ending x.1))
 
 -- an item alone, or a node of it and its steps
 abbrev pub one_or : {A C : Type 0} → (A → List C → A) → A → List C → A

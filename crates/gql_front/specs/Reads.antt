@@ -24,6 +24,7 @@ pub record MayReadAs {A B : Type 0} (view : A → B) (result : Parsed A ParseFau
   pub given : Gives (λ x. (view x.0, x.1.now)) result (reader ts)
   pub shorter : IfOk result (λ x. length x.1.now ≤ length ts)
 
+-- the same of a tree that is its own meaning
 abbrev pub MayRead : {A : Type 0} → Parsed A ParseFault → List Lexeme → Reader A → Type 0
 MayRead result ts reader = MayReadAs (λ x. x) result ts reader
 
@@ -32,6 +33,7 @@ pub record TakesAs {A B E : Type 0} (view : A → B) (result : Parsed A E) (ts :
   pub given : Finds (λ x. (view x.0, x.1.now)) result (reader ts)
   pub shorter : IfOk result (λ x. length x.1.now < length ts)
 
+-- the same of what is its own meaning
 abbrev pub Takes : {A E : Type 0} → Parsed A E → List Lexeme → Reader A → Type 0
 Takes result ts reader = TakesAs (λ x. x) result ts reader
 

@@ -1,8 +1,8 @@
 //! What every parser by descent stands on.
 //!
-//! A parser reads lexemes from the front of a slice and answers a tree and the rest. The crate has the functions that
-//! read one lexeme and, in `specs/` and `proofs/`, readers on lists of lexemes with the laws by which a grammar's reader
-//! is shown to find the longest front. It stands on the lexemes of `gql_lexer` and on the faults of `gql_ast`.
+//! A parser reads lexemes from the front of a slice and answers a tree and the rest. The promise of each reader here: it takes
+//! one lexeme exactly where it stands. `specs/` and `proofs/` have readers on lists of lexemes, and the laws by which a grammar's
+//! reader is shown to find the longest front.
 #![tactic(auto)]
 
 mod lexemes;

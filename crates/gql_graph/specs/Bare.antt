@@ -3,6 +3,7 @@ use Rattle.std.specs.Prelude.{ℕ, List}
 use Rattle.gql_graph.specs.Catalog.{CatalogGraph}
 use Rattle.gql_graph.specs.declared.held.Held.{Held}
 
+-- the graph and the name of its type alone
 abbrev pub bare_held : Held → CatalogGraph
 bare_held h = record { graph = h.graph.graph; kind = h.kind }
 

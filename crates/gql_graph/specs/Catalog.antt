@@ -34,6 +34,7 @@ abbrev pub put_named : {X : Type 0} → List ℕ → X → List (List ℕ × X) 
 put_named name x [] = (name, x) ∷ []
 put_named name x (y ∷ ys) = if is_before name y.0 then (name, x) ∷ y ∷ ys else y ∷ put_named name x ys
 
+-- without what stands under the name
 abbrev pub without_named : {X : Type 0} → List ℕ → List (List ℕ × X) → List (List ℕ × X)
 without_named {X} name xs = filter (λ (x : List ℕ × X). not (same_text name x.0)) xs
 

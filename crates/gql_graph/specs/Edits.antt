@@ -23,15 +23,18 @@ taken_out key n xs = filter (λ y. not (key y == n)) xs
 abbrev pub put_over : {X : Type 0} → (X → ℕ) → X → List X → List X
 put_over key x xs = map (λ y. if key y == key x then x else y) xs
 
+-- nodes and edges are kept in order by number
 abbrev pub node_key : NodeRecord → ℕ
 node_key r = r.number.0
 
 abbrev pub edge_key : EdgeRecord → ℕ
 edge_key r = r.number.0
 
+-- with other nodes, and the number that the next new node takes; the edges stay
 abbrev pub with_nodes : PropertyGraph → List NodeRecord → ℕ → PropertyGraph
 with_nodes g nodes next = record { nodes = nodes; edges = g.edges; next_node = next; next_edge = g.next_edge }
 
+-- with other edges, and the number that the next new edge takes; the nodes stay
 abbrev pub with_edges : PropertyGraph → List EdgeRecord → ℕ → PropertyGraph
 with_edges g edges next = record { nodes = g.nodes; edges = edges; next_node = g.next_node; next_edge = next }
 
@@ -48,6 +51,7 @@ changed (change.BackEdge r) g = with_edges g (put_in edge_key r g.edges) g.next_
 changed (change.SwapNode r) g = with_nodes g (put_over node_key r g.nodes) g.next_node
 changed (change.SwapEdge r) g = with_edges g (put_over edge_key r g.edges) g.next_edge
 
+-- the graph has an edge of this number
 abbrev pub has_edge : PropertyGraph → EdgeId → Bool
 has_edge g e = holds (edge_of g e)
   where
@@ -55,6 +59,7 @@ has_edge g e = holds (edge_of g e)
     holds None = false
     holds (Some r) = true
 
+-- both directed or both undirected, and the same nodes in the same order
 abbrev pub same_ends : Ends → Ends → Bool
 same_ends (Directed a b) (Directed c d) = a.0 == c.0 && b.0 == d.0
 same_ends (Undirected a b) (Undirected c d) = a.0 == c.0 && b.0 == d.0

@@ -1,3 +1,5 @@
+//! The catalog: graphs and graph types, looked up, added, replaced and taken away by name.
+
 ghost use Rattle.std.specs.Prelude.{◌≡◌, [], None, Some, IfOk, OnOk, OnErr, IsTrue, if◌then◌else◌, map, option_map, find, position};
 ghost use Rattle.std.specs.List.{list_all};
 ghost use Rattle.std.specs.Option.{option_copied};

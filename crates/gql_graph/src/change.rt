@@ -1,3 +1,5 @@
+//! The changes of a graph, one element at a time.
+
 use gql_values3::{EdgeId, EdgeRecord, NodeId, NodeRecord, Sequence};
 
 /// One step by which a graph is edited. Each has another that undoes it.

@@ -1,3 +1,5 @@
+//! Copies of nodes and edges, with their labels and properties.
+
 ghost use Rattle.std.specs.Prelude.{◌≡◌, IfOk, map};
 ghost use Rattle.gql_graph.specs.Machinery.Shown.{shown};
 

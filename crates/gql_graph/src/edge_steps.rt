@@ -1,3 +1,5 @@
+//! The changes of a graph's edges, each with the one that undoes it.
+
 ghost use Rattle.std.specs.Prelude.{IsTrue};
 ghost use Rattle.gql_graph.specs.Edits.{changed, can_act};
 ghost use Rattle.gql_graph.specs.Room.{has_room};

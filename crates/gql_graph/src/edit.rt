@@ -1,3 +1,5 @@
+//! What can be edited: a property graph with room, of which each change can be undone.
+
 ghost use Rattle.std.specs.Prelude.{◌≡◌, Bool, IsTrue, OnOk};
 ghost use Rattle.gql_values3.specs.PropertyGraph.{PropertyGraph};
 ghost use Rattle.gql_graph.specs.Edits.{changed, can_act, can_act_each, holds_along};

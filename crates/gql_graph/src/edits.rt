@@ -1,3 +1,5 @@
+//! A graph as what can be edited: the room that changes need, and each change as it acts.
+
 ghost use Rattle.std.specs.Prelude.{◌≡◌, count_by};
 ghost use Rattle.gql_graph.specs.Machinery.AfterChange.{adds_node, adds_edge};
 

@@ -1,3 +1,5 @@
+//! The property graph: its nodes and edges by number, and the numbers that the next ones take.
+
 ghost use Rattle.std.specs.Prelude.{◌≡◌, [], length, IfOk, IfSome, is_some, IsTrue};
 ghost use Rattle.std.specs.Option.{option_copied};
 ghost use Rattle.gql_values3.specs.PropertyGraph.{is_graph, are_edges};

@@ -1,3 +1,5 @@
+//! A graph as a catalog holds it, beside the name of its type.
+
 ghost use Rattle.std.specs.Prelude.{◌≡◌, None, IfOk};
 
 use crate::graph::Graph;

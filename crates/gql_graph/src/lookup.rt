@@ -1,3 +1,5 @@
+//! Nodes looked up by number or by label, and edges by number or by a node that they touch.
+
 ghost use Rattle.std.specs.Prelude.{◌≡◌, ◌==◌, find, map, filter, slice_get};
 ghost use Rattle.std.specs.Option.{option_copied};
 ghost use Rattle.std.specs.List.{list_any};

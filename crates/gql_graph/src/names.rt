@@ -1,3 +1,5 @@
+//! Labels and names of properties: whether they are in order, and what is found among them.
+
 ghost use Rattle.std.specs.Prelude.{◌≡◌, map, slice_get};
 ghost use Rattle.std.specs.List.{list_any};
 ghost use Rattle.std.specs.Option.{option_copied};

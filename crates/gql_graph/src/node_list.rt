@@ -1,3 +1,5 @@
+//! Nodes by ascending number: one taken out, put in, or put in the place of another.
+
 ghost use Rattle.std.specs.Prelude.{◌≡◌, ◌<◌, ◌==◌, true, find, is_some, vec_len, vec_capacity};
 ghost use Rattle.gql_graph.specs.Machinery.Ascending.{AscendsTo};
 ghost use Rattle.gql_graph.specs.Edits.{node_key, put_in, taken_out, put_over};

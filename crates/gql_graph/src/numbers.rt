@@ -1,3 +1,5 @@
+//! Whether the numbers of nodes and of edges ascend, below the next one.
+
 ghost use Rattle.std.specs.Prelude.{◌≡◌, map};
 ghost use Rattle.std.specs.Bool.{OnTrue};
 ghost use Rattle.gql_values3.specs.PropertyGraph.{numbers_ascend, are_numbers};

@@ -1,3 +1,5 @@
+//! Which nodes and edges a graph may have: labels and properties in order, and endpoints that are there.
+
 ghost use Rattle.std.specs.Prelude.{◌≡◌};
 ghost use Rattle.std.specs.List.{list_all};
 ghost use Rattle.gql_values3.specs.PropertyGraph.{is_node_record, is_edge_record, are_ends};

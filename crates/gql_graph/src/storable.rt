@@ -1,3 +1,5 @@
+//! Which values may stand in a property, and which property maps an element may have.
+
 ghost use Rattle.std.specs.Prelude.{◌≡◌, map};
 ghost use Rattle.std.specs.List.{list_all};
 ghost use Rattle.gql_values3.specs.Datum.{data_of};

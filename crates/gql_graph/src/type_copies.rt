@@ -1,3 +1,5 @@
+//! Copies of graph types, part by part.
+
 ghost use Rattle.std.specs.Prelude.{◌≡◌, IfOk};
 
 use crate::copies::copy_labels;

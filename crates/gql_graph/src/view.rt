@@ -1,3 +1,5 @@
+//! A graph as what queries look at.
+
 use crate::graph::Graph;
 use crate::lookup::{nth_labelled, nth_touching};
 use crate::names::{contains_name, key_of_place, name_of_place};

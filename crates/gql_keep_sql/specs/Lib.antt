@@ -1,4 +1,3 @@
-pub mod Counting
 pub mod Fetched
 pub mod Keys
 pub mod Machinery

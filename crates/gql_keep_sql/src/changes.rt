@@ -1,3 +1,5 @@
+//! Which keys are put and which are dropped, in ascending order.
+
 ghost use Rattle.std.specs.Prelude.{◌≡◌, ℕ, List, Option, Some, None, length, map, IfOk, OnOk, ◌++◌, ◌||◌, true, if◌then◌else◌, IfSome};
 ghost use Rattle.gql_keep_sql.specs.Keys.{has_key, keys_of};
 ghost use Rattle.gql_keep_sql.specs.Machinery.Merge.{put_of, drop_of, changes_ascend, is_put_in, is_changed_in};

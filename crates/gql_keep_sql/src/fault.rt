@@ -1,8 +1,10 @@
+//! The refusals of SQLite, and what the keeper answers for them.
+
 ghost use Rattle.std.specs.Prelude.{◌≡◌, ◌≤◌, ◌↔◌, IfOk, Ok, Err, is_ok};
 ghost use Rattle.sqlite.specs.declared.error.ErrorCode.TheVariants.{OutOfMemory as NoMemoryCode};
 ghost use Rattle.sqlite.specs.declared.error.Error.TheVariants.{SqliteFailure};
 ghost use Rattle.gql_ports.specs.declared.fault.KeepFault.TheVariants.{OutOfMemory as NoMemory};
-ghost use Rattle.gql_keep_sql.specs.Counting.{count_after};
+ghost use Rattle.gql_ports.specs.Causes.{count_after};
 
 use gql_ports::KeepFault;
 use sqlite::{Error, ErrorCode};

@@ -1,11 +1,12 @@
+//! The keeper over SQLite, which keeps the keys of its store at hand.
+
 ghost use Rattle.std.specs.Prelude.{◌≡◌, ◌≤◌, ◌<◌, ◌++◌, ℕ, List, [], Option, Some, None, Ok, Err, option_map, length, map, Bool, true, ◌+◌, IfOk, OnOk, OnErr, IfSome, IsTrue, is_ok, slice_get};
 ghost use Rattle.std.specs.Option.{option_copied};
 ghost use Rattle.gql_values3.specs.Texts.{texts_differ, texts_ascend};
-ghost use Rattle.gql_ports.specs.Causes.{Rose};
+ghost use Rattle.gql_ports.specs.Causes.{Rose, count_after};
 ghost use Rattle.gql_ports.specs.Told.{MatchTold};
 ghost use Rattle.gql_ports.specs.Held.{held_after_opening, keys_ascend, Applies};
 ghost use Rattle.gql_keep_sql.specs.Told.{told_by};
-ghost use Rattle.gql_keep_sql.specs.Counting.{count_after};
 ghost use Rattle.gql_keep_sql.specs.Keys.{has_key, stands_after};
 ghost use Rattle.gql_keep_sql.specs.Fetched.{Fetches};
 ghost use Rattle.gql_keep_sql.specs.Places.{IsUnder};
@@ -68,7 +69,7 @@ impl<'a> Keeper for SqlKeeper<'a> {
         ensures err { OnErr result (told_by self.new ≡ told_by self.old) }
         ensures later { self.old.faults ≤ self.new.faults }
         ensures failed { result ≡ Err KeepFault.Failed → Rose self.old.faults self.new.faults }
-        ensures counted { self.new.faults ≡ count_after result self.old.faults }
+        ensures risen { self.new.faults ≡ count_after result self.old.faults }
         ensures under { OnOk result (IsUnder (option_copied name.entry) self.new.reader.place) }
         ensures kept { OnErr result ((self.new.keys ≡ self.old.keys) × (self.new.reader.place ≡ self.old.reader.place)) }
     {
@@ -98,7 +99,7 @@ impl<'a> Keeper for SqlKeeper<'a> {
         ensures same { length self.new.keys ≡ length self.old.keys }
         ensures later { self.old.faults ≤ self.new.faults }
         ensures failed { result ≡ Err KeepFault.Failed → Rose self.old.faults self.new.faults }
-        ensures counted { self.new.faults ≡ count_after result self.old.faults }
+        ensures risen { self.new.faults ≡ count_after result self.old.faults }
         ensures key { IfOk result (λ r. slice_get self.old.keys index ≡ Some r.key) }
         ensures value { IfOk result (λ r. ∥ Fetches r.key r.value self.old.reader.place self.new.reader.place ∥₁) }
         ensures keys { self.new.keys ≡ self.old.keys }
@@ -116,7 +117,7 @@ impl<'a> Keeper for SqlKeeper<'a> {
         ensures err { OnErr result (told_by self.new ≡ told_by self.old) }
         ensures later { self.old.faults ≤ self.new.faults }
         ensures failed { result ≡ Err KeepFault.Failed → Rose self.old.faults self.new.faults }
-        ensures counted { self.new.faults ≡ count_after result self.old.faults }
+        ensures risen { self.new.faults ≡ count_after result self.old.faults }
         ensures stand { OnOk result ((key : List ℕ) → has_key self.new.keys key ≡ stands_after puts.now drops.now key (has_key self.old.keys key)) }
         ensures kept { OnErr result (self.new.keys ≡ self.old.keys) }
         ensures writes { Writes puts.now drops.now (is_ok result) self.old.reader.place self.new.reader.place }

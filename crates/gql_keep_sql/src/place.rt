@@ -1,3 +1,5 @@
+//! Where the records of a store are: in a file, in memory, or nowhere yet.
+
 ghost use Rattle.std.specs.Prelude.{◌≡◌, Some, None, IfOk, IsTrue, is_ok};
 ghost use Rattle.std.specs.Option.{option_copied};
 ghost use Rattle.gql_keep_sql.specs.Fetched.{IsSelected, Each};

@@ -1,3 +1,5 @@
+//! That a store keeps its records from one keeper to the next, and that records are found in whatever order they are read.
+
 ghost use Rattle.std.specs.Prelude.{◌≡◌, IfOk};
 
 use crate::SqlKeeper;

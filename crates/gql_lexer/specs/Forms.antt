@@ -63,9 +63,11 @@ abbrev pub dollar_shape : Shape → Shape
 dollar_shape Bad = Bad
 dollar_shape _ = Dollar
 
+-- the form behind a `$`, and the `$` with it
 abbrev pub with_dollar : Front → Front
 with_dollar f = form (dollar_shape f.shape) (f.size + 1)
 
+-- a parameter: a `$`, and a plain or a delimited name right behind it
 abbrev pub dollar : List ℕ → Option Front
 dollar bs = if begins (codes "$") bs then option_map with_dollar (option_or (plain (drop 1 bs)) (ticked (drop 1 bs))) else None
 
@@ -93,6 +95,7 @@ abbrev pub longer : Option Front → Front → Front
 longer None g = g
 longer (Some f) g = if nat_lt f.size g.size then g else f
 
+-- the longest of the forms that are there and one more; the first where some are equally long
 abbrev pub longest : List (Option Front) → Front → Front
 longest [] g = g
 longest (f ∷ fs) g = longer f (longest fs g)

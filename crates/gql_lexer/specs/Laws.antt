@@ -58,6 +58,7 @@ abbrev pub EachIsWhole : List Piece → Type 0
 EachIsWhole [] = ⊤
 EachIsWhole (p ∷ ps) = (pieces_of p.bytes ≡ with_bytes p.bytes []) × EachIsWhole ps
 
+-- the same of all pieces of the bytes
 abbrev pub PiecesAreWhole : List ℕ → Type 0
 PiecesAreWhole bs = EachIsWhole (pieces_of bs)
 

@@ -15,6 +15,7 @@ abbrev pub word_or_name : Option ℕ → List ℕ → Lexeme
 word_or_name (Some place) text = Word place text
 word_or_name None text = Name text
 
+-- the lexeme of a plain name: the reserved word that it is, or else the name
 abbrev pub name_or_word : List ℕ → Lexeme
 name_or_word text = word_or_name (reserved_place text) text
 
@@ -27,6 +28,7 @@ abbrev pub not_empty : List ℕ → Option (List ℕ)
 not_empty [] = None
 not_empty (b ∷ bs) = Some (b ∷ bs)
 
+-- a text that is there and not empty
 abbrev pub some_text : Option (List ℕ) → Option (List ℕ)
 some_text None = None
 some_text (Some text) = not_empty text

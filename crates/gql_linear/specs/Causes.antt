@@ -2,8 +2,8 @@
 use Rattle.gql_ast.specs.declared.refusal.Refusal.TheVariants as refusal
 use Rattle.gql_eval.specs.declared.error.EvalError.{EvalError}
 use Rattle.gql_eval.specs.declared.error.EvalError.TheVariants as error
-use Rattle.gql_norm.specs.declared.matcher.MatchFault.{MatchFault}
-use Rattle.gql_norm.specs.declared.matcher.MatchFault.TheVariants as match
+use Rattle.gql_norm.specs.declared.match_fault.MatchFault.{MatchFault}
+use Rattle.gql_norm.specs.declared.match_fault.MatchFault.TheVariants as match
 use Rattle.gql_change.specs.declared.fault.ChangeFault.{ChangeFault}
 use Rattle.gql_change.specs.declared.fault.ChangeFault.TheVariants as change
 use Rattle.gql_linear.specs.declared.answer.RunFault.{RunFault}

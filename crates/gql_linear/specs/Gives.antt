@@ -3,8 +3,8 @@ use Rattle.std.specs.Prelude.{Result, Ok, Err}
 use Rattle.gql_ast.specs.declared.fault.DataFault.{DataFault}
 use Rattle.gql_ast.specs.declared.refusal.Refusal.{Refusal}
 use Rattle.gql_eval.specs.RowLists.{RowList}
-use Rattle.gql_norm.specs.declared.matcher.MatchFault.{MatchFault}
-use Rattle.gql_norm.specs.declared.matcher.MatchFault.TheVariants as match_fault
+use Rattle.gql_norm.specs.declared.match_fault.MatchFault.{MatchFault}
+use Rattle.gql_norm.specs.declared.match_fault.MatchFault.TheVariants as match_fault
 use Rattle.gql_linear.specs.declared.answer.RunFault.{RunFault}
 use Rattle.gql_linear.specs.declared.answer.RunFault.TheVariants as fault
 

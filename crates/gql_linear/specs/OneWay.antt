@@ -15,6 +15,7 @@ abbrev pub ClauseHasNoChoice : Clause → Type 0
 ClauseHasNoChoice (clause.Match m) = Each HasNoChoice (normal_form m.pattern).paths
 ClauseHasNoChoice _ = Unit {0}
 
+-- the same of each clause of a query
 abbrev pub QueryHasNoChoice : Query → Type 0
 QueryHasNoChoice q = Each ClauseHasNoChoice q.clauses
 

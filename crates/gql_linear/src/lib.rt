@@ -1,7 +1,7 @@
 //! Linear queries: the clauses of a query act one after the other over a table of rows.
 //!
 //! `run_query` answers what the relation `QueryMayRun` of `specs/QueryRun.antt` admits of a query over a graph and parameters: a
-//! table and the graph behind it, or a first refusal. MATCH stands here, by whatever matcher of gql_norm it is given; the clauses
+//! table and the graph behind it, or a first refusal. MATCH stands here, by whatever matcher of gql_starts it is given; the clauses
 //! over tables are those of `gql_table`, and those that change data those of `gql_change`.
 #![tactic(auto)]
 

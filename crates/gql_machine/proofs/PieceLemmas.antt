@@ -1,7 +1,6 @@
 -- One piece: from what its statement came to, over its commit point, to one step of the session machine.
-use Rattle.std.proofs.Common.{◌≡◌, ◌≢◌, ℕ, ◌-◌, ◌≤◌, Bool, true, false, ◌||◌, List, [], ◌∷◌, Option, Some, None, Result, Ok, Err, refl, ap, sym, ◌∙◌, inl, inr, append-nil, arith, subst}
-use Rattle.std.specs.Prelude.{not, ◌&&◌, is_some, unwrap_or, IfOk, OnOk, if◌then◌else◌}
-use Rattle.gql_ports.specs.Causes.{Rose}
+use Rattle.std.proofs.Common.{◌≡◌, ◌≢◌, ℕ, ◌-◌, Bool, true, false, ◌||◌, List, [], ◌∷◌, Option, Some, None, Result, Ok, Err, refl, ap, sym, ◌∙◌, inl, inr, append-nil, arith, subst}
+use Rattle.std.specs.Prelude.{◌+◌, ◌^◌, min, not, ◌&&◌, is_some, unwrap_or, IfOk, OnOk, if◌then◌else◌}
 use Rattle.gql_ast.specs.declared.refusal.Outcome.{Outcome}
 use Rattle.gql_ast.specs.declared.refusal.Outcome.TheVariants as outcome
 use Rattle.gql_ast.specs.declared.refusal.Refusal.{Refusal}
@@ -16,7 +15,7 @@ use Rattle.gql_machine.specs.Reading.{Reading, ReadsAs, blank, bad, deep, unread
 use Rattle.gql_machine.specs.SessionState.{SessionState, with_open}
 use Rattle.gql_machine.specs.StatementRun.{StatementEnd, StatementMayRun}
 use Rattle.gql_machine.specs.SessionRun.{is_commit_point, Settles, MayAnswer, Step}
-use Rattle.gql_machine.specs.Machinery.Meaning.{ended}
+use Rattle.gql_machine.specs.Machinery.Meaning.{statement_end}
 use Rattle.gql_machine.specs.Machinery.CommitPoints.{before_commit, Ends, MayLeave, LeavesRefused, Answers, CameTo}
 use Rattle.gql_machine.specs.declared.ended.Ended.{Ended}
 use Rattle.gql_machine.proofs.NotStoreLemmas.{not_by_store}
@@ -25,8 +24,8 @@ use Rattle.gql_machine.proofs.NotStoreLemmas.{not_by_store}
 
 -- both are those of the end
 pub whole_end : {E : Type 0} (end : StatementEnd) (after : SessionState) (r : Result Outcome E) → IfOk r (λ made. made ≡ end.outcome) → OnOk r (after ≡ end.after)
-    → IfOk r (λ made. ended made after ≡ end)
-whole_end end after (Ok made) p q = λ i. ended (p i) (q i)
+    → IfOk r (λ made. statement_end made after ≡ end)
+whole_end end after (Ok made) p q = λ i. statement_end (p i) (q i)
 whole_end end after (Err e) p q = tt
 
 -- where no transaction is open, that it has ended changes nothing
@@ -39,9 +38,9 @@ open_none true false after h = go after.access refl h
     go None e h = ap (λ o. with_open after o) (sym e)
     go (Some m) e h = absurd (let no : true ≡ false = h in cc)
 
-pub ends_here : (May : StatementEnd → Type 0) (made : Ended) (o : Outcome) (after : SessionState) → May (ended o after) → made.outcome ≡ o
+pub ends_here : (May : StatementEnd → Type 0) (made : Ended) (o : Outcome) (after : SessionState) → May (statement_end o after) → made.outcome ≡ o
     → made.commits ≡ (not (is_refusal o) && not (is_some after.access)) → Ends May made after
-ends_here May made o after may p q = record { end = ended o after; may = may; outcome = p; commits = q; behind = open_none made.commits (is_refusal o) after q }
+ends_here May made o after may p q = record { end = statement_end o after; may = may; outcome = p; commits = q; behind = open_none made.commits (is_refusal o) after q }
 
 -- how a piece reads, and what it came to
 pub answered : {E : Type 0} (before after : SessionState) (piece : List ℕ) (x : Reading) (r : Result (Option Ended) E) → before.is_closed ≡ false → ReadsAs piece x
@@ -51,17 +50,17 @@ answered before after piece x (Err e) goes_on reads leaves = tt
 
 -- The store as the cause
 
-rose_none : (before now : ℕ) → before ≤ now → RoseBy 0 before now
-rose_none before now h = omega arith
+rose_none : (before now : ℕ) → now ≡ before → RoseBy 0 before now
+rose_none before now h = (omega (arith, h), omega (arith, h))
 
-rose_once : (before now : ℕ) → Rose before now → RoseBy 1 before now
-rose_once before now h = h
+rose_once : (before now : ℕ) → now ≡ min (before + 1) (2 ^ 64 - 1) → RoseBy 1 before now
+rose_once before now h = (omega (arith, h), omega (arith, h))
 
 not_counted : (o : Outcome) → is_store_refusal o ≡ false → store_refusals (o ∷ []) ≡ 0
 not_counted o h = ap (λ b. if b then 1 else 0) h
 
-not_store : (o : Outcome) (before now : ℕ) → is_store_refusal o ≡ false → before ≤ now → RoseBy (store_refusals (o ∷ [])) before now
-not_store o before now h later = let P : ℕ → Type 0 = λ n. RoseBy n before now in subst P (sym (not_counted o h)) (rose_none before now later)
+not_store : (o : Outcome) (before now : ℕ) → is_store_refusal o ≡ false → now ≡ before → RoseBy (store_refusals (o ∷ [])) before now
+not_store o before now h same = let P : ℕ → Type 0 = λ n. RoseBy n before now in subst P (sym (not_counted o h)) (rose_none before now same)
 
 or_false : (b : Bool) → (b || false) ≡ b
 or_false true = refl
@@ -101,7 +100,7 @@ module _ (before after : SessionState) (piece : List ℕ) where
     step = record { goes_on = a.goes_on; reading = a.reading; reads = a.reads; answers = blank_leaves a.reading a.leaves };
     written = refl;
     is_refused = refl;
-    store = rose_none faults faults (omega arith);
+    store = rose_none faults faults refl;
   }
 
 -- what a piece came to without a commit point
@@ -187,7 +186,7 @@ pub ran_plain : (before after : SessionState) (piece text : List ℕ) (e : Ended
     → RanPiece before piece (is_refusal e.outcome) text faults faults after
 ran_plain before after piece text e faults a stays written =
     let p = plain before after piece a.goes_on a.reading e a.reads stays a.leaves in
-    one_outcome before after piece e.outcome text (is_refusal e.outcome) faults faults p.step written refl (not_store e.outcome faults faults p.not_store (omega arith))
+    one_outcome before after piece e.outcome text (is_refusal e.outcome) faults faults p.step written refl (not_store e.outcome faults faults p.not_store refl)
 
 -- the outcome at a commit point is no refusal
 answered_at : (o : Outcome) (opened : Bool) → (not (is_refusal o) && not opened) ≡ true → is_refusal o ≡ false

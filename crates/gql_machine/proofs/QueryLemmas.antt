@@ -12,7 +12,7 @@ use Rattle.gql_linear.specs.declared.answer.Answer.{Answer}
 use Rattle.gql_txn.specs.TxnData.{misfit_in}
 use Rattle.gql_machine.specs.SessionState.{SessionState, graph_or_empty, statement_graph}
 use Rattle.gql_machine.specs.StatementRun.{StatementEnd, outcome_of_table, checked_end, QueryMayEnd}
-use Rattle.gql_machine.specs.Machinery.Meaning.{ended}
+use Rattle.gql_machine.specs.Machinery.Meaning.{statement_end}
 use Rattle.gql_machine.specs.Machinery.QueryEnds.{put_end}
 
 put_checked : (s : SessionState) (q : Query) (t : Working) (m : Option Elem) → put_end s (answer_table q t) t.graph m ≡ checked_end s q t m
@@ -24,8 +24,8 @@ if_changes b d e h = rw h refl
 
 -- the graph behind a query was put in the place of the one before
 pub put_ends : {F : Type 0} (s after : SessionState) (q : Query) (a : Answer) (c : CatalogData) (g before : PropertyGraph) (r : Result Outcome F) → changes_data q ≡ true → c ≡ s.catalog → before ≡ graph_or_empty (graph_of c s.graph)
-    → Runs q (Ok a) g (QueryMayRun before s.parameters q) → IfOk r (λ made. ended made after ≡ put_end s a.table g (misfit_in s.catalog s.graph g))
-    → IfOk r (λ made. QueryMayEnd s q (ended made after))
+    → Runs q (Ok a) g (QueryMayRun before s.parameters q) → IfOk r (λ made. statement_end made after ≡ put_end s a.table g (misfit_in s.catalog s.graph g))
+    → IfOk r (λ made. QueryMayEnd s q (statement_end made after))
 put_ends s after q a c g before (Ok made) changes same over runs h =
     let t : Working = runs.0 in
     let here : before ≡ statement_graph s = over ∙ ap (λ k. graph_or_empty (graph_of k s.graph)) same in

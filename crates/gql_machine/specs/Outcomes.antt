@@ -6,6 +6,7 @@ use Rattle.gql_ast.specs.declared.refusal.Outcome.TheVariants as outcome
 use Rattle.gql_ast.specs.declared.refusal.Refusal.TheVariants as refusal
 use Rattle.gql_text.specs.OutcomeText.{outcome_text}
 
+-- a refusal, whatever its code; `ok` and a table are none
 abbrev pub is_refusal : Outcome → Bool
 is_refusal outcome.Done = false
 is_refusal (outcome.Table t) = false

@@ -8,7 +8,7 @@ use Rattle.gql_machine.specs.SessionRun.{Step}
 use Rattle.gql_machine.specs.SessionState.{SessionState}
 
 -- From the start the piece was one step, which leads to the end: whether it was refused, its text, and the faults of the store before
--- and behind it, which rose where the store is told as the cause.
+-- and behind it, which rose by as many as the store is told as the cause.
 pub record RanPiece (start : SessionState) (piece : List ℕ) (refused : Bool) (text : List ℕ) (faults_before faults_behind : ℕ) (end : SessionState) : Type 0 where
   pub made : List Outcome
   pub step : Step start piece made end

@@ -6,6 +6,7 @@ use Rattle.gql_ast.specs.declared.statement.Statement.{Statement}
 use Rattle.gql_exprs.specs.Depth.{too_deep}
 use Rattle.gql_statements.specs.StatementGrammar.{Derives}
 
+-- how a piece reads
 pub data Reading : Type 0 where
   -- there are no lexemes
   blank : Reading

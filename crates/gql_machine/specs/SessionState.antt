@@ -28,15 +28,19 @@ home = codes "home"
 abbrev pub starting : CatalogData → SessionState
 starting c = record { catalog = c; kept = c; access = None; graph = home; parameters = []; is_closed = false }
 
+-- the state with other parameters
 abbrev pub with_parameters : SessionState → ParameterList → SessionState
 with_parameters s ps = record s { parameters = ps }
 
+-- with another catalog for statements to see; the kept one stays
 abbrev pub with_catalog : SessionState → CatalogData → SessionState
 with_catalog s c = record s { catalog = c }
 
+-- with this transaction open, or none
 abbrev pub with_open : SessionState → Option AccessMode → SessionState
 with_open s t = record s { access = t }
 
+-- with another current graph, by its name
 abbrev pub with_current : SessionState → List ℕ → SessionState
 with_current s name = record s { graph = name }
 
@@ -48,6 +52,7 @@ with_graph s g = with_catalog s (replaced s.graph g s.catalog)
 abbrev pub rolled_back : SessionState → SessionState
 rolled_back s = record s { catalog = s.kept; access = None }
 
+-- behind SESSION CLOSE: an open transaction is rolled back
 abbrev pub closed : SessionState → SessionState
 closed s = record (rolled_back s) { is_closed = true }
 

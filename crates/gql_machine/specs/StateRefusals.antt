@@ -42,12 +42,14 @@ missing_kind c (kind.Typed name) = missing_type c name
 abbrev pub unless : Bool → Option Refusal → Option Refusal
 unless lenient r = if lenient then None else r
 
+-- DROP needs the graph or type that it names, unless IF EXISTS stands there; a new graph needs its type, also with IF NOT EXISTS
 abbrev pub missing_in_catalog : CatalogData → CatalogStatement → Option Refusal
 missing_in_catalog c (catalog.CreateGraph lenient name kind) = missing_kind c kind
 missing_in_catalog c (catalog.DropGraph lenient name) = unless lenient (missing_graph c name)
 missing_in_catalog c (catalog.CreateType lenient name body) = None
 missing_in_catalog c (catalog.DropType lenient name) = unless lenient (missing_type c name)
 
+-- SESSION SET GRAPH needs the graph
 abbrev pub missing_in_session : CatalogData → SessionStatement → Option Refusal
 missing_in_session c (session.SetGraph name) = missing_graph c name
 missing_in_session c _ = None
@@ -81,12 +83,14 @@ taken_in_catalog c (catalog.DropGraph lenient name) = None
 taken_in_catalog c (catalog.CreateType lenient name body) = taken_if lenient name (type_in c name)
 taken_in_catalog c (catalog.DropType lenient name) = option_map refusal.Exists (graph_of_type c name)
 
+-- only a statement about graphs and graph types can meet one
 abbrev pub taken_refusal : SessionState → Statement → Option Refusal
 taken_refusal s (statement.Catalog t) = taken_in_catalog s.catalog t
 taken_refusal s _ = None
 
 -- ---- E17 TRANSACTION
 
+-- a transaction is open, and it is READ ONLY
 abbrev pub is_read_only : Option AccessMode → Bool
 is_read_only (Some mode.ReadOnly) = true
 is_read_only _ = false
@@ -100,5 +104,6 @@ is_out_of_place access (statement.Transaction transaction.Commit) = not (is_some
 is_out_of_place access (statement.Transaction transaction.Rollback) = not (is_some access)
 is_out_of_place access (statement.Catalog t) = is_read_only access
 
+-- E17 is the refusal of what is out of place
 abbrev pub transaction_refusal : SessionState → Statement → Option Refusal
 transaction_refusal s t = if is_out_of_place s.access t then Some refusal.Transaction else None

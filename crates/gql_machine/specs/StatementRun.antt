@@ -39,6 +39,7 @@ use Rattle.gql_type.specs.BodyMeaning.{graph_type_of}
 use Rattle.gql_machine.specs.SessionState.{SessionState, with_parameters, with_catalog, with_open, with_current, with_graph, rolled_back, closed, reset, set_parameter, statement_graph}
 use Rattle.gql_machine.specs.StateRefusals.{missing_refusal, taken_refusal, transaction_refusal}
 
+-- the end of a statement: its outcome, and the state behind it
 pub record StatementEnd : Type 0 where
   pub outcome : Outcome
   pub after : SessionState
@@ -47,6 +48,7 @@ pub record StatementEnd : Type 0 where
 abbrev pub refused_with : SessionState → Refusal → StatementEnd
 refused_with before r = record { outcome = outcome.Refused r; after = before }
 
+-- a statement that is answered by `ok`, with the state behind it
 abbrev pub done_with : SessionState → StatementEnd
 done_with after = record { outcome = outcome.Done; after = after }
 
@@ -133,6 +135,7 @@ first_refusal before s =
     (option_or (taken_refusal before s)
     (option_or (whole_refusal before.parameters s) (transaction_refusal before s)))))
 
+-- a statement with a first static refusal ends in it, and one without is executed
 abbrev pub RefusedOrExecuted : SessionState → Statement → Option Refusal → StatementEnd → Type 0
 RefusedOrExecuted before s (Some r) end = end ≡ refused_with before r
 RefusedOrExecuted before s None end = MayExecute before s end

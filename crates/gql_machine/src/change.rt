@@ -2,7 +2,7 @@
 ghost use Rattle.std.specs.Prelude.{◌≡◌, IfOk};
 ghost use Rattle.gql_txn.specs.TxnData.{misfit_in};
 ghost use Rattle.gql_machine.specs.StatementRun.{outcome_of_table};
-ghost use Rattle.gql_machine.specs.Machinery.Meaning.{session_state, ended};
+ghost use Rattle.gql_machine.specs.Machinery.Meaning.{session_state, statement_end};
 ghost use Rattle.gql_machine.specs.Machinery.QueryEnds.{put_end};
 
 use crate::state::Session;
@@ -19,7 +19,7 @@ pub fn put_graph(
     graph: Graph,
     table: Option<Table>,
 ) -> Result<Outcome, OutOfMemory>
-    ensures { IfOk result (λ made. ended made (session_state session.new) ≡ put_end (session_state session.old) table graph.graph (misfit_in session.old.txn.catalog session.old.graph graph.graph)) }
+    ensures { IfOk result (λ made. statement_end made (session_state session.new) ≡ put_end (session_state session.old) table graph.graph (misfit_in session.old.txn.catalog session.old.graph graph.graph)) }
 {
     match session
         .txn

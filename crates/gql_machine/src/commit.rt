@@ -1,5 +1,5 @@
 //! A commit point: what was changed is kept, or the store refuses.
-ghost use Rattle.std.specs.Prelude.{◌≤◌, IfOk, MatchResult};
+ghost use Rattle.std.specs.Prelude.{◌≤◌, ◌+◌, IfOk, MatchResult};
 ghost use Rattle.gql_txn.specs.Keeps.{Keeps, IsSameStore};
 ghost use Rattle.gql_machine.specs.Machinery.Meaning.{session_state};
 ghost use Rattle.gql_machine.specs.Machinery.CommitPoints.{CameTo};
@@ -24,6 +24,7 @@ pub fn keep_changes<K: Keeper>(
     ensures kept { Keeps (K.held keeper.old) session.old.txn.kept → MatchResult result (λ _. Keeps (K.held keeper.new) session.new.txn.kept) (λ _. Keeps (K.held keeper.new) session.old.txn.kept) }
     ensures same { IsSameStore (K.held keeper.old) (K.held keeper.new) }
     ensures later { K.faults keeper.old ≤ K.faults keeper.new }
+    ensures once { K.faults keeper.new ≤ K.faults keeper.old + 1 }
 {
     match session.txn.commit(alloc, keeper) {
         Ok(()) => Ok(false),

@@ -12,7 +12,7 @@ mod commit;
 mod current;
 mod ended;
 mod exists;
-pub mod laws;
+mod laws;
 mod missing;
 mod names;
 mod out_of_place;
@@ -28,6 +28,10 @@ mod text;
 mod tools;
 mod transaction_statement;
 
+pub use laws::{
+    a_piece_reads_in_one_way, a_session_begins_typed, an_unopened_state_is_kept,
+    pieces_run_in_one_way, typed_graphs_fit,
+};
 pub use piece::run_piece;
 pub use state::Session;
 pub use tools::Tools;

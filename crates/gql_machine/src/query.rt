@@ -6,7 +6,7 @@ ghost use Rattle.gql_linear.specs.Runs.{Runs};
 ghost use Rattle.gql_linear.specs.SoundQuery.{MatchesAreSound};
 ghost use Rattle.gql_machine.specs.SessionState.{graph_or_empty};
 ghost use Rattle.gql_machine.specs.StatementRun.{outcome_of_table, QueryMayEnd};
-ghost use Rattle.gql_machine.specs.Machinery.Meaning.{session_state, ended};
+ghost use Rattle.gql_machine.specs.Machinery.Meaning.{session_state, statement_end};
 ghost use Rattle.gql_machine.specs.Machinery.QueryEnds.{ComesTo};
 
 use crate::change::{outcome_of_table, put_graph};
@@ -27,7 +27,7 @@ pub fn answer_query<M: Matcher<Graph>>(
     query: &Query,
 ) -> Result<Outcome, OutOfMemory>
     requires { MatchesAreSound session.old.parameters [] query.now.clauses }
-    ensures { IfOk result (λ made. QueryMayEnd (session_state session.old) query.now (ended made (session_state session.new))) }
+    ensures { IfOk result (λ made. QueryMayEnd (session_state session.old) query.now (statement_end made (session_state session.new))) }
 {
     if changes_data(query) {
         change_graph(tools, session, query)
@@ -71,7 +71,7 @@ fn change_graph<M: Matcher<Graph>>(
 ) -> Result<Outcome, OutOfMemory>
     requires sound { MatchesAreSound session.old.parameters [] query.now.clauses }
     requires changes { changes_data query.now ≡ true }
-    ensures { IfOk result (λ made. QueryMayEnd (session_state session.old) query.now (ended made (session_state session.new))) }
+    ensures { IfOk result (λ made. QueryMayEnd (session_state session.old) query.now (statement_end made (session_state session.new))) }
 {
     let mut graph = copy_statement_graph(tools.alloc, session.txn.catalog(), &session.graph)?;
     match run_on(tools, &mut graph, &session.parameters, query) {

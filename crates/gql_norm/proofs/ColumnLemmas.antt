@@ -8,13 +8,12 @@ use Rattle.gql_values3.specs.declared.table.ColumnKind.{ColumnKind}
 use Rattle.gql_values3.specs.declared.table.ColumnKind.TheVariants as kind
 use Rattle.gql_ast.specs.ClauseColumns.{ColumnList, is_column}
 use Rattle.gql_norm.specs.NormalPattern.{Part, Node, Edge, Concat, Union, Alt, Quant, Opt, Scope, Sides, NoSide, Side, NormalPath, in_a_row, side_by_side, sides_of}
-use Rattle.gql_norm.specs.NormalData.{part_data, path_data}
-use Rattle.gql_norm.specs.declared.part.Part.{Part as CodePart}
+use Rattle.gql_norm.specs.NormalData.{path_data}
 use Rattle.gql_norm.specs.declared.path.NormalPath.{NormalPath as CodePath}
 use Rattle.gql_norm.specs.Places.{size, size_all, is_inside}
 use Rattle.gql_norm.specs.Declaration.{Declared, visible, visible_sides, declaration, declarations}
 use Rattle.gql_norm.specs.NewColumns.{of_degree, degree_in_paths, columns_by, path_name_column, new_among}
-use Rattle.gql_norm.specs.Machinery.ColumnGrowth.{with_column, with_columns, declared_variable, declared_in, declared_in_sides, declared_in_all, by_degrees, with_declared}
+use Rattle.gql_norm.specs.Machinery.ColumnGrowth.{with_column, with_columns, declared_variable, declared_in, declared_in_sides, declared_in_all, by_degrees}
 
 -- those before, and then the new ones
 new_one : (columns : ColumnList) (c : List ℕ × ColumnKind) (cs : ColumnList) (b : Bool)
@@ -31,11 +30,6 @@ with_columns_new columns (c ∷ cs) = new_one columns c cs (is_column columns c.
 pub with_columns_both : (columns xs ys : ColumnList) → with_columns columns (xs ++ ys) ≡ with_columns (with_columns columns xs) ys
 with_columns_both columns [] ys = refl
 with_columns_both columns (x ∷ xs) ys = with_columns_both (with_column columns x) xs ys
-
-pub with_declared_both : (paths : List NormalPath) (columns xs ys : ColumnList) → with_declared paths columns (xs ++ ys) ≡ with_declared paths (with_declared paths columns xs) ys
-with_declared_both paths columns xs ys =
-    ap (λ cs. with_columns columns cs) (map-append (λ (c : List ℕ × ColumnKind). (c.0, of_degree (degree_in_paths paths c.0) c.1)) xs ys)
-    ∙ with_columns_both columns (by_degrees paths xs) (by_degrees paths ys)
 
 -- parts in a row, beside each other, and told
 pub declared_in_row : (p : Part) (ps : List Part) → declared_in (in_a_row p ps) ≡ declared_in_all (p ∷ ps)
@@ -104,25 +98,6 @@ columns_of_path paths p =
     ap (λ cs. path_name_column p.name ++ cs)
     (map_twice (λ (c : List ℕ × ColumnKind). (c.0, of_degree (degree_in_paths paths c.0) c.1)) (declarations p.body)
     ∙ ap (λ cs. by_degrees paths cs) (all_seen p.body 0 [] (0 + size p.body) (omega arith)))
-
-pub with_path : (paths : List NormalPath) (p : NormalPath) (columns : ColumnList)
-    → with_declared paths (with_columns columns (path_name_column p.name)) (declared_in p.body) ≡ with_columns columns (columns_by (degree_in_paths paths) p)
-with_path paths p columns =
-    sym (with_columns_both columns (path_name_column p.name) (by_degrees paths (declared_in p.body)))
-    ∙ ap (λ cs. with_columns columns cs) (sym (columns_of_path paths p))
-
--- a part more, and a path pattern more
-pub added_part : (paths : List NormalPath) (columns behind : ColumnList) (parts : List CodePart) (i : ℕ) (p : CodePart) → i < length parts → p ≡ get_or parts i p
-    → behind ≡ with_declared paths columns (declared_in (part_data p))
-    → with_declared paths behind (declared_in_all (map part_data (drop (i + 1) parts))) ≡ with_declared paths columns (declared_in_all (map part_data (drop i parts)))
-added_part paths columns behind parts i p h q e =
-    ap (λ those. with_declared paths those (declared_in_all (map part_data (drop (i + 1) parts)))) e
-    ∙ sym (with_declared_both paths columns (declared_in (part_data p)) (declared_in_all (map part_data (drop (i + 1) parts))))
-    ∙ ap (λ cs. with_declared paths columns cs) (sym (step parts i p h q))
-  where
-    step : (parts : List CodePart) (i : ℕ) (p : CodePart) → i < length parts → p ≡ get_or parts i p
-        → declared_in_all (map part_data (drop i parts)) ≡ declared_in (part_data p) ++ declared_in_all (map part_data (drop (i + 1) parts))
-    step parts i p h q = grind (arith, common_steps)
 
 abbrev pub paths_from : List NormalPath → List CodePath → ℕ → ColumnList
 paths_from all paths i = flat_map (columns_by (degree_in_paths all)) (map path_data (drop i paths))

@@ -40,4 +40,3 @@ pub mod GroupNames
 pub mod RowProperties
 pub mod CellKinds
 pub mod OneTable
-pub mod StartLemmas

@@ -12,6 +12,7 @@ wider a Group = Group
 wider Conditional b = Conditional
 wider Singleton b = b
 
+-- the same, where either part may not declare the name
 abbrev pub joint : Option Degree → Option Degree → Option Degree
 joint None b = b
 joint a None = a
@@ -25,6 +26,7 @@ beside a (Some Group) = Some Group
 beside (Some Singleton) (Some Singleton) = Some Singleton
 beside a b = Some Conditional
 
+-- the same of the sides of a `|+|`
 abbrev pub beside_all : List (Option Degree) → Option Degree
 beside_all [] = None
 beside_all (d ∷ []) = d
@@ -35,6 +37,7 @@ abbrev pub under_optional : Degree → Degree
 under_optional Singleton = Conditional
 under_optional d = d
 
+-- an element declares its own variable alone, as a singleton
 abbrev pub element_degree : Option (List ℕ) → List ℕ → Option Degree
 element_degree None x = None
 element_degree (Some y) x = if same_text x y then Some Singleton else None
@@ -55,6 +58,7 @@ abbrev mutual
   degrees_of NoSide x = []
   degrees_of (Side p ss) x = degree_of p x ∷ degrees_of ss x
 
+-- the name is declared, and has this degree
 abbrev pub is_singleton : Option Degree → Bool
 is_singleton (Some Singleton) = true
 is_singleton _ = false

@@ -45,6 +45,7 @@ declared_in_paths (p ∷ ps) a = all_declared p.body a ++ declared_in_paths ps (
 abbrev pub column_degree : ColumnKind → Degree
 column_degree k = if holds_group k then Group else Singleton
 
+-- the degree of the column of this name, if there is one
 abbrev pub degree_of_column : ColumnList → List ℕ → Option Degree
 degree_of_column columns x = option_map (λ (c : List ℕ × ColumnKind). column_degree c.1) (find (λ (c : List ℕ × ColumnKind). same_text x c.0) columns)
 
@@ -64,6 +65,7 @@ module _ (faulty : Degree → Degree → Bool) where
   spots_in_row x d p a = spot_in x d p a
 
   abbrev mutual
+    -- the names at fault that are declared in two parts of a concatenation, wherever it stands in a part that is entered at place a
     pub spots_in : Part → ℕ → List Spot
     spots_in (Node w) a = []
     spots_in (Edge d w) a = []
@@ -102,6 +104,7 @@ module _ (faulty : Degree → Degree → Bool) where
 abbrev pub earlier : Spot → Spot → Spot
 earlier s t = if nat_le s.0 t.0 then s else t
 
+-- the same of a list, if it has any
 abbrev pub earliest : List Spot → Option Spot
 earliest [] = None
 earliest (s ∷ ss) = Some (least s ss)
@@ -110,6 +113,7 @@ earliest (s ∷ ss) = Some (least s ss)
     least t [] = t
     least t (u ∷ us) = least (earlier t u) us
 
+-- the name that E10 refuses, and the name that E11 refuses, of a MATCH over these columns
 abbrev pub joined_group : ColumnList → NormalPattern → Option (List ℕ)
 joined_group columns p = option_map (λ (s : Spot). s.1) (earliest (spots_in_paths has_group p.paths 0 ++ spots_at_columns has_group columns p.paths))
 

@@ -13,6 +13,7 @@ use Rattle.gql_norm.specs.declared.path.Selector.TheVariants as selector
 use Rattle.gql_norm.specs.declared.path.NormalPath.{NormalPath as CodePath}
 use Rattle.gql_norm.specs.declared.path.NormalPattern.{NormalPattern as CodePattern}
 
+-- a predicate, and an element pattern with its predicates
 abbrev pub predicate_data : CodePredicate → Predicate
 predicate_data (predicate.PropertyIs p e) = PropertyIs p (tree_of e)
 predicate_data (predicate.Holds e) = Holds (tree_of e)
@@ -31,6 +32,7 @@ part_data (part.Quant b l n) = Quant b l n
 part_data (part.Opt b) = Opt b
 part_data (part.Scope m b c) = Scope m b (option_map tree_of c)
 
+-- a selector, a path pattern, and the pattern of a MATCH
 abbrev pub selector_data : CodeSelector → Selector
 selector_data (selector.Any k) = Any k
 selector_data (selector.Shortest k) = Shortest k

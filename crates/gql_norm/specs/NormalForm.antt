@@ -1,4 +1,4 @@
--- The normal form of a graph pattern as it was written (normalisation in Deutsch et al. 2022).
+-- The normal form of a graph pattern as it was written (normalisation).
 use Rattle.std.specs.Prelude.{ℕ, List, [], ◌∷◌, map, Option, Some, None, option_map, unwrap_or}
 use Rattle.gql_values3.specs.Integers.{value_of_digits}
 use Rattle.gql_ast.specs.Tree.{Tree}
@@ -22,6 +22,7 @@ predicates_of None = []
 predicates_of (Some (properties ps)) = map (λ (p : List ℕ × Tree). PropertyIs p.0 p.1) ps
 predicates_of (Some (holds e)) = Holds e ∷ []
 
+-- what stands between the brackets of a node or an edge
 abbrev pub element_pattern : FillerTree → ElementPattern
 element_pattern f = record { variable = f.variable; labels = f.labels; predicates = predicates_of f.condition }
 
@@ -74,6 +75,7 @@ selector_of (prefix.AnyShortest m) = Some (Shortest 1)
 selector_of (prefix.Shortest n m) = Some (Shortest (value_of_digits n))
 selector_of (prefix.ShortestGroups n m) = Some (Groups (number_or_one n))
 
+-- the mode that a prefix names, if it names one
 abbrev pub mode_of : Prefix → Option Mode
 mode_of (prefix.Mode m) = Some m
 mode_of (prefix.All m) = m
@@ -93,6 +95,7 @@ abbrev pub under_mode : Option Mode → Part → Part
 under_mode None p = p
 under_mode (Some m) p = Scope m p None
 
+-- a path pattern, whose prefix becomes a selector and a scope
 abbrev pub normal_path : PathPattern → NormalPath
 normal_path p = record {
   name = p.name;
@@ -100,5 +103,6 @@ normal_path p = record {
   body = under_mode (from_prefix mode_of p.prefix) (part_of (pattern_of p.expr));
 }
 
+-- the pattern of a MATCH: its path patterns, and its final WHERE
 abbrev pub normal_form : GraphPattern → NormalPattern
 normal_form g = record { paths = map normal_path g.paths; condition = option_map tree_of g.condition }

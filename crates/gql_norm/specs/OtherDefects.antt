@@ -25,13 +25,16 @@ abbrev pub columns_at : ColumnList → Part → PredicateSpot → ColumnList
 columns_at columns body q =
     columns ++ map (λ (d : Declared). (d.name, kind_of_reference (crossed body q.quants q.place d.name) d.kind)) (may_name body q.place)
 
+-- the predicates of a path pattern's body
 abbrev pub predicates_of_path : NormalPath → List PredicateSpot
 predicates_of_path p = predicates_in p.body 0 []
 
 module _ (columns : ColumnList) where
+  -- E15 in some predicate of a path pattern
   abbrev pub misused_in_path : NormalPath → Bool
   misused_in_path p = list_any (λ (q : PredicateSpot). list_any (misused (columns_at columns p.body q) elsewhere) q.trees) (predicates_of_path p)
 
+  -- E15 in some path pattern, or in the final WHERE, which may name all columns behind
   abbrev pub misused_in_match : NormalPattern → Bool
   misused_in_match p = list_any misused_in_path p.paths || list_any (misused (columns_after columns p) elsewhere) (trees_in p.condition)
 

@@ -15,18 +15,22 @@ pub record PredicateSpot : Type 0 where
   pub properties : List (List ℕ)
   pub trees : List Tree
 
+-- the expression that a predicate evaluates
 abbrev pub tree_in : Predicate → Tree
 tree_in (PropertyIs p e) = e
 tree_in (Holds e) = e
 
+-- the property that it names, if it stands in a map
 abbrev pub property_in : Predicate → List (List ℕ)
 property_in (PropertyIs p e) = p ∷ []
 property_in (Holds e) = []
 
+-- the expression of a condition, if there is one
 abbrev pub trees_in : Option Tree → List Tree
 trees_in None = []
 trees_in (Some e) = e ∷ []
 
+-- what acts at place a under these quantifiers: the predicates of an element, or the condition of a scope that closes
 abbrev pub predicates_of_element : ℕ → List ℕ → ElementPattern → PredicateSpot
 predicates_of_element a qs w = record { place = a; quants = qs; properties = flat_map property_in w.predicates; trees = map tree_in w.predicates }
 

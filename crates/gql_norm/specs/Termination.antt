@@ -73,6 +73,7 @@ unfoldable mutual
   unprotected_beside NoSide b safe = []
   unprotected_beside (Side p ss) b safe = unprotected p b safe ++ unprotected_beside ss (b + size p + 1) safe
 
+-- there is a number
 abbrev pub is_some_number : List ℕ → Bool
 is_some_number [] = false
 is_some_number (q ∷ qs) = true
@@ -85,6 +86,7 @@ is_unprotected p = is_some_number (unprotected p.body 0 false) && is_none p.sele
 abbrev pub open_references : Part → List (List ℕ)
 open_references body = flat_map (λ (q : PredicateSpot). filter (λ x. list_any (is_number_among (unprotected body 0 false)) (crossed body q.quants q.place x)) (names_of q)) (predicates_in body 0 [])
 
+-- of all path patterns of a MATCH: what E12 refuses, what E13 refuses, and the names at fault of E14
 abbrev pub empty_loop : NormalPattern → Bool
 empty_loop p = list_any (λ (q : NormalPath). has_empty_loop q.body) p.paths
 

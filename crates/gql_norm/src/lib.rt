@@ -12,8 +12,7 @@ mod element;
 mod element_forms;
 mod item;
 mod laws;
-mod matcher;
-mod new_columns;
+mod match_fault;
 mod normal_form;
 mod normal_parts;
 mod numbers;
@@ -27,6 +26,7 @@ mod starts;
 
 pub use copies::{copied_condition, copied_element, copied_labels, copied_name};
 pub use declaration::{Declarations, Declared, visible};
+pub use degree::Degree;
 pub use element::{ElementPattern, Predicate, Predicates};
 pub use item::Item;
 pub use laws::{
@@ -34,8 +34,7 @@ pub use laws::{
     cells_fit_columns, match_tables_are_one, match_tables_grow, members_are_paths,
     modes_admit_beginnings, row_order_has_no_duplicates, row_order_is_total, rows_fit_columns,
 };
-pub use matcher::{MatchFault, Matcher};
-pub use new_columns::columns_after;
+pub use match_fault::MatchFault;
 pub use normal_form::normal;
 pub use part::{Part, PartList, PartSub};
 pub use path::{NormalPath, NormalPaths, NormalPattern, Selector};

@@ -23,6 +23,7 @@ use Rattle.gql_parts.specs.PartWords.{is_colon}
 abbrev pub IsWhere : Expr → List Lexeme → List Lexeme → Type 0
 IsWhere e ts r = (a : List Lexeme) × Passes (is_word WHERE) ts a × IsValue e a r
 
+-- a name or a reserved word, ":", and the expression whose value it gets
 abbrev pub IsMapItem : MapItem → List Lexeme → List Lexeme → Type 0
 IsMapItem i ts r = (a : List Lexeme) × Begins any_name_in i.name ts a × (b : List Lexeme) × Passes (is_sign colon) a b × IsValue i.value b r
 
@@ -31,10 +32,12 @@ abbrev pub AreMapItems : List MapItem → List Lexeme → List Lexeme → Type 0
 AreMapItems [] ts r = ts ≡ r
 AreMapItems (i ∷ is) ts r = IsListOf IsMapItem (i ∷ is) ts r
 
+-- "{" and "}", and between them any number of map items, with commas between those
 abbrev pub IsMap : List MapItem → List Lexeme → List Lexeme → Type 0
 IsMap is ts r =
     (a : List Lexeme) × Passes (is_sign opening_brace) ts a × (b : List Lexeme) × AreMapItems is a b × Passes (is_sign closing_brace) b r
 
+-- the last part of a filler: a map, or WHERE and a predicate
 abbrev pub IsCondition : Condition → List Lexeme → List Lexeme → Type 0
 IsCondition (condition.Map is) ts r = IsMap is ts r
 IsCondition (condition.Where e) ts r = IsWhere e ts r
@@ -43,6 +46,7 @@ IsCondition (condition.Where e) ts r = IsWhere e ts r
 abbrev pub AsksLabels : LabelExpr → List Lexeme → List Lexeme → Type 0
 AsksLabels l ts r = (a : List Lexeme) × Passes is_colon ts a × IsLabels l a r
 
+-- what stands between the brackets of an element pattern: a variable, a label expression, and a map or WHERE, in this order, each of which may be missing
 abbrev pub IsFiller : Filler → List Lexeme → List Lexeme → Type 0
 IsFiller f ts r =
     (a : List Lexeme) × IsOptional (Begins name_in) f.variable ts a × (b : List Lexeme) × IsOptional AsksLabels f.labels a b

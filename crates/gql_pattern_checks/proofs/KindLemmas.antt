@@ -24,16 +24,16 @@ column_of_two xs ys x = list_any-append (λ (c : List ℕ × ColumnKind). same_t
 abbrev found : ColumnList → List ℕ → Option (List ℕ × ColumnKind)
 found columns x = find (λ (c : List ℕ × ColumnKind). same_text x c.0) columns
 
-abbrev is_group : Option (List ℕ × ColumnKind) → Bool
-is_group o = holds_group (unwrap_or (option_map (λ (c : List ℕ × ColumnKind). c.1) o) kind.Plain)
+abbrev is_found_group : Option (List ℕ × ColumnKind) → Bool
+is_found_group o = holds_group (unwrap_or (option_map (λ (c : List ℕ × ColumnKind). c.1) o) kind.Plain)
 
 -- of two lists, the first that has the name decides
 pub group_of_two : (xs ys : ColumnList) (x : List ℕ) → is_group_column (xs ++ ys) x ≡ (if is_column xs x then is_group_column xs x else is_group_column ys x)
 group_of_two xs ys x =
-    ap is_group (find-append (λ (c : List ℕ × ColumnKind). same_text x c.0) xs ys)
+    ap is_found_group (find-append (λ (c : List ℕ × ColumnKind). same_text x c.0) xs ys)
     ∙ by (found xs x) ∙ ap (λ b. if b then is_group_column xs x else is_group_column ys x) (known (found xs x) ∙ is_some-first_kind xs x)
   where
-    by : (o : Option (List ℕ × ColumnKind)) → is_group (option_or o (found ys x)) ≡ (if is_some o then is_group o else is_group_column ys x)
+    by : (o : Option (List ℕ × ColumnKind)) → is_found_group (option_or o (found ys x)) ≡ (if is_some o then is_found_group o else is_group_column ys x)
     by None = refl
     by (Some c) = refl
 
@@ -53,7 +53,7 @@ pub path_is_no_group : (ps : List (List ℕ)) (x : List ℕ) → is_group_column
 path_is_no_group [] x = refl
 path_is_no_group (p ∷ ps) x = by (same_text x p) (path_is_no_group ps x)
   where
-    by : (b : Bool) → is_group_column (map path_column ps) x ≡ false → is_group (cond b (Some (p, kind.Path)) (found (map path_column ps) x)) ≡ false
+    by : (b : Bool) → is_group_column (map path_column ps) x ≡ false → is_found_group (cond b (Some (p, kind.Path)) (found (map path_column ps) x)) ≡ false
     by true h = refl
     by false h = h
 
@@ -66,7 +66,7 @@ variable_is_group groups [] x = refl
 variable_is_group groups (v ∷ vs) x = by (same_text x v) refl (variable_is_group groups vs x)
   where
     by : (b : Bool) → same_text x v ≡ b → is_group_column (map (variable_column groups) vs) x ≡ (is_among vs x && is_among groups x)
-        → is_group (cond b (Some (variable_column groups v)) (found (map (variable_column groups) vs) x)) ≡ ((b || is_among vs x) && is_among groups x)
+        → is_found_group (cond b (Some (variable_column groups v)) (found (map (variable_column groups) vs) x)) ≡ ((b || is_among vs x) && is_among groups x)
     by true p h = group_kind (is_among groups v) ∙ ap (is_among groups) (sym ((bytes_eq-Decides x v).0 p))
     by false p h = h
 

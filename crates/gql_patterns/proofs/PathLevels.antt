@@ -29,7 +29,7 @@ use Rattle.gql_patterns.specs.declared.quantifier.Repetition.{Repetition}
 use Rattle.gql_patterns.specs.declared.quantifier.Repetition.TheVariants as repetition
 use Rattle.gql_patterns.specs.Machinery.QuantifierReaders.{repetition_of, repeat_by}
 use Rattle.gql_patterns.specs.Machinery.PrefixReaders.{part_mode_of}
-use Rattle.gql_patterns.specs.Machinery.PathReaders.{node_of, closed_part_of, part_of, in_parentheses_of, parenthesis_or_edge, primary_of, factor_of}
+use Rattle.gql_patterns.specs.Machinery.PathReaders.{node_pattern_of, closed_part_of, part_of, in_parentheses_of, parenthesis_or_edge, primary_of, factor_of}
 use Rattle.gql_patterns.proofs.SignSets.{among_apart, goes_stops}
 use Rattle.gql_patterns.proofs.EdgeLaws.{goes_edge, edge_sound, edge_found}
 use Rattle.gql_patterns.proofs.QuantifierLaws.{IsRepetition, begins_repetition, repetition_goes, repetition_sound, repetition_exact, repetition_shrinks, repetition_opens}
@@ -65,24 +65,24 @@ pub record Inner (n : ℕ) (f : Reader Pattern) : Type 0 where
 abbrev SomeNode : Pattern → List Lexeme → List Lexeme → Type 0
 SomeNode x ts r = (f : FillerTree) × (x ≡ node f) × IsNode f ts r
 
-node_sound : Sound SomeNode node_of
-unfolding node_of
+node_sound : Sound SomeNode node_pattern_of
+unfolding node_pattern_of
 node_sound ts x r e =
     bind_then (filler_of ts) _ (x, r) e (λ f p e.
     bind_then (after (is_sign closing) f.1) _ (x, r) e (λ a q e.
     finish (λ x r. SomeNode x ts r) (node (meaning.filler_of f.0)) a x r e
     (meaning.filler_of f.0, refl, (f.1, (f.0, refl, filler_sound ts f.0 f.1 p), after_passes (is_sign closing) f.1 a q))))
 
-node_exact : (f : FillerTree) (ts s : List Lexeme) → IsNode f ts s → node_of ts ≡ Some (node f, s)
-unfolding node_of
+node_exact : (f : FillerTree) (ts s : List Lexeme) → IsNode f ts s → node_pattern_of ts ≡ Some (node f, s)
+unfolding node_pattern_of
 node_exact f ts s h =
     rw (filler_exact h.1.0 ts h.0 s h.1.2 h.2, passes_after (is_sign closing) h.0 s h.2) (ap (λ (z : FillerTree). Some (node z, s)) h.1.1)
 
 -- what begins with a mode or a path pattern is no node
-no_node : (ts : List Lexeme) → Goes begins_part ts → node_of ts ≡ None
-no_node ts begins = go (node_of ts) refl
+no_node : (ts : List Lexeme) → Goes begins_part ts → node_pattern_of ts ≡ None
+no_node ts begins = go (node_pattern_of ts) refl
   where
-    go : (o : Option (Pattern × List Lexeme)) → node_of ts ≡ o → node_of ts ≡ None
+    go : (o : Option (Pattern × List Lexeme)) → node_pattern_of ts ≡ o → node_pattern_of ts ≡ None
     go None e = e
     go (Some x) e = let h = node_sound ts x.0 x.1 e in absurd (no_node_begins h.0 ts x.1 h.2 begins)
 
@@ -162,9 +162,9 @@ module _ (n : ℕ) (f : Reader Pattern) (inner : Inner n f) where
 
   in_parentheses_sound : Sound SomePart (in_parentheses_of f)
   unfolding in_parentheses_of either
-  in_parentheses_sound ts x r e = go (node_of ts) refl e
+  in_parentheses_sound ts x r e = go (node_pattern_of ts) refl e
     where
-      go : (o : Option (Pattern × List Lexeme)) → node_of ts ≡ o → chosen o (part_of f ts) ≡ Some (x, r) → SomePart x ts r
+      go : (o : Option (Pattern × List Lexeme)) → node_pattern_of ts ≡ o → chosen o (part_of f ts) ≡ Some (x, r) → SomePart x ts r
       go None p k = part_sound ts x r k
       go (Some y) p k = λ a opens.
           let h = node_sound ts x r (p ∙ k) in

@@ -16,7 +16,7 @@ use Rattle.gql_patterns.specs.EdgeGrammar.{empty_filler}
 use Rattle.gql_patterns.specs.Machinery.EdgeReaders.{direction_between, full_edge_of, short_edge_of, edge_of}
 use Rattle.gql_patterns.specs.Machinery.QuantifierReaders.{number_of, upper_of, bounds_of, quantifier_of, repetition_of}
 use Rattle.gql_patterns.specs.Machinery.PrefixReaders.{mode_of, part_mode_of}
-use Rattle.gql_patterns.specs.Machinery.PathReaders.{node_of, chain_at, closed_part_of, part_of, in_parentheses_of, primary_of, factor_of, term_of, sides_of, path_of, read_to, read_path}
+use Rattle.gql_patterns.specs.Machinery.PathReaders.{node_pattern_of, chain_at, closed_part_of, part_of, in_parentheses_of, primary_of, factor_of, term_of, sides_of, path_of, read_to, read_path}
 
 abbrev sign : ℕ → Lexeme
 sign place = lex.Sign place
@@ -34,12 +34,12 @@ node_x rest = sign symbol.opening ∷ name 120 ∷ sign symbol.closing ∷ rest
 
 -- `(x)` is a node
 a_node : read_path (node_x []) ≡ Some (node (named 120), [])
-unfolding read_path read_to path_of chain_at sides_of term_of factor_of primary_of in_parentheses_of part_of closed_part_of node_of edge_of full_edge_of short_edge_of repetition_of quantifier_of part_mode_of mode_of where_of filler_of variable_of filler_labels_of condition_of maybe either suffix many reading.sequence
+unfolding read_path read_to path_of chain_at sides_of term_of factor_of primary_of in_parentheses_of part_of closed_part_of node_pattern_of edge_of full_edge_of short_edge_of repetition_of quantifier_of part_mode_of mode_of where_of filler_of variable_of filler_labels_of condition_of maybe either suffix many reading.sequence
 a_node = refl
 
 -- `(TRAIL (x))` is a part
 a_part : read_path (sign symbol.opening ∷ lex.Word word.TRAIL [] ∷ node_x (sign symbol.closing ∷ [])) ≡ Some (paren (Some mode.Trail) (node (named 120)) None, [])
-unfolding read_path read_to path_of chain_at sides_of term_of factor_of primary_of in_parentheses_of part_of closed_part_of node_of edge_of full_edge_of short_edge_of repetition_of quantifier_of part_mode_of mode_of where_of filler_of variable_of filler_labels_of condition_of maybe either suffix many reading.sequence
+unfolding read_path read_to path_of chain_at sides_of term_of factor_of primary_of in_parentheses_of part_of closed_part_of node_pattern_of edge_of full_edge_of short_edge_of repetition_of quantifier_of part_mode_of mode_of where_of filler_of variable_of filler_labels_of condition_of maybe either suffix many reading.sequence
 a_part = refl
 
 -- of `(x)-[e]->{2,}|(x)|+|(x)` all up to `|+|` is read
@@ -55,12 +55,12 @@ a_chain :
           (more_patterns (node (named 120)) no_patterns),
       sign symbol.multiset_bar ∷ node_x [],
     )
-unfolding read_path read_to path_of chain_at sides_of term_of factor_of primary_of in_parentheses_of part_of closed_part_of node_of edge_of full_edge_of short_edge_of direction_between repetition_of quantifier_of bounds_of upper_of number_of part_mode_of mode_of where_of filler_of variable_of filler_labels_of condition_of maybe either suffix many reading.sequence
+unfolding read_path read_to path_of chain_at sides_of term_of factor_of primary_of in_parentheses_of part_of closed_part_of node_pattern_of edge_of full_edge_of short_edge_of direction_between repetition_of quantifier_of bounds_of upper_of number_of part_mode_of mode_of where_of filler_of variable_of filler_labels_of condition_of maybe either suffix many reading.sequence
 a_chain = refl
 
 -- of `<-[e]~` the short form is read
 a_short_form :
     read_path (sign symbol.left_arrow ∷ sign symbol.opening_bracket ∷ name 101 ∷ sign symbol.closing_bracket ∷ sign symbol.tilde ∷ [])
     ≡ Some (edge direction.Left empty_filler, sign symbol.opening_bracket ∷ name 101 ∷ sign symbol.closing_bracket ∷ sign symbol.tilde ∷ [])
-unfolding read_path read_to path_of chain_at sides_of term_of factor_of primary_of in_parentheses_of part_of closed_part_of node_of edge_of full_edge_of short_edge_of direction_between repetition_of quantifier_of part_mode_of mode_of where_of filler_of variable_of filler_labels_of condition_of maybe either suffix many reading.sequence
+unfolding read_path read_to path_of chain_at sides_of term_of factor_of primary_of in_parentheses_of part_of closed_part_of node_pattern_of edge_of full_edge_of short_edge_of direction_between repetition_of quantifier_of part_mode_of mode_of where_of filler_of variable_of filler_labels_of condition_of maybe either suffix many reading.sequence
 a_short_form = refl

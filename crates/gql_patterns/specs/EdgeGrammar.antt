@@ -25,13 +25,16 @@ IsFilling = Means filler_of IsFiller
 abbrev pub empty_filler : FillerTree
 empty_filler = record { variable = None; labels = None; condition = None }
 
+-- the full form: a filler in brackets, between the two symbols of its direction
 abbrev pub IsFullEdge : Direction → FillerTree → List Lexeme → List Lexeme → Type 0
 IsFullEdge d f ts r =
     (a : List Lexeme) × Passes (is_sign (symbol_before d)) ts a × (b : List Lexeme) × Passes (is_sign opening_bracket) a b
     × (c : List Lexeme) × IsFilling f b c × (e : List Lexeme) × Passes (is_sign closing_bracket) c e × Passes (is_sign (symbol_behind d)) e r
 
+-- the short form: the one symbol of its direction, and an empty filler
 abbrev pub IsShortEdge : Direction → FillerTree → List Lexeme → List Lexeme → Type 0
 IsShortEdge d f ts r = (f ≡ empty_filler) × Passes (is_sign (short_symbol d)) ts r
 
+-- an edge pattern of a direction, in its full or its short form
 abbrev pub IsEdge : Direction → FillerTree → List Lexeme → List Lexeme → Type 0
 IsEdge d f ts r = IsFullEdge d f ts r ⊎ IsShortEdge d f ts r

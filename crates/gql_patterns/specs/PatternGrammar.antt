@@ -24,6 +24,7 @@ IsPathName x ts r = (a : List Lexeme) × Begins name_in x ts a × Passes (is_sig
 abbrev pub IsPathExpr : PathExpr → List Lexeme → List Lexeme → Type 0
 IsPathExpr e ts r = IsPath (pattern_of e) ts r
 
+-- a path pattern expression, behind a name and "=" and behind a prefix, each of which may be missing
 abbrev pub IsPathPattern : PathPattern → List Lexeme → List Lexeme → Type 0
 IsPathPattern p ts r =
     (a : List Lexeme) × IsOptional IsPathName p.name ts a × (b : List Lexeme) × IsOptional IsPrefix p.prefix a b × IsPathExpr p.expr b r

@@ -24,6 +24,7 @@ AreBounds (quantifier.Between m n) ts r =
 abbrev pub IsBraced : Quantifier → List Lexeme → List Lexeme → Type 0
 IsBraced q ts r = (a : List Lexeme) × Passes (is_sign opening_brace) ts a × AreBounds q a r
 
+-- "*", "+", a number in braces, or two bounds in braces with a comma between them, each of which may be missing
 abbrev pub IsQuantifier : Quantifier → List Lexeme → List Lexeme → Type 0
 IsQuantifier quantifier.Star ts r = Passes (is_sign star) ts r
 IsQuantifier quantifier.Plus ts r = Passes (is_sign plus) ts r

@@ -1,4 +1,4 @@
-//! Edge patterns.
+//! Edge patterns in full and short form, and the direction that their symbols say.
 
 ghost use Rattle.std.specs.Prelude.{◌≡◌, ◌<◌, length, IfOk};
 ghost use Rattle.gql_front.specs.Tables.{entry};

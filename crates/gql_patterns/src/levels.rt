@@ -3,7 +3,7 @@
 ghost use Rattle.std.specs.Prelude.{◌≡◌, ◌<◌, ◌≤◌, length, IfOk};
 ghost use Rattle.gql_front.specs.Reads.{ReadsAs};
 ghost use Rattle.gql_ast.specs.PatternMeaning.{pattern_of};
-ghost use Rattle.gql_patterns.specs.Machinery.PathReaders.{node_of, closed_part_of, part_of, in_parentheses_of, primary_of, factor_of, factors_of, term_of, sides_of, read_path};
+ghost use Rattle.gql_patterns.specs.Machinery.PathReaders.{node_pattern_of, closed_part_of, part_of, in_parentheses_of, primary_of, factor_of, factors_of, term_of, sides_of, read_path};
 
 use crate::edge::edge;
 use crate::mode::part_mode;
@@ -131,9 +131,9 @@ fn in_parentheses<'a>(alloc: Global, rest: &'a [Lexeme]) -> ParseResult<'a, Path
 }
 
 /// A filler and the closing parenthesis.
-#[tactic(auto, unfolding(crate::specs::Machinery::PathReaders::node_of))]
+#[tactic(auto, unfolding(crate::specs::Machinery::PathReaders::node_pattern_of))]
 fn node<'a>(alloc: Global, rest: &'a [Lexeme]) -> ParseResult<'a, PathExpr>
-    ensures { ReadsAs pattern_of result rest.now node_of }
+    ensures { ReadsAs pattern_of result rest.now node_pattern_of }
 {
     let (filler, rest) = filler(alloc, rest)?;
     let rest = after_sign(CLOSING, rest)?;

@@ -1,10 +1,7 @@
 //! Graph patterns, read from lexemes.
 //!
-//! `parse_pattern` reads the longest front of some lexemes that derives a graph pattern. The crate's promise is that it
-//! finds the longest front that the grammar derives (`specs/PatternGrammar.antt`, and below it `specs/PathGrammar.antt`,
-//! `EdgeGrammar`, `QuantifierGrammar`, `PrefixGrammar`), with the one tree of that front. It stands on `gql_parts`, whose
-//! readers give fillers, WHERE and lists, on `gql_exprs` and `gql_front`, on the lexemes of `gql_lexer` and on the trees of
-//! `gql_ast`.
+//! The promise: `parse_pattern` reads the longest front of some lexemes that derives a graph pattern (`specs/PatternGrammar.antt`,
+//! with the grammars of paths, edges, quantifiers and prefixes beside it), and gives its one tree.
 #![tactic(auto)]
 
 mod edge;

@@ -1,4 +1,4 @@
-//! The top call.
+//! The top call: path patterns between commas, and WHERE.
 
 ghost use Rattle.gql_front.specs.Reads.{Reads};
 ghost use Rattle.gql_patterns.specs.Machinery.PatternReaders.{graph_pattern_of};

@@ -1,3 +1,5 @@
+//! What the ports answer where something failed.
+
 use gql_values3::OutOfMemory;
 
 /// The real thing failed: a file, a terminal, a store.

@@ -1,3 +1,5 @@
+//! Text that is read from a file.
+
 ghost use Rattle.std.specs.Prelude.{◌≡◌, None};
 
 use crate::fault::Failed;

@@ -1,6 +1,8 @@
+//! The port that keeps: records by their keys, put and dropped all or none.
+
 ghost use Rattle.std.specs.Prelude.{◌≡◌, ◌≤◌, ◌<◌, ◌++◌, ℕ, Option, Some, option_map, length, map, IfOk, OnOk, OnErr, IfSome, IsTrue, slice_get};
 ghost use Rattle.std.specs.Option.{option_copied};
-ghost use Rattle.gql_ports.specs.Causes.{Rose};
+ghost use Rattle.gql_ports.specs.Causes.{Rose, count_after};
 ghost use Rattle.gql_ports.specs.Told.{MatchTold};
 ghost use Rattle.gql_values3.specs.Texts.{texts_differ};
 ghost use Rattle.gql_ports.specs.Held.{Holding, keys_ascend, held_after_opening, Applies};
@@ -17,7 +19,7 @@ pub trait Keeper {
     /// How many records there are.
     ghost count: { Self → ℕ };
 
-    /// How often the real thing failed.
+    /// How often the real thing failed. A call that fails counts once, and no other counts, want of memory neither.
     ghost faults: { Self → ℕ };
 
     /// Opens the named store, or one in memory where there is no name. Under its own name the records stay, and under
@@ -26,7 +28,8 @@ pub trait Keeper {
         ensures ok { OnOk result (held self.new ≡ option_map (held_after_opening (option_copied name.entry)) (held self.old)) }
         ensures err { OnErr result (held self.new ≡ held self.old) }
         ensures later { faults self.old ≤ faults self.new }
-        ensures failed { result ≡ Err KeepFault.Failed → Rose (faults self.old) (faults self.new) };
+        ensures failed { result ≡ Err KeepFault.Failed → Rose (faults self.old) (faults self.new) }
+        ensures risen { faults self.new ≡ count_after result (faults self.old) };
 
     /// The number of records, whose keys strictly ascend. It takes no memory.
     fn len(&self) -> u64
@@ -41,7 +44,8 @@ pub trait Keeper {
         ensures kept { held self.new ≡ held self.old }
         ensures same { count self.new ≡ count self.old }
         ensures later { faults self.old ≤ faults self.new }
-        ensures failed { result ≡ Err KeepFault.Failed → Rose (faults self.old) (faults self.new) };
+        ensures failed { result ≡ Err KeepFault.Failed → Rose (faults self.old) (faults self.new) }
+        ensures risen { faults self.new ≡ count_after result (faults self.old) };
 
     /// Puts and drops all of these, or changes nothing. All the keys differ.
     fn apply(&mut self, puts: &[Record], drops: &[Key]) -> Result<(), KeepFault>
@@ -49,5 +53,6 @@ pub trait Keeper {
         ensures ok { OnOk result (MatchTold (held self.old) (held self.new) (Applies puts.now drops.now)) }
         ensures err { OnErr result (held self.new ≡ held self.old) }
         ensures later { faults self.old ≤ faults self.new }
-        ensures failed { result ≡ Err KeepFault.Failed → Rose (faults self.old) (faults self.new) };
+        ensures failed { result ≡ Err KeepFault.Failed → Rose (faults self.old) (faults self.new) }
+        ensures risen { faults self.new ≡ count_after result (faults self.old) };
 }

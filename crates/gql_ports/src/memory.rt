@@ -1,3 +1,5 @@
+//! The three ports in memory, and the calls that fail there by their number.
+
 ghost use Rattle.std.specs.Prelude.{◌≡◌, ◌≤◌, ◌+◌, ◌-◌, ◌^◌, ◌↔◌, min, IsTrue, IfOk, Contains, if◌then◌else◌};
 
 mod mem_keeper;

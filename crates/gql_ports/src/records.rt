@@ -1,3 +1,5 @@
+//! Records in the order of their keys, found by halving.
+
 ghost use Rattle.std.specs.Prelude.{◌≡◌, ℕ, List, [], Some, None, length, map, IfOk, IfErr, OnOk, OnErr, true, if◌then◌else◌, slice_get};
 ghost use Rattle.std.specs.Option.{option_copied};
 ghost use Rattle.gql_values3.specs.Texts.{same_text};

@@ -1,3 +1,5 @@
+//! The port that is written to.
+
 ghost use Rattle.std.specs.Prelude.{ℕ, List, Option, OnOk, OnErr};
 ghost use Rattle.gql_ports.specs.Causes.{HasCause};
 ghost use Rattle.gql_ports.specs.Told.{MatchTold, Appends, AppendsPrefix};

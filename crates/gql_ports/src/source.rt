@@ -1,3 +1,5 @@
+//! The port that is read: the bytes of a text, by its name.
+
 ghost use Rattle.std.specs.Prelude.{◌≡◌, ◌≤◌, ◌<◌, ℕ, Option, option_map, is_ok, length, IfOk, OnErr};
 ghost use Rattle.gql_ports.specs.Causes.{HasCause};
 ghost use Rattle.gql_ports.specs.Told.{Content, after_opening, MatchTold, AfterReading};

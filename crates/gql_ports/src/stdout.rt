@@ -1,3 +1,5 @@
+//! Bytes that are written to standard output.
+
 ghost use Rattle.std.specs.Prelude.{◌≡◌, ◌≤◌, [], length, None, IfOk, IsOk};
 
 use crate::fault::Failed;

@@ -1,3 +1,5 @@
+//! Keys and records.
+
 ghost use Rattle.std.specs.Prelude.{◌≡◌, IfOk};
 
 use gql_values3::{Bytes, Keyed, OutOfMemory};

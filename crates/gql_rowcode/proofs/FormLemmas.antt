@@ -24,7 +24,7 @@ use Rattle.gql_ports.specs.declared.stored.Record.{Record}
 use Rattle.gql_rowcode.specs.Records.{Form, version, graph_type, graph, node, edge, type_name_spelled, ends_spelled, key_of, value_of, record_of, IsKeptName, AreKeptEnds, IsForm}
 use Rattle.gql_rowcode.specs.declared.form.Form as code
 use Rattle.gql_rowcode.specs.Machinery.Said.{form_of}
-use Rattle.gql_rowcode.specs.Machinery.FormReading.{both_at, ended, whole_at, type_name_behind, type_name_at, ends_between, ends_at, content_at, name_key_at, element_key_at, graph_value_at, node_value_at, edge_value_at, version_value_at, version_form_at, type_form_at, graph_form_at, node_record, node_form_at, edge_record, edge_form_at, form_at}
+use Rattle.gql_rowcode.specs.Machinery.FormReading.{both_at, without_rest, whole_at, type_name_behind, type_name_at, ends_between, ends_at, content_at, name_key_at, element_key_at, graph_value_at, node_value_at, edge_value_at, version_value_at, version_form_at, type_form_at, graph_form_at, node_record, node_form_at, edge_record, edge_form_at, form_at}
 
 -- ---- parts in a row, and to the end
 
@@ -52,7 +52,7 @@ module _ {A B : Type 0} (s : A → List ℕ) (K : A → Type 0) (r : List ℕ �
 module _ {A : Type 0} (s : A → List ℕ) (K : A → Type 0) (r : List ℕ → Option (A × List ℕ)) where
   whole_takes : IsSpelled s K r → (bytes : List ℕ) (x : A) → IsBytes bytes → whole_at r bytes ≡ Some x → (bytes ≡ s x) × K x
   whole_takes law bytes x fits e =
-      let b = bind_some (r bytes) ended x e in
+      let b = bind_some (r bytes) without_rest x e in
       let w = when_some (eqb (length b.0.1) 0) b.0.0 x b.2 in
       let t = law bytes b.0 fits b.1 in
       let nothing : b.0.1 ≡ [] = nil_from_length b.0.1 (eqb-true _ _ w.0) in

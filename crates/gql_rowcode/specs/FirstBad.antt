@@ -17,6 +17,7 @@ use Rattle.gql_rowcode.specs.Records.{Form, version, graph_type, graph, node, ed
 abbrev pub and_node : NodeRecord → PropertyGraph → PropertyGraph
 and_node r g = record g { nodes = g.nodes ++ r ∷ [] }
 
+-- with one more edge at the end
 abbrev pub and_edge : EdgeRecord → PropertyGraph → PropertyGraph
 and_edge r g = record g { edges = g.edges ++ r ∷ [] }
 
@@ -41,11 +42,12 @@ with_forms c (f ∷ fs) = with_forms (with_form c f) fs
 abbrev pub described : List Form → CatalogData
 described forms = with_forms (record { graphs = []; types = [] }) forms
 
--- the graph has no type, or a test holds of its type, which is one of these
+-- there is a type, and a test holds of it
 abbrev pub by_type : (GraphType → Bool) → Option GraphType → Bool
 by_type test None = false
 by_type test (Some t) = test t
 
+-- the graph has no type, or a test holds of its type, which is one of these
 abbrev pub passes_type : (GraphType → Bool) → List (List ℕ × GraphType) → Option (List ℕ) → Bool
 passes_type test types None = true
 passes_type test types (Some name) = by_type test (named name types)

@@ -43,6 +43,7 @@ key_of (graph name kind next_node next_edge) = 2 ∷ spelled name
 key_of (node name r) = 3 ∷ (spelled name ++ to_be_bytes w32 r.number.0)
 key_of (edge name r) = 4 ∷ (spelled name ++ to_be_bytes w32 r.number.0)
 
+-- a value: what is said of the thing that the key names
 abbrev pub value_of : Form → List ℕ
 value_of version = 1 ∷ []
 value_of (graph_type name t) = graph_type_spelled t
@@ -54,6 +55,7 @@ value_of (edge name r) = ends_spelled r.ends ++ content_spelled r.labels r.prope
 abbrev pub record_of : Form → Record
 record_of f = record { key = key_of f; value = value_of f }
 
+-- the name of a graph's type, where it has one, is a text
 abbrev pub IsKeptName : Option (List ℕ) → Type 0
 IsKeptName None = Unit {0}
 IsKeptName (Some name) = IsText name

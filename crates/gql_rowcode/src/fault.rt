@@ -1,3 +1,5 @@
+//! Why records were not read.
+
 use gql_values3::OutOfMemory;
 
 /// Why records were not read as a catalog: the first one at fault, from 0, or want of memory.

@@ -1,3 +1,5 @@
+//! What one record says, read from its key and its value.
+
 ghost use Rattle.std.specs.Prelude.{◌≡◌, IfOk};
 ghost use Rattle.gql_fields.specs.Machinery.Reading.{GivesFree, Gives};
 ghost use Rattle.gql_rowcode.specs.Records.{IsForm, key_of, value_of};
@@ -52,11 +54,11 @@ fn form_by_kind<'a>(alloc: Global, key: &'a [u8], value: &[u8]) -> Result<Form<'
         return Err(Misread::NoForm);
     };
     match *kind {
-        0 => version_of(rest, value),
-        1 => type_of(alloc, rest, value),
-        2 => graph_of(alloc, rest, value),
-        3 => node_of(alloc, rest, value),
-        4 => edge_of(alloc, rest, value),
+        0 => version_form_of(rest, value),
+        1 => type_form_of(alloc, rest, value),
+        2 => graph_form_of(alloc, rest, value),
+        3 => node_form_of(alloc, rest, value),
+        4 => edge_form_of(alloc, rest, value),
         _ => Err(Misread::NoForm),
     }
 }
@@ -64,7 +66,7 @@ fn form_by_kind<'a>(alloc: Global, key: &'a [u8], value: &[u8]) -> Result<Form<'
 const ONE: [u8; 1] = [1];
 
 #[tactic(auto, unfolding(crate::specs::Machinery::FormReading::version_form_at))]
-fn version_of<'a>(key: &'a [u8], value: &[u8]) -> Result<Form<'a>, Misread>
+fn version_form_of<'a>(key: &'a [u8], value: &[u8]) -> Result<Form<'a>, Misread>
     ensures { GivesFree form_of result (version_form_at key.now value.now) }
 {
     if key.is_empty() {
@@ -85,7 +87,7 @@ fn version_told<'a>(value: &[u8]) -> Result<Form<'a>, Misread>
 }
 
 #[tactic(auto, unfolding(crate::specs::Machinery::FormReading::type_form_at))]
-fn type_of<'a>(alloc: Global, key: &'a [u8], value: &[u8]) -> Result<Form<'a>, Misread>
+fn type_form_of<'a>(alloc: Global, key: &'a [u8], value: &[u8]) -> Result<Form<'a>, Misread>
     ensures { Gives form_of result (type_form_at key.now value.now) }
 {
     let name = name_key_of(key)?;
@@ -94,7 +96,7 @@ fn type_of<'a>(alloc: Global, key: &'a [u8], value: &[u8]) -> Result<Form<'a>, M
 }
 
 #[tactic(auto, unfolding(crate::specs::Machinery::FormReading::graph_form_at))]
-fn graph_of<'a>(alloc: Global, key: &'a [u8], value: &[u8]) -> Result<Form<'a>, Misread>
+fn graph_form_of<'a>(alloc: Global, key: &'a [u8], value: &[u8]) -> Result<Form<'a>, Misread>
     ensures { Gives form_of result (graph_form_at key.now value.now) }
 {
     let name = name_key_of(key)?;
@@ -108,7 +110,7 @@ fn graph_of<'a>(alloc: Global, key: &'a [u8], value: &[u8]) -> Result<Form<'a>, 
 }
 
 #[tactic(auto, unfolding(crate::specs::Machinery::FormReading::node_form_at))]
-fn node_of<'a>(alloc: Global, key: &'a [u8], value: &[u8]) -> Result<Form<'a>, Misread>
+fn node_form_of<'a>(alloc: Global, key: &'a [u8], value: &[u8]) -> Result<Form<'a>, Misread>
     ensures { Gives form_of result (node_form_at key.now value.now) }
 {
     let (name, number) = element_key_of(key)?;
@@ -124,7 +126,7 @@ fn node_of<'a>(alloc: Global, key: &'a [u8], value: &[u8]) -> Result<Form<'a>, M
 }
 
 #[tactic(auto, unfolding(crate::specs::Machinery::FormReading::edge_form_at))]
-fn edge_of<'a>(alloc: Global, key: &'a [u8], value: &[u8]) -> Result<Form<'a>, Misread>
+fn edge_form_of<'a>(alloc: Global, key: &'a [u8], value: &[u8]) -> Result<Form<'a>, Misread>
     ensures { Gives form_of result (edge_form_at key.now value.now) }
 {
     let (name, number) = element_key_of(key)?;

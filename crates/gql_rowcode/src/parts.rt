@@ -4,7 +4,7 @@ ghost use Rattle.gql_fields.specs.Machinery.Reading.{GivesFree, Gives};
 ghost use Rattle.gql_rowcode.specs.Machinery.FormReading.{type_name_at, ends_at, ends_between, content_at, name_key_at, element_key_at, graph_value_at, node_value_at, edge_value_at};
 ghost use Rattle.std.specs.Prelude.{◌≡◌};
 
-use gql_fields::{Misread, flag_of, labels_of, properties_of, str_at, text_of, u32_at};
+use gql_fields::{Misread, flag_of, label_set_of, properties_of, str_at, text_of, u32_at};
 use gql_values3::{Ends, Names, NodeId, Properties, Text};
 use std::alloc::Global;
 
@@ -89,7 +89,7 @@ pub fn edge_value_of(alloc: Global, value: &[u8]) -> Result<(Ends, (Names, Prope
 fn content_of(alloc: Global, bytes: &[u8]) -> Result<((Names, Properties), &[u8]), Misread>
     ensures { Gives (λ x. (x.0, x.1.now)) result (content_at bytes.now) }
 {
-    let (labels, rest) = labels_of(alloc, bytes)?;
+    let (labels, rest) = label_set_of(alloc, bytes)?;
     let (properties, rest) = properties_of(alloc, rest)?;
     Ok(((labels, properties), rest))
 }

@@ -1,3 +1,5 @@
+//! Records read one by one, in order by key, into a catalog.
+
 ghost use Rattle.std.specs.Prelude.{◌≡◌, ℕ, ◌⊎◌, ◌<◌, IfOk, OnOk, MatchResult, length};
 ghost use Rattle.gql_graph.specs.Catalog.{CatalogData, is_before};
 ghost use Rattle.gql_fields.specs.Machinery.Reading.{Gives};

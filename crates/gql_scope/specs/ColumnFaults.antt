@@ -30,6 +30,7 @@ module _ (columns : ColumnList) where
   abbrev pub columns_outside : Tree → List ColumnRef
   columns_outside e = if is_key columns e then [] else map column.Name (names_outside columns e)
 
+  -- an output name that an item before has
   abbrev pub repeated_name : List (List ℕ) → List ℕ → List ColumnRef
   repeated_name seen x = if is_among seen x then column.Name x ∷ [] else []
 
@@ -38,13 +39,16 @@ module _ (columns : ColumnList) where
   faults_at (Some x) outside again = outside ++ again
   faults_at None outside again = again ++ outside
 
+  -- of an item of RETURN behind these output names
   abbrev pub faults_in_item : List (List ℕ) → ReturnItem → List ColumnRef
   faults_in_item seen i = faults_at i.name (columns_outside (tree_of i.value)) (repeated_name seen (item_name i))
 
+  -- of items in order, each behind the output names before it
   abbrev pub faults_in_list : List (List ℕ) → List ReturnItem → List ColumnRef
   faults_in_list seen [] = []
   faults_in_list seen (i ∷ is) = faults_in_item seen i ++ faults_in_list (item_name i ∷ seen) is
 
+  -- of all items; `RETURN *` needs a column
   abbrev pub faults_in_items : ReturnItems → List ColumnRef
   faults_in_items items.All = none columns
     where
@@ -68,17 +72,21 @@ module _ (columns : ColumnList) where
   abbrev pub omitted : List (List ℕ) → List (List ℕ) → List ColumnRef
   omitted keys names = map column.Name (filter (λ k. not (is_among names k)) keys)
 
+  -- of GROUP BY, where it stands
   abbrev pub faults_in_grouping : List (List ℕ) → Option (List (List ℕ)) → List ColumnRef
   faults_in_grouping keys None = []
   faults_in_grouping keys (Some names) = faults_in_names keys [] names ++ omitted keys names
 
+  -- of RETURN: its items, and then GROUP BY
   abbrev pub faults_in_return : Return → List ColumnRef
   faults_in_return r = faults_in_items r.items ++ faults_in_grouping (key_names r.items) r.grouping
 
+-- of a map, whose properties differ
 abbrev pub faults_in_map : Option (List MapItem) → List ColumnRef
 faults_in_map None = []
 faults_in_map (Some is) = map column.Property (repeated [] (map (λ (i : MapItem). i.name) is))
 
+-- of a clause that changes data: of the maps of INSERT
 abbrev pub faults_in_change : ChangeClause → List ColumnRef
 faults_in_change (change.Insert ps) = flat_map (λ (s : ColumnKind × Fill). faults_in_map s.1.map) (insert_spots ps)
 faults_in_change _ = []

@@ -25,10 +25,12 @@ use Rattle.gql_ast.specs.declared.projection.ReturnItems.{ReturnItems}
 use Rattle.gql_ast.specs.declared.projection.ReturnItems.TheVariants as items
 use Rattle.gql_expr_checks.specs.ExprMisuses.{misused_expr, elsewhere, item}
 
+-- in LET, whose later items see the names of those before
 abbrev pub misused_let : ColumnList → List LetItem → Bool
 misused_let columns [] = false
 misused_let columns (i ∷ is) = misused_expr columns elsewhere i.value || misused_let (columns ++ (i.name, kind_of columns (tree_of i.value)) ∷ []) is
 
+-- in the keys of ORDER BY
 abbrev pub misused_keys : ColumnList → List SortItem → Bool
 misused_keys columns is = list_any (λ (i : SortItem). misused_expr columns elsewhere i.key) is
 
@@ -36,22 +38,27 @@ abbrev pub misused_order : ColumnList → Option (List SortItem) → Bool
 misused_order columns None = false
 misused_order columns (Some is) = misused_keys columns is
 
+-- in a clause of ORDER BY, OFFSET and LIMIT, in which the keys alone are expressions
 abbrev pub misused_page : ColumnList → Page → Bool
 misused_page columns (page.Order is skip limit) = misused_keys columns is
 misused_page columns _ = false
 
+-- in the items of RETURN, where aggregates over rows may stand
 abbrev pub misused_items : ColumnList → ReturnItems → Bool
 misused_items columns items.All = false
 misused_items columns (items.Listed is) = list_any (λ (i : ReturnItem). misused_expr columns item i.value) is
 
+-- in the values of a map
 abbrev pub misused_map : ColumnList → Option (List MapItem) → Bool
 misused_map columns None = false
 misused_map columns (Some is) = list_any (λ (i : MapItem). misused_expr columns elsewhere i.value) is
 
+-- in the value that SET gives a property
 abbrev pub misused_set : ColumnList → SetItem → Bool
 misused_set columns (set_item.Property x p e) = misused_expr columns elsewhere e
 misused_set columns (set_item.Label x l) = false
 
+-- in a clause that changes data
 abbrev pub misused_change : ColumnList → ChangeClause → Bool
 misused_change columns (change.Insert ps) = list_any (λ (s : ColumnKind × Fill). misused_map columns s.1.map) (insert_spots ps)
 misused_change columns (change.Set is) = list_any (misused_set columns) is

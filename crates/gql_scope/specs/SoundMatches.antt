@@ -12,6 +12,7 @@ use Rattle.gql_norm.specs.RowMatch.{IsSound}
 use Rattle.gql_scope.specs.StatementBounds.{bound_of_statement}
 use Rattle.gql_scope.specs.WholePatterns.{columns_past, whole_refusal}
 
+-- of clauses in order, the first of which stands behind these columns
 abbrev pub MatchesAreSound : List (List ℕ × Datum) → ColumnList → List Clause → Type 0
 MatchesAreSound params columns [] = Unit {0}
 MatchesAreSound params columns (clause.Match m ∷ cs) = IsSound params columns (normal_form m.pattern) × MatchesAreSound params (columns_past columns (clause.Match m)) cs

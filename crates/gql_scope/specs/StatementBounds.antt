@@ -11,6 +11,7 @@ use Rattle.gql_norm.specs.NormalForm.{normal_form}
 use Rattle.gql_norm.specs.Bounds.{bounds_at_fault}
 use Rattle.gql_degrees.specs.FirstFaults.{told_number}
 
+-- of a clause: none but MATCH has bounds
 abbrev pub bounds_in_clause : Clause → List ℕ
 bounds_in_clause (clause.Match m) = bounds_at_fault (normal_form m.pattern)
 bounds_in_clause _ = []
@@ -19,6 +20,7 @@ bounds_in_clause _ = []
 abbrev pub first_bound : List Clause → Option ℤ
 first_bound cs = option_map told_number (first (flat_map bounds_in_clause cs))
 
+-- of a statement: none but a query has a MATCH
 abbrev pub bound_of_statement : Statement → Option ℤ
 bound_of_statement (statement.Query q) = first_bound q.clauses
 bound_of_statement _ = None

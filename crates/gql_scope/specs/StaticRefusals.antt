@@ -15,6 +15,7 @@ use Rattle.gql_expr_checks.specs.ExprParameters.{parameters_in, unset}
 use Rattle.gql_expr_checks.specs.Refusals.{refusal_of_first, misuse_if}
 
 module _ (params : List (List ℕ × Datum)) where
+  -- the first refusal of an expression over no columns
   abbrev pub value_refusal : Tree → Option Refusal
   value_refusal e =
       option_or (refusal_of_first refusal.Variable (unknown_in [] e))

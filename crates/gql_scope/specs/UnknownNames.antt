@@ -47,10 +47,12 @@ abbrev pub unknown_in_counter : ColumnList → Option (Counting × List ℕ) →
 unknown_in_counter columns None = []
 unknown_in_counter columns (Some c) = taken columns c.1
 
+-- in FOR, whose list sees the incoming columns alone
 abbrev pub unknown_in_for : ColumnList → For → List (List ℕ)
 unknown_in_for columns f =
     taken columns f.name ++ unknown_in_expr columns f.list ++ unknown_in_counter (columns ++ (f.name, kind.Plain) ∷ []) f.counter
 
+-- in the keys of ORDER BY
 abbrev pub unknown_in_keys : ColumnList → List SortItem → List (List ℕ)
 unknown_in_keys columns is = flat_map (λ (i : SortItem). unknown_in_expr columns i.key) is
 
@@ -58,10 +60,12 @@ abbrev pub unknown_in_order : ColumnList → Option (List SortItem) → List (Li
 unknown_in_order columns None = []
 unknown_in_order columns (Some is) = unknown_in_keys columns is
 
+-- in a clause of ORDER BY, OFFSET and LIMIT
 abbrev pub unknown_in_page : ColumnList → Page → List (List ℕ)
 unknown_in_page columns (page.Order is skip limit) = unknown_in_keys columns is
 unknown_in_page columns _ = []
 
+-- in the items of RETURN
 abbrev pub unknown_in_items : ColumnList → ReturnItems → List (List ℕ)
 unknown_in_items columns items.All = []
 unknown_in_items columns (items.Listed is) = flat_map (λ (i : ReturnItem). unknown_in_expr columns i.value) is
@@ -75,10 +79,12 @@ abbrev pub may_refer : ColumnKind → Option (List (List ℕ)) → Option (List 
 may_refer kind.Node None None = true
 may_refer _ _ _ = false
 
+-- the variable of an element of INSERT, where it stands already and what else is written bars that
 abbrev pub misplaced : ColumnList → ColumnKind → Fill → Option (List ℕ) → List (List ℕ)
 misplaced columns k f None = []
 misplaced columns k f (Some x) = if is_column columns x && not (may_refer k f.labels f.map) then x ∷ [] else []
 
+-- in the values of a map
 abbrev pub unknown_in_map : ColumnList → Option (List MapItem) → List (List ℕ)
 unknown_in_map columns None = []
 unknown_in_map columns (Some is) = flat_map (λ (i : MapItem). unknown_in_expr columns i.value) is
@@ -93,14 +99,17 @@ unknown_in_spots incoming columns (s ∷ ss) =
 abbrev pub missing : ColumnList → List ℕ → List (List ℕ)
 missing columns x = if is_column columns x then [] else x ∷ []
 
+-- in an item of SET, its target first
 abbrev pub unknown_in_set : ColumnList → SetItem → List (List ℕ)
 unknown_in_set columns (set_item.Property x p e) = missing columns x ++ unknown_in_expr columns e
 unknown_in_set columns (set_item.Label x l) = missing columns x
 
+-- in an item of REMOVE, which names its target alone
 abbrev pub unknown_in_remove : ColumnList → RemoveItem → List (List ℕ)
 unknown_in_remove columns (remove_item.Property x p) = missing columns x
 unknown_in_remove columns (remove_item.Label x l) = missing columns x
 
+-- in a clause that changes data
 abbrev pub unknown_in_change : ColumnList → ChangeClause → List (List ℕ)
 unknown_in_change columns (change.Insert ps) = unknown_in_spots columns columns (insert_spots ps)
 unknown_in_change columns (change.Set is) = flat_map (unknown_in_set columns) is

@@ -23,6 +23,7 @@ use Rattle.gql_ast.specs.declared.projection.ReturnItems.{ReturnItems}
 use Rattle.gql_ast.specs.declared.projection.ReturnItems.TheVariants as items
 use Rattle.gql_expr_checks.specs.ExprParameters.{parameters_of}
 
+-- in the keys of ORDER BY
 abbrev pub parameters_of_keys : List SortItem → List (List ℕ)
 parameters_of_keys is = flat_map (λ (i : SortItem). parameters_of i.key) is
 
@@ -30,6 +31,7 @@ abbrev pub parameters_of_order : Option (List SortItem) → List (List ℕ)
 parameters_of_order None = []
 parameters_of_order (Some is) = parameters_of_keys is
 
+-- of OFFSET or LIMIT, where its number is a parameter
 abbrev pub parameters_of_count : RowCount → List (List ℕ)
 parameters_of_count (rows.Number digits) = []
 parameters_of_count (rows.Parameter p) = p ∷ []
@@ -38,26 +40,32 @@ abbrev pub parameters_of_count_if : Option RowCount → List (List ℕ)
 parameters_of_count_if None = []
 parameters_of_count_if (Some c) = parameters_of_count c
 
+-- in a clause of ORDER BY, OFFSET and LIMIT
 abbrev pub parameters_of_page : Page → List (List ℕ)
 parameters_of_page (page.Order is skip limit) = parameters_of_keys is ++ parameters_of_count_if skip ++ parameters_of_count_if limit
 parameters_of_page (page.Skip skip limit) = parameters_of_count skip ++ parameters_of_count_if limit
 parameters_of_page (page.Limit limit) = parameters_of_count limit
 
+-- in the items of RETURN
 abbrev pub parameters_of_items : ReturnItems → List (List ℕ)
 parameters_of_items items.All = []
 parameters_of_items (items.Listed is) = flat_map (λ (i : ReturnItem). parameters_of i.value) is
 
+-- in RETURN with its ORDER BY, OFFSET and LIMIT
 abbrev pub parameters_of_return : Return → List (List ℕ)
 parameters_of_return r = parameters_of_items r.items ++ parameters_of_order r.order ++ parameters_of_count_if r.skip ++ parameters_of_count_if r.limit
 
+-- in the values of a map
 abbrev pub parameters_of_map : Option (List MapItem) → List (List ℕ)
 parameters_of_map None = []
 parameters_of_map (Some is) = flat_map (λ (i : MapItem). parameters_of i.value) is
 
+-- in the value that SET gives a property
 abbrev pub parameters_of_set : SetItem → List (List ℕ)
 parameters_of_set (set_item.Property x p e) = parameters_of e
 parameters_of_set (set_item.Label x l) = []
 
+-- in a clause that changes data
 abbrev pub parameters_of_change : ChangeClause → List (List ℕ)
 parameters_of_change (change.Insert ps) = flat_map (λ (s : ColumnKind × Fill). parameters_of_map s.1.map) (insert_spots ps)
 parameters_of_change (change.Set is) = flat_map parameters_of_set is

@@ -77,6 +77,7 @@ open_references c = by_form group_references (λ d. []) c
 abbrev pub is_misused : ColumnList → Clause → Bool
 is_misused columns c = by_form (misused_in_match columns) (misused_clause columns) c
 
+-- the same of a query's clauses, each under the columns behind the one before
 abbrev pub misused_over : ColumnList → List Clause → Bool
 misused_over columns [] = false
 misused_over columns (c ∷ cs) = is_misused columns c || misused_over (columns_past columns c) cs
@@ -112,9 +113,11 @@ module _ (params : List (List ℕ × Datum)) where
       (option_or (refusal_of_first refusal.Column (over_clauses column_faults [] cs))
       (refusal_of_first refusal.Parameter (flat_map unset_in_clause cs)))
 
+  -- the first refusal of a query, if there is one
   abbrev pub clauses_refusal : List Clause → Option Refusal
   clauses_refusal cs = option_or (name_refusal cs) (option_or (repetition_refusal cs) (use_refusal cs))
 
+  -- the first refusal of a statement, if there is one; none of a transaction's
   abbrev pub whole_refusal : Statement → Option Refusal
   whole_refusal (statement.Query q) = clauses_refusal q.clauses
   whole_refusal (statement.Session s) = session_refusal params s

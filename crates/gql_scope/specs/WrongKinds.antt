@@ -23,9 +23,11 @@ is_element kind.Node = true
 is_element kind.Edge = true
 is_element _ = false
 
+-- a target that is a column and no element
 abbrev pub wrong_target : ColumnList → List ℕ → List (List ℕ)
 wrong_target columns x = if is_column columns x && not (is_element (kind_of_name columns x)) then x ∷ [] else []
 
+-- the target of an item of SET, and of one of REMOVE
 abbrev pub set_target : SetItem → List ℕ
 set_target (set_item.Property x p e) = x
 set_target (set_item.Label x l) = x
@@ -34,6 +36,7 @@ abbrev pub remove_target : RemoveItem → List ℕ
 remove_target (remove_item.Property x p) = x
 remove_target (remove_item.Label x l) = x
 
+-- in a clause that changes data
 abbrev pub wrong_in_change : ColumnList → ChangeClause → List (List ℕ)
 wrong_in_change columns (change.Insert ps) = wrong_in_spots columns (insert_spots ps)
 wrong_in_change columns (change.Set is) = flat_map (λ (i : SetItem). wrong_target columns (set_target i)) is

@@ -1,10 +1,9 @@
 //! Static refusals: what is wrong with a statement before it is run.
 //!
-//! `check` answers the first refusal of a statement: by the order of the codes, and within one code the first in the
-//! text. The crate's promise is that this is exactly what `specs/WholePatterns.antt` defines; and that `bounds` answers the first
-//! bound at fault, by `specs/StatementBounds.antt`. It stands on the trees of `gql_ast`, the normal patterns of `gql_norm`, on
-//! `gql_expr_checks`, which asks one expression, on `gql_degrees`, `gql_term` and `gql_pattern_checks`, which ask one pattern, and
-//! on `gql_type`, which asks the text of a graph type.
+//! `check` answers the first refusal of a statement, by the order of the codes and within one code the first in the text, exactly as
+//! `specs/WholePatterns.antt` defines it; `bounds` answers the first bound at fault, by `specs/StatementBounds.antt`. It stands on what
+//! `gql_expr_checks` asks of one expression, what `gql_degrees`, `gql_term` and `gql_pattern_checks` ask of one pattern, and what
+//! `gql_type` asks of the text of a graph type.
 #![tactic(auto)]
 
 mod behind;

@@ -8,9 +8,8 @@ use Rattle.gql_rowcode.specs.StandFor.{StandFor}
 use Rattle.gql_rowcode.specs.FirstBad.{FirstBad}
 use Rattle.gql_txn.specs.Keeps.{Keeps, IsSameStore}
 use Rattle.gql_txn.specs.declared.load.LoadFault.TheVariants as load
-use Rattle.gql_machine.specs.Outcomes.{store_refusals}
 use Rattle.gql_machine.specs.SessionState.{SessionState, starting}
-use Rattle.gql_session.specs.Endings.{FaultCounts, RanWhole, RanFirst, RanAndFailed}
+use Rattle.gql_session.specs.Endings.{FaultCounts}
 use Rattle.gql_session.specs.RunEnds.{most_bytes, EndsAs, HoldsCatalog, NothingRan, is_before_reading, is_before_running, is_complete}
 use Rattle.gql_session.specs.declared.run_pieces.RunFault.{RunFault}
 use Rattle.gql_session.specs.declared.run_pieces.RunFault.TheVariants as fault
@@ -18,7 +17,6 @@ use Rattle.gql_session.specs.declared.status.Status.{Status}
 use Rattle.gql_session.specs.declared.status.Status.TheVariants as status
 use Rattle.gql_session.specs.Machinery.TextEndings.{TextEnding, status_of, LoadedEndsAs}
 use Rattle.gql_session.proofs.CommandLemmas.{holding}
-use Rattle.gql_session.proofs.FaultLemmas.{rose_from}
 
 -- the text was read and run
 pub loaded_ends : (start : SessionState) (text before : List ℕ) (faults : FaultCounts) (held : Option Holding) (ran : Result Bool RunFault) (after : Option (List ℕ)) (held_after : Option Holding) → length text ≤ most_bytes
@@ -43,38 +41,24 @@ pub nothing_ran : (records : List Record) (name : Option (List ℕ)) (before : L
     → held_after ≡ held → NothingRan records before after held_after
 nothing_ran records name before after held held_after k p q = record { written = p; holding = holding name records; told = q ∙ k; same = refl }
 
--- The count of faults before the store was opened
-
-abbrev whole_from : {start : SessionState} {text before : List ℕ} {refused : Bool} {after : Option (List ℕ)} (a b c : ℕ) → a ≤ b → RanWhole start text before (record { before = b; after = c }) refused after
-    → RanWhole start text before (record { before = a; after = c }) refused after
-whole_from a b c h r = record { count = r.count; outcomes = r.outcomes; end = r.end; runs = r.runs; whole = r.whole; written = r.written; refused = r.refused; store = rose_from (store_refusals r.outcomes) a b c h r.store }
-
-abbrev first_from : {start : SessionState} {text before : List ℕ} {after : Option (List ℕ)} (a b c : ℕ) → a ≤ b → RanFirst start text before (record { before = b; after = c }) after
-    → RanFirst start text before (record { before = a; after = c }) after
-first_from a b c h r = record { count = r.count; outcomes = r.outcomes; end = r.end; runs = r.runs; written = r.written; store = rose_from (store_refusals r.outcomes) a b c h r.store }
-
-abbrev failed_from : {start : SessionState} {text before : List ℕ} {after : Option (List ℕ)} (a b c : ℕ) → a ≤ b → RanAndFailed start text before (record { before = b; after = c }) after
-    → RanAndFailed start text before (record { before = a; after = c }) after
-failed_from a b c h r = record { count = r.count; outcomes = r.outcomes; last = r.last; end = r.end; runs = r.runs; part = r.part; written = r.written; store = rose_from (store_refusals (r.outcomes ++ r.last ∷ [])) a b c h r.store }
-
 -- the catalog is that for which the records stand
-pub ends_as : (records : List Record) (name : Option (List ℕ)) (d : CatalogData) (text before : List ℕ) (a b c : ℕ) (s : Status) (after : Option (List ℕ)) (held held_after : Option Holding)
-    → held ≡ Some (holding name records) → a ≤ b → StandFor records d → IsSameStore held held_after → LoadedEndsAs (starting d) text before (record { before = b; after = c }) held s after held_after
-    → EndsAs records text before (record { before = a; after = c }) s after held_after
-ends_as records name d text before a b c status.Answered after held held_after k h stands same e =
-    record { catalog = d; stands = stands; within = e.0; ran = whole_from a b c h e.1.0; kept = holds held held_after (holding name records) d _ k same stands e.1.1 }
-ends_as records name d text before a b c status.Refused after held held_after k h stands same e =
-    record { catalog = d; stands = stands; within = e.0; ran = whole_from a b c h e.1.0; kept = holds held held_after (holding name records) d _ k same stands e.1.1 }
-ends_as records name d text before a b c status.Usage after held held_after k h stands same e = absurd e
-ends_as records name d text before a b c status.SourceFault after held held_after k h stands same e = nothing_ran records name before after held held_after k e.0 e.1
-ends_as records name d text before a b c status.SinkFault after held held_after k h stands same e =
-    record { catalog = d; stands = stands; within = e.0; ran = failed_from a b c h e.1.0; kept = holds held held_after (holding name records) d _ k same stands e.1.1 }
-ends_as records name d text before a b c status.StoreFault after held held_after k h stands same e = absurd e
-ends_as records name d text before a b c status.NoMemory after held held_after k h stands same (inl e) = inl (nothing_ran records name before after held held_after k e.0 e.1)
-ends_as records name d text before a b c status.NoMemory after held held_after k h stands same (inr e) =
-    inr (record { catalog = d; stands = stands; within = e.0; ran = first_from a b c h e.1.0; kept = holds held held_after (holding name records) d _ k same stands e.1.1 })
-ends_as records name d text before a b c status.TooLong after held held_after k h stands same e = (e.0, nothing_ran records name before after held held_after k e.1.0 e.1.1)
-ends_as records name d text before a b c (status.BadStore i) after held held_after k h stands same e = absurd e
+pub ends_as : (records : List Record) (name : Option (List ℕ)) (d : CatalogData) (text before : List ℕ) (faults : FaultCounts) (s : Status) (after : Option (List ℕ)) (held held_after : Option Holding)
+    → held ≡ Some (holding name records) → StandFor records d → IsSameStore held held_after → LoadedEndsAs (starting d) text before faults held s after held_after
+    → EndsAs records text before faults s after held_after
+ends_as records name d text before faults status.Answered after held held_after k stands same e =
+    record { catalog = d; stands = stands; within = e.0; ran = e.1.0; kept = holds held held_after (holding name records) d _ k same stands e.1.1 }
+ends_as records name d text before faults status.Refused after held held_after k stands same e =
+    record { catalog = d; stands = stands; within = e.0; ran = e.1.0; kept = holds held held_after (holding name records) d _ k same stands e.1.1 }
+ends_as records name d text before faults status.Usage after held held_after k stands same e = absurd e
+ends_as records name d text before faults status.SourceFault after held held_after k stands same e = nothing_ran records name before after held held_after k e.0 e.1
+ends_as records name d text before faults status.SinkFault after held held_after k stands same e =
+    record { catalog = d; stands = stands; within = e.0; ran = e.1.0; kept = holds held held_after (holding name records) d _ k same stands e.1.1 }
+ends_as records name d text before faults status.StoreFault after held held_after k stands same e = absurd e
+ends_as records name d text before faults status.NoMemory after held held_after k stands same (inl e) = inl (nothing_ran records name before after held held_after k e.0 e.1)
+ends_as records name d text before faults status.NoMemory after held held_after k stands same (inr e) =
+    inr (record { catalog = d; stands = stands; within = e.0; ran = e.1.0; kept = holds held held_after (holding name records) d _ k same stands e.1.1 })
+ends_as records name d text before faults status.TooLong after held held_after k stands same e = (e.0, nothing_ran records name before after held held_after k e.1.0 e.1.1)
+ends_as records name d text before faults (status.BadStore i) after held held_after k stands same e = absurd e
 
 -- A record at fault
 

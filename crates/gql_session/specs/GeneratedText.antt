@@ -17,6 +17,7 @@ node_text i = codes "(v" ++ decimal i ++ codes ":N {i: " ++ decimal i ++ codes "
 abbrev pub edge_text : ℕ → ℕ → List ℕ
 edge_text i j = codes "(v" ++ decimal i ++ codes ")-[:R]->(v" ++ decimal j ++ codes ")"
 
+-- the edges of the i-th of n nodes: to the next one, and to the tenth after it
 abbrev pub edge_texts : ℕ → ℕ → List (List ℕ)
 edge_texts n i = edge_text i ((i + 1) % n) ∷ edge_text i ((i + 10) % n) ∷ []
 
@@ -26,9 +27,11 @@ listed [] = []
 listed (part ∷ []) = part
 listed (part ∷ more ∷ others) = part ++ codes ", " ++ listed (more ∷ others)
 
+-- the statement that makes the ring of n nodes
 abbrev pub insert_text : ℕ → List ℕ
 insert_text n = codes "INSERT " ++ listed (map node_text (numbers_below n) ++ flat_map (edge_texts n) (numbers_below n)) ++ codes ";\n"
 
+-- the statement that counts the pairs, and the edges of a shortest walk for each
 abbrev pub match_text : List ℕ
 match_text = codes "MATCH p = ANY SHORTEST (x:N WHERE x.i < 4)-[:R]->*(y:N) RETURN COUNT(*) AS pairs, SUM(PATH_LENGTH(p)) AS hops;\n"
 

@@ -7,6 +7,7 @@ use Rattle.clap.specs.declared.builder.ArgAction.TheVariants.{Set}
 use Rattle.gql_values3.specs.Integers.{value_of_digits}
 use Rattle.gql_values3.specs.Texts.{same_text}
 
+-- a command
 pub data Command : Type 0 where
   -- run a session file, by its name, over the store of a name, or one in memory, with so many workers
   run : List ℕ → Option (List ℕ) → ℕ → Command
@@ -28,6 +29,7 @@ argument_rule name = record (new_rule name) { required = true; action = Some Set
 abbrev pub option_rule : List ℕ → Rule
 option_rule name = record (new_rule name) { long = Some name; action = Some Set }
 
+-- `gql` without arguments: there are no words for help and version, and no word for the program stands in front
 abbrev pub bare_app : App
 bare_app = record (new_app (codes "gql")) {
   top = record (new_app (codes "gql")).top { disable_help_flag = true; disable_version_flag = true; no_binary_name = true };
@@ -41,6 +43,7 @@ run_app = with_rule (with_rule (with_rule bare_app (argument_rule (codes "sessio
 abbrev pub selftest_app : App
 selftest_app = with_rule bare_app (argument_rule (codes "n"))
 
+-- no kind of fault is among them
 abbrev pub has_none : Kinds → Bool
 has_none [] = true
 has_none (k ∷ ks) = false
@@ -51,6 +54,7 @@ rows_of app words = if has_none (fault_of app words) then Some (matches_of app w
 
 -- ---- which command
 
+-- a decimal digit, by its byte
 abbrev pub is_digit : ℕ → Bool
 is_digit c = nat_le 48 c && nat_le c 57
 
@@ -65,14 +69,17 @@ abbrev pub workers_in : Option (List ℕ) → Option ℕ
 workers_in None = Some 1
 workers_in (Some digits) = number_up_to 64 digits
 
+-- run, where a session is named and the number of workers is in order
 abbrev pub run_with : Option (List ℕ) → Option (List ℕ) → Option ℕ → Option Command
 run_with (Some session) store (Some workers) = Some (run session store workers)
 run_with _ _ _ = None
 
+-- the same of what clap found
 abbrev pub run_in : Option (List Row) → Option Command
 run_in None = None
 run_in (Some rows) = run_with (first_of (codes "session") rows) (first_of (codes "store") rows) (workers_in (first_of (codes "workers") rows))
 
+-- selftest, where the size is in order
 abbrev pub selftest_with : Option ℕ → Option Command
 selftest_with (Some n) = Some (selftest n)
 selftest_with None = None
@@ -82,6 +89,7 @@ abbrev pub size_in : Option (List ℕ) → Option ℕ
 size_in None = None
 size_in (Some digits) = number_up_to 5000 digits
 
+-- the same of what clap found
 abbrev pub selftest_in : Option (List Row) → Option Command
 selftest_in None = None
 selftest_in (Some rows) = selftest_with (size_in (first_of (codes "n") rows))

@@ -7,6 +7,7 @@ ghost use Rattle.gql_graph.specs.Catalog.{CatalogData};
 ghost use Rattle.gql_rowcode.specs.StandFor.{StandFor};
 ghost use Rattle.gql_rowcode.specs.FirstBad.{FirstBad};
 ghost use Rattle.gql_txn.specs.TxnData.{settled};
+ghost use Rattle.gql_txn.specs.Faults.{after_loading};
 ghost use Rattle.gql_txn.specs.Loads.{LoadCause, is_lack};
 
 use gql_ports::Keeper;
@@ -26,6 +27,7 @@ pub fn load_store<K: Keeper>(
     ensures kept { (records : List Stored) → K.held keeper.old ≡ Some (record { name = option_copied store.entry; records = records }) → K.held keeper.new ≡ K.held keeper.old }
     ensures later { K.faults keeper.old ≤ K.faults keeper.new }
     ensures failed { result ≡ Err LoadFault.Failed → Rose (K.faults keeper.old) (K.faults keeper.new) }
+    ensures risen { K.faults keeper.new ≡ after_loading result (K.faults keeper.old) }
 {
     match keeper.open(store) {
         Ok(()) => Txn::load(alloc, keeper),

@@ -36,11 +36,14 @@ NamesCreated lenient x ts r = (a : List Lexeme) × SaysIfNotExists lenient ts a 
 abbrev pub NamesDropped : Bool → List ℕ → List Lexeme → List Lexeme → Type 0
 NamesDropped lenient x ts r = (a : List Lexeme) × SaysIfExists lenient ts a × Begins name_in x a r
 
+-- what a graph may hold: ANY, with TYPED or "::" before it and GRAPH behind it where they are said; or TYPED or "::", and the name of a graph type
 abbrev pub IsGraphKind : GraphKind → List Lexeme → List Lexeme → Type 0
 IsGraphKind kind.Any ts r =
     (a : List Lexeme) × MayPass is_typed ts a × (b : List Lexeme) × Passes (is_word ANY) a b × MaySayGraph b r
 IsGraphKind (kind.Typed x) ts r = (a : List Lexeme) × Passes is_typed ts a × Begins name_in x a r
 
+-- CREATE GRAPH, a name and what the graph may hold; DROP GRAPH and a name; CREATE GRAPH TYPE, a name and the body of a type;
+-- DROP GRAPH TYPE and a name. IF NOT EXISTS may stand before a name that is created, IF EXISTS before one that is dropped.
 abbrev pub IsCatalog : CatalogStatement → List Lexeme → List Lexeme → Type 0
 IsCatalog (catalog.CreateGraph lenient x k) ts r =
     (a : List Lexeme) × Passes (is_word CREATE) ts a × (b : List Lexeme) × SaysGraph a b × (c : List Lexeme) × NamesCreated lenient x b c

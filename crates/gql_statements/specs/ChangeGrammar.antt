@@ -46,11 +46,13 @@ AreLabels (l ∷ ls) ts r = (a : List Lexeme) × Begins any_name_in l ts a × Ar
 abbrev pub BearsLabels : List (List ℕ) → List Lexeme → List Lexeme → Type 0
 BearsLabels ls ts r = (a : List Lexeme) × Passes is_colon ts a × AreLabels ls a r
 
+-- what stands between the brackets of an element to be inserted: a variable, labels, and a map, in this order, each of which may be missing
 abbrev pub IsFill : Fill → List Lexeme → List Lexeme → Type 0
 IsFill f ts r =
     (a : List Lexeme) × IsOptional (Begins name_in) f.variable ts a × (b : List Lexeme) × IsOptional BearsLabels f.labels a b
     × IsOptional IsMap f.map b r
 
+-- a node of a path to be inserted: its fill in parentheses
 abbrev pub IsInsertNode : Fill → List Lexeme → List Lexeme → Type 0
 IsInsertNode f ts r = (a : List Lexeme) × Passes (is_sign opening) ts a × (b : List Lexeme) × IsFill f a b × Passes (is_sign closing) b r
 
@@ -65,6 +67,7 @@ closing_of arrow.Right = right_arrow
 closing_of arrow.Left = minus
 closing_of arrow.Undirected = tilde
 
+-- an edge, which is its fill in brackets between the two symbols of its arrow, and the node behind it
 abbrev pub IsInsertStep : InsertStep → List Lexeme → List Lexeme → Type 0
 IsInsertStep s ts r =
     (a : List Lexeme) × Passes (is_sign (opening_of s.arrow)) ts a × (b : List Lexeme) × Passes (is_sign opening_bracket) a b
@@ -76,6 +79,7 @@ abbrev pub AreInsertSteps : List InsertStep → List Lexeme → List Lexeme → 
 AreInsertSteps [] ts r = ts ≡ r
 AreInsertSteps (s ∷ ss) ts r = (a : List Lexeme) × IsInsertStep s ts a × AreInsertSteps ss a r
 
+-- a node, and then any number of edges, each with the node behind it
 abbrev pub IsInsertPath : InsertPath → List Lexeme → List Lexeme → Type 0
 IsInsertPath p ts r = (a : List Lexeme) × IsInsertNode p.start ts a × AreInsertSteps p.steps a r
 
@@ -89,11 +93,13 @@ abbrev pub NamesLabel : List ℕ → List ℕ → List Lexeme → List Lexeme �
 NamesLabel x l ts r =
     (a : List Lexeme) × Begins name_in x ts a × (b : List Lexeme) × Passes is_colon a b × Begins any_name_in l b r
 
+-- a property of a variable, "=", and the expression of its new value; or a variable and the label that it gets
 abbrev pub IsSetItem : SetItem → List Lexeme → List Lexeme → Type 0
 IsSetItem (set_item.Property x p e) ts r =
     (a : List Lexeme) × NamesProperty x p ts a × (b : List Lexeme) × Passes (is_sign equal) a b × IsValue e b r
 IsSetItem (set_item.Label x l) ts r = NamesLabel x l ts r
 
+-- a property of a variable, or a variable and a label: what is taken away
 abbrev pub IsRemoveItem : RemoveItem → List Lexeme → List Lexeme → Type 0
 IsRemoveItem (remove_item.Property x p) ts r = NamesProperty x p ts r
 IsRemoveItem (remove_item.Label x l) ts r = NamesLabel x l ts r
@@ -103,6 +109,7 @@ abbrev pub Detaches : Detachment → List Lexeme → List Lexeme → Type 0
 Detaches detachment.Detach ts r = Passes (is_word word.DETACH) ts r
 Detaches detachment.NoDetach ts r = MayPass (is_word word.NODETACH) ts r
 
+-- INSERT and paths, SET and items, REMOVE and items, or DELETE and names, each list with commas between; DETACH or NODETACH may stand before DELETE
 abbrev pub IsChange : ChangeClause → List Lexeme → List Lexeme → Type 0
 IsChange (change.Insert ps) ts r = (a : List Lexeme) × Passes (is_word word.INSERT) ts a × IsListOf IsInsertPath ps a r
 IsChange (change.Set is) ts r = (a : List Lexeme) × Passes (is_word word.SET) ts a × IsListOf IsSetItem is a r

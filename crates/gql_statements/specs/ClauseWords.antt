@@ -8,6 +8,7 @@ use Rattle.gql_statements.specs.declared.change_word.ChangeWord.TheVariants as c
 use Rattle.gql_statements.specs.declared.clause_word.ClauseWord.{ClauseWord}
 use Rattle.gql_statements.specs.declared.clause_word.ClauseWord.TheVariants as begins
 
+-- the words with which a clause other than RETURN begins, and which it is; OFFSET and SKIP say the same
 abbrev pub clause_words : List (ℕ × ClauseWord)
 clause_words =
     (word.MATCH, begins.Match) ∷ (word.OPTIONAL, begins.Optional) ∷ (word.LET, begins.Let) ∷ (word.FILTER, begins.Filter) ∷ (word.FOR, begins.For)

@@ -16,6 +16,7 @@ use Rattle.gql_statements.specs.PartWords.{counting_word}
 abbrev pub IsCounter : Counting × List ℕ → List Lexeme → List Lexeme → Type 0
 IsCounter c ts r = (a : List Lexeme) × Passes (is_word WITH) ts a × (b : List Lexeme) × Begins counting_word c.0 a b × Begins name_in c.1 b r
 
+-- FOR x IN e, and a counter behind it, which may be missing
 abbrev pub IsFor : For → List Lexeme → List Lexeme → Type 0
 IsFor f ts r =
     (a : List Lexeme) × Passes (is_word FOR) ts a × (b : List Lexeme) × Begins name_in f.name a b × (c : List Lexeme) × Passes (is_word IN) b c

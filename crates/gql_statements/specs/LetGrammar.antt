@@ -11,8 +11,10 @@ use Rattle.gql_front.specs.Reading.{is_sign, is_word, name_in}
 use Rattle.gql_parts.specs.Parts.{Passes, IsListOf}
 use Rattle.gql_parts.specs.Values.{IsValue}
 
+-- x = e: a name, and the expression whose value it gets
 abbrev pub IsLetItem : LetItem → List Lexeme → List Lexeme → Type 0
 IsLetItem i ts r = (a : List Lexeme) × Begins name_in i.name ts a × (b : List Lexeme) × Passes (is_sign equal) a b × IsValue i.value b r
 
+-- LET and its items, with commas between them
 abbrev pub IsLet : List LetItem → List Lexeme → List Lexeme → Type 0
 IsLet is ts r = (a : List Lexeme) × Passes (is_word LET) ts a × IsListOf IsLetItem is a r

@@ -14,6 +14,7 @@ abbrev pub SaysOptional : Bool → List Lexeme → List Lexeme → Type 0
 SaysOptional true ts r = Passes (is_word OPTIONAL) ts r
 SaysOptional false ts r = ts ≡ r
 
+-- MATCH or OPTIONAL MATCH, and a graph pattern
 abbrev pub IsMatch : Match → List Lexeme → List Lexeme → Type 0
 IsMatch m ts r =
     (a : List Lexeme) × SaysOptional m.optional ts a × (b : List Lexeme) × Passes (is_word MATCH) a b × IsGraphPattern m.pattern b r

@@ -29,19 +29,24 @@ IsDirection direction.Descending ts r = Begins direction_word direction.Descendi
 abbrev pub IsNullOrder : NullOrder → List Lexeme → List Lexeme → Type 0
 IsNullOrder n ts r = (a : List Lexeme) × Passes (is_word NULLS) ts a × Begins null_word n a r
 
+-- a sort key: an expression, its direction, and whether nulls stand first or last where it is said
 abbrev pub IsSortItem : SortItem → List Lexeme → List Lexeme → Type 0
 IsSortItem i ts r =
     (a : List Lexeme) × IsValue i.key ts a × (b : List Lexeme) × IsDirection i.direction a b × IsOptional IsNullOrder i.nulls b r
 
+-- ORDER BY and its sort keys, with commas between them
 abbrev pub IsOrder : List SortItem → List Lexeme → List Lexeme → Type 0
 IsOrder is ts r = (a : List Lexeme) × Passes (is_word ORDER) ts a × (b : List Lexeme) × Passes (is_word BY) a b × IsListOf IsSortItem is b r
 
+-- OFFSET or SKIP, and the number of rows to be left out: a number or a parameter
 abbrev pub IsSkip : RowCount → List Lexeme → List Lexeme → Type 0
 IsSkip c ts r = (a : List Lexeme) × Passes is_skip ts a × Begins count_in c a r
 
+-- LIMIT, and the number of rows to be kept at most: a number or a parameter
 abbrev pub IsLimit : RowCount → List Lexeme → List Lexeme → Type 0
 IsLimit c ts r = (a : List Lexeme) × Passes (is_word LIMIT) ts a × Begins count_in c a r
 
+-- one or more of ORDER BY, OFFSET and LIMIT, in this order
 abbrev pub IsPage : Page → List Lexeme → List Lexeme → Type 0
 IsPage (page.Order is s l) ts r = (a : List Lexeme) × IsOrder is ts a × (b : List Lexeme) × IsOptional IsSkip s a b × IsOptional IsLimit l b r
 IsPage (page.Skip c l) ts r = (a : List Lexeme) × IsSkip c ts a × IsOptional IsLimit l a r

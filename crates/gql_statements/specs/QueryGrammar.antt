@@ -25,5 +25,6 @@ AreClauses [] ts r = ⊥
 AreClauses (c ∷ []) ts r = IsLast c ts r
 AreClauses (c ∷ d ∷ cs) ts r = (m : List Lexeme) × IsClause c ts m × AreClauses (d ∷ cs) m r
 
+-- clauses of which the last is RETURN or a change, and no two Page clauses stand side by side
 abbrev pub IsQuery : Query → List Lexeme → List Lexeme → Type 0
 IsQuery q ts r = IsTrue (no_pages_meet q.clauses) × AreClauses q.clauses ts r

@@ -20,9 +20,11 @@ use Rattle.gql_statements.specs.PageGrammar.{IsOrder, IsSkip, IsLimit}
 abbrev pub IsAlias : List ℕ → List Lexeme → List Lexeme → Type 0
 IsAlias x ts r = (a : List Lexeme) × Passes (is_word AS) ts a × Begins name_in x a r
 
+-- an expression, and AS with the name of its column, which may be missing
 abbrev pub IsReturnItem : ReturnItem → List Lexeme → List Lexeme → Type 0
 IsReturnItem i ts r = (a : List Lexeme) × IsValue i.value ts a × IsOptional IsAlias i.name a r
 
+-- "*", which stands for all columns, or one or more items with commas between them
 abbrev pub AreReturnItems : ReturnItems → List Lexeme → List Lexeme → Type 0
 AreReturnItems items.All ts r = Passes (is_sign star) ts r
 AreReturnItems (items.Listed is) ts r = IsListOf IsReturnItem is ts r
@@ -31,6 +33,7 @@ AreReturnItems (items.Listed is) ts r = IsListOf IsReturnItem is ts r
 abbrev pub IsGrouping : List (List ℕ) → List Lexeme → List Lexeme → Type 0
 IsGrouping xs ts r = (a : List Lexeme) × Passes (is_word GROUP) ts a × (b : List Lexeme) × Passes (is_word BY) a b × IsListOf (Begins name_in) xs b r
 
+-- RETURN, DISTINCT or ALL, what is returned, GROUP BY, ORDER BY, OFFSET and LIMIT, in this order; all but RETURN and what is returned may be missing
 abbrev pub IsReturn : Return → List Lexeme → List Lexeme → Type 0
 IsReturn ret ts r =
     (a : List Lexeme) × Passes (is_word RETURN) ts a × (b : List Lexeme) × IsQuantifier ret.quantifier a b

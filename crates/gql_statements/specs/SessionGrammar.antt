@@ -14,6 +14,7 @@ use Rattle.gql_parts.specs.Values.{IsValue}
 use Rattle.gql_statements.specs.PartWords.{param_in}
 use Rattle.gql_statements.specs.GraphGrammar.{SaysGraph}
 
+-- SESSION SET GRAPH and a name; SESSION SET VALUE, a parameter, "=" and an expression; SESSION RESET; SESSION CLOSE
 abbrev pub IsSession : SessionStatement → List Lexeme → List Lexeme → Type 0
 IsSession (session.SetGraph x) ts r =
     (a : List Lexeme) × Passes (is_word SESSION) ts a × (b : List Lexeme) × Passes (is_word SET) a b × (c : List Lexeme) × SaysGraph b c

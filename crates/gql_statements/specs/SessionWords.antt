@@ -6,6 +6,7 @@ use Rattle.gql_front.specs.Tables.{word_in}
 use Rattle.gql_statements.specs.declared.session_word.SessionWord.{SessionWord}
 use Rattle.gql_statements.specs.declared.session_word.SessionWord.TheVariants as says
 
+-- what SET, RESET and CLOSE say behind SESSION
 abbrev pub session_words : List (ℕ × SessionWord)
 session_words = (word.SET, says.Set) ∷ (word.RESET, says.Reset) ∷ (word.CLOSE, says.Close) ∷ []
 

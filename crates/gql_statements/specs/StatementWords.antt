@@ -6,6 +6,7 @@ use Rattle.gql_front.specs.Tables.{word_in}
 use Rattle.gql_statements.specs.declared.statement_word.StatementWord.{StatementWord}
 use Rattle.gql_statements.specs.declared.statement_word.StatementWord.TheVariants as begins
 
+-- the words with which a statement on the session, on transactions, on graphs or on graph types begins, and what each says
 abbrev pub statement_words : List (ℕ × StatementWord)
 statement_words =
     (word.SESSION, begins.Session) ∷ (word.START, begins.Start) ∷ (word.COMMIT, begins.Commit) ∷ (word.ROLLBACK, begins.Rollback)

@@ -22,6 +22,7 @@ abbrev pub IsAccess : AccessMode → List Lexeme → List Lexeme → Type 0
 IsAccess access.ReadOnly ts r = StatesAccess access.ReadOnly ts r
 IsAccess access.ReadWrite ts r = (ts ≡ r) ⊎ StatesAccess access.ReadWrite ts r
 
+-- START TRANSACTION, with READ ONLY or READ WRITE behind it where it is said; COMMIT; ROLLBACK
 abbrev pub IsTransaction : TransactionStatement → List Lexeme → List Lexeme → Type 0
 IsTransaction (transaction.Start m) ts r =
     (a : List Lexeme) × Passes (is_word START) ts a × (b : List Lexeme) × Passes (is_word TRANSACTION) a b × IsAccess m b r

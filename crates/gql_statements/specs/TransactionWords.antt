@@ -6,6 +6,7 @@ use Rattle.gql_ast.specs.declared.statement.AccessMode.TheVariants as access
 use Rattle.gql_lexer.specs.WordPlaces as word
 use Rattle.gql_front.specs.Tables.{word_in}
 
+-- what ONLY and WRITE say behind READ
 abbrev pub access_words : List (ℕ × AccessMode)
 access_words = (word.ONLY, access.ReadOnly) ∷ (word.WRITE, access.ReadWrite) ∷ []
 

@@ -1,4 +1,4 @@
-//! A clause of a query.
+//! A clause of a query other than RETURN, by its first word.
 
 ghost use Rattle.std.specs.Prelude.{◌≡◌, ◌<◌, length, IfOk};
 ghost use Rattle.gql_front.specs.Reads.{Reads};

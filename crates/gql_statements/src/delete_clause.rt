@@ -1,4 +1,4 @@
-//! DELETE.
+//! DELETE and its variables, with DETACH or NODETACH before it or not.
 
 ghost use Rattle.std.specs.Prelude.{◌≡◌, ◌<◌, length, IfOk};
 ghost use Rattle.gql_front.specs.Reads.{Reads};

@@ -1,4 +1,4 @@
-//! FILTER.
+//! FILTER and its predicate, with or without WHERE between them.
 
 ghost use Rattle.std.specs.Prelude.{◌≡◌, ◌<◌, ◌≤◌, length, IfOk};
 ghost use Rattle.gql_front.specs.Reads.{Reads};

@@ -1,4 +1,4 @@
-//! FOR.
+//! FOR: the name of an item, the list, and a counter that may be missing.
 
 ghost use Rattle.std.specs.Prelude.{◌≡◌, ◌<◌, ◌≤◌, length, IfOk};
 ghost use Rattle.gql_front.specs.Reads.{Reads, MayRead, Takes};

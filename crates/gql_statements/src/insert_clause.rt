@@ -1,4 +1,4 @@
-//! INSERT.
+//! INSERT and its paths: nodes, and edges with their symbols between them.
 
 ghost use Rattle.std.specs.Prelude.{◌≡◌, ◌<◌, ◌≤◌, length, IfOk};
 ghost use Rattle.gql_front.specs.Reads.{Reads, Takes};

@@ -1,4 +1,4 @@
-//! LET.
+//! LET: names and the expressions whose values they get.
 
 ghost use Rattle.std.specs.Prelude.{◌≡◌, ◌<◌, length, IfOk};
 ghost use Rattle.gql_front.specs.Reads.{Reads};

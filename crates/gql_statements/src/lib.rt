@@ -1,10 +1,7 @@
 //! Statements, read from lexemes.
 //!
-//! `parse` gives the statement that some lexemes as a whole derive. The crate's promise is that it answers a statement
-//! exactly where the grammar (`specs/StatementGrammar.antt`) derives one, and then the only one. It stands on
-//! `gql_patterns`, which reads the graph pattern behind MATCH, on `gql_type`, which reads the body of a graph type, on
-//! `gql_parts`, whose readers give expressions, lists, fillers and maps, on `gql_exprs` for how deep brackets are nested, on
-//! `gql_front`, on the lexemes of `gql_lexer` and on the trees of `gql_ast`.
+//! The promise: unless memory runs out, `parse` answers a statement exactly where some lexemes as a whole derive it
+//! (`specs/StatementGrammar.antt`) and brackets are nested at most 64 deep; lexemes derive one statement at most.
 #![tactic(auto)]
 
 mod catalog;

@@ -1,4 +1,4 @@
-//! The top call.
+//! The top call: brackets that are too deep are refused, and a statement has to leave no lexeme.
 
 ghost use Rattle.std.specs.Prelude.{◌≡◌, ◌^◌, ◌<◌, length, true, false, IfOk};
 ghost use Rattle.gql_front.specs.Gives.{IsSyntax, IsDeep};

@@ -1,4 +1,4 @@
-//! Queries.
+//! Queries: clauses with RETURN or a change at the end, where no two Page clauses stand side by side.
 
 ghost use Rattle.std.specs.Prelude.{◌≡◌, ◌<◌, ◌≤◌, ◌+◌, length, IfOk};
 ghost use Rattle.gql_front.specs.Gives.{Gives};

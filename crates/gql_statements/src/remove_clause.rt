@@ -1,4 +1,4 @@
-//! REMOVE.
+//! REMOVE: properties and labels of variables.
 
 ghost use Rattle.std.specs.Prelude.{◌≡◌, ◌<◌, length, IfOk};
 ghost use Rattle.gql_front.specs.Reads.{Reads};

@@ -1,4 +1,4 @@
-//! RETURN.
+//! RETURN: its columns, GROUP BY, and the sort keys and numbers of rows behind them.
 
 ghost use Rattle.std.specs.Prelude.{◌≡◌, ◌<◌, ◌≤◌, length, IfOk};
 ghost use Rattle.gql_front.specs.Reads.{Reads, MayRead};

@@ -1,4 +1,4 @@
-//! SET.
+//! SET: new values of properties, and labels that variables get.
 
 ghost use Rattle.std.specs.Prelude.{◌≡◌, ◌<◌, ◌≤◌, length, IfOk};
 ghost use Rattle.gql_front.specs.Reads.{Reads, MayRead};

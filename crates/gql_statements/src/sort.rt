@@ -1,4 +1,4 @@
-//! ORDER BY.
+//! ORDER BY: sort keys with their directions, and where nulls stand.
 
 ghost use Rattle.std.specs.Prelude.{◌≡◌, ◌<◌, ◌≤◌, length, IfOk};
 ghost use Rattle.gql_front.specs.Gives.{Finds};

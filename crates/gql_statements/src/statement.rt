@@ -1,4 +1,4 @@
-//! Statements.
+//! Statements: by the first word one on the session, on transactions, on graphs or graph types, else a query.
 
 ghost use Rattle.std.specs.Prelude.{◌≡◌, ◌<◌, ◌≤◌, length, IfOk};
 ghost use Rattle.gql_front.specs.Reads.{Reads, MayRead};

@@ -1,16 +1,14 @@
 -- Rows that join the groups of their keys, one after the other, give for each key the rows of that key: the key's group
 -- is there once, and a row changes no other.
-use Rattle.std.proofs.Common.{◌≡◌, ℕ, suc, ◌<◌, Bool, true, false, cond, not, List, [], ◌∷◌, ◌++◌, length, map, get_or, set, refl, sym, ap, subst, ◌∙◌, append_assoc, append-nil, length-append, arith}
+use Rattle.std.proofs.Common.{◌≡◌, Bool, true, false, cond, not, List, [], ◌∷◌, ◌++◌, length, map, refl, sym, ap, subst, ◌∙◌, append_assoc, append-nil, arith}
 use Rattle.std.specs.Prelude.{filter, ◌||◌}
-use Rattle.std.proofs.lemmas.List.{map-append}
 use Rattle.gql_values3.specs.Datum.{Datum}
 use Rattle.gql_eval.specs.RowLists.{RowList}
 use Rattle.gql_table.specs.Distinct.{same_row, distinct_rows}
-use Rattle.gql_table.specs.Machinery.Places.{among, place, added}
-use Rattle.gql_table.specs.Machinery.GroupPlan.{Gathered, joined_group, with_group, gathered_rows}
+use Rattle.gql_table.specs.Machinery.Places.{among, added}
+use Rattle.gql_table.specs.Machinery.GroupPlan.{Gathered, joined_group, gathered_rows}
 use Rattle.gql_table.proofs.RowOrder.{same_row_exact, same_row_itself}
-use Rattle.gql_table.proofs.PlaceLemmas.{news, news_of_none, among_more, news_more, news_known, or_right, or_false_left, or_false_right, place_new, place_known, place_last}
-use Rattle.gql_table.proofs.ReturnLemmas.{map_long}
+use Rattle.gql_table.proofs.PlaceLemmas.{news, news_of_none, among_more, news_more, news_known, or_right, or_false_left, or_false_right}
 
 -- the rows of a key, of rows whose keys are given
 abbrev pub with_key : List Datum → RowList → RowList → RowList
@@ -180,68 +178,3 @@ gathered_is gs (k ∷ ks) (r ∷ rs) long apart =
 -- the groups are those of each key, in the order of their first rows
 pub gathered_all : (keys rows : RowList) → length keys ≡ length rows → gathered_rows [] keys rows ≡ map (whole_group keys rows) (distinct_rows keys)
 gathered_all keys rows long = gathered_is [] keys rows long tt ∙ ap (map (whole_group keys rows)) (news_of_none (distinct_rows keys))
-
--- the group that a row joins, by its place
-at_case : (s : Bool) (g : Gathered) (gs more : List Gathered) (k r : List Datum) (m n : ℕ) (d : Gathered) → n ≡ cond s 0 (suc m)
-    → (s ≡ false → more ≡ set gs m ((get_or gs m d).0, (get_or gs m d).1 ++ r ∷ []))
-    → cond s ((g.0, g.1 ++ r ∷ []) ∷ gs) (g ∷ more) ≡ set (g ∷ gs) n ((get_or (g ∷ gs) n d).0, (get_or (g ∷ gs) n d).1 ++ r ∷ [])
-at_case true g gs more k r m n d p h = sym (ap (λ j. set (g ∷ gs) j ((get_or (g ∷ gs) j d).0, (get_or (g ∷ gs) j d).1 ++ r ∷ [])) p)
-at_case false g gs more k r m n d p h = ap (λ l. g ∷ l) (h refl) ∙ sym (ap (λ j. set (g ∷ gs) j ((get_or (g ∷ gs) j d).0, (get_or (g ∷ gs) j d).1 ++ r ∷ [])) p)
-
-below_case : (s : Bool) (m n : ℕ) → cond s 0 (suc m) < suc n → s ≡ false → m < n
-below_case true m n p q = absurd (cc)
-below_case false m n p q = omega (arith, p)
-
-pub joined_at : (gs : List Gathered) (k r : List Datum) (d : Gathered) → place (keys_of gs) k < length gs
-    → joined_group gs k r ≡ set gs (place (keys_of gs) k) ((get_or gs (place (keys_of gs) k) d).0, (get_or gs (place (keys_of gs) k) d).1 ++ r ∷ [])
-joined_at [] k r d p = absurd (omega (arith, p))
-joined_at (g ∷ gs) k r d p =
-    at_case (same_row g.0 k) g gs (joined_group gs k r) k r (place (keys_of gs) k) (place (keys_of (g ∷ gs)) k) d refl
-    (λ q. joined_at gs k r d (below_case (same_row g.0 k) (place (keys_of gs) k) (length gs) p q))
-
--- a new group may begin without the row
-joined_empty : (gs : List Gathered) (k r : List Datum) → among (keys_of gs) k ≡ false → joined_group (gs ++ (k, []) ∷ []) k r ≡ gs ++ (k, r ∷ []) ∷ []
-joined_empty [] k r p = ap (λ b. cond b ((k, r ∷ []) ∷ []) ((k, []) ∷ (k, r ∷ []) ∷ [])) (same_row_itself k)
-joined_empty (g ∷ gs) k r p =
-    let other : same_row g.0 k ≡ false = or_false_left (same_row g.0 k) (among (keys_of gs) k) p in
-    ap (λ b. cond b ((g.0, g.1 ++ r ∷ []) ∷ gs ++ (k, []) ∷ []) (g ∷ joined_group (gs ++ (k, []) ∷ []) k r)) other
-    ∙ ap (λ l. g ∷ l) (joined_empty gs k r (or_false_right (same_row g.0 k) (among (keys_of gs) k) p))
-
-opened_joined : (gs : List Gathered) (k r : List Datum) (b : Bool) → among (keys_of gs) k ≡ b → joined_group gs k r ≡ joined_group (cond b gs (gs ++ (k, []) ∷ [])) k r
-opened_joined gs k r true p = refl
-opened_joined gs k r false p = joined_new gs k r p ∙ sym (joined_empty gs k r p)
-
-opened_place : (gs : List Gathered) (k : List Datum) (b : Bool) → among (keys_of gs) k ≡ b → place (keys_of (cond b gs (gs ++ (k, []) ∷ []))) k ≡ place (keys_of gs) k
-opened_place gs k true p = refl
-opened_place gs k false p =
-    ap (λ ks. place ks k) (map-append (λ (g : Gathered). g.0) gs ((k, []) ∷ [])) ∙ place_last (keys_of gs) k k p (same_row_itself k) ∙ sym (place_new (keys_of gs) k p)
-
-opened_below : (gs : List Gathered) (k : List Datum) (b : Bool) → among (keys_of gs) k ≡ b → place (keys_of gs) k < length (cond b gs (gs ++ (k, []) ∷ []))
-opened_below gs k true p = omega (arith, place_known (keys_of gs) k p, map_long (λ (g : Gathered). g.0) gs)
-opened_below gs k false p = omega (arith, place_new (keys_of gs) k p, map_long (λ (g : Gathered). g.0) gs, length-append gs ((k, []) ∷ []))
-
-pub below_opened : (gs : List Gathered) (k : List Datum) → place (keys_of gs) k < length (with_group gs k)
-below_opened gs k = opened_below gs k (among (keys_of gs) k) refl
-
--- a row joins the group of its number, once the group is there
-pub joined_set : (gs : List Gathered) (k r : List Datum) (n : ℕ) (d : Gathered) → n ≡ place (keys_of gs) k
-    → joined_group gs k r ≡ set (with_group gs k) n ((get_or (with_group gs k) n d).0, (get_or (with_group gs k) n d).1 ++ r ∷ [])
-joined_set gs k r n d p =
-    let same : place (keys_of (with_group gs k)) k ≡ n = opened_place gs k (among (keys_of gs) k) refl ∙ sym p in
-    let below : place (keys_of (with_group gs k)) k < length (with_group gs k) = omega (arith, same, p, below_opened gs k) in
-    opened_joined gs k r (among (keys_of gs) k) refl ∙ joined_at (with_group gs k) k r d below
-    ∙ ap (λ j. set (with_group gs k) j ((get_or (with_group gs k) j d).0, (get_or (with_group gs k) j d).1 ++ r ∷ [])) same
-
-opened_if : (gs : List Gathered) (k : List Datum) (b : Bool) → among (keys_of gs) k ≡ b → place (keys_of gs) k ≡ length gs → cond b gs (gs ++ (k, []) ∷ []) ≡ gs ++ (k, []) ∷ []
-opened_if gs k true p q = absurd (omega (arith, place_known (keys_of gs) k p, map_long (λ (g : Gathered). g.0) gs, q))
-opened_if gs k false p q = refl
-
-pub opened_new : (gs : List Gathered) (k : List Datum) → place (keys_of gs) k ≡ length gs → with_group gs k ≡ gs ++ (k, []) ∷ []
-opened_new gs k p = opened_if gs k (among (keys_of gs) k) refl p
-
-stays_if : (gs : List Gathered) (k : List Datum) (b : Bool) → among (keys_of gs) k ≡ b → (place (keys_of gs) k ≡ length gs → ⊥) → cond b gs (gs ++ (k, []) ∷ []) ≡ gs
-stays_if gs k true p q = refl
-stays_if gs k false p q = absurd (q (place_new (keys_of gs) k p ∙ map_long (λ (g : Gathered). g.0) gs))
-
-pub opened_there : (gs : List Gathered) (k : List Datum) → (place (keys_of gs) k ≡ length gs → ⊥) → with_group gs k ≡ gs
-opened_there gs k p = stays_if gs k (among (keys_of gs) k) refl p

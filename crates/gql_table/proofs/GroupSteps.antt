@@ -1,13 +1,11 @@
 -- The steps of grouping's loops: what is done, and what is left.
-use Rattle.std.proofs.Common.{◌≡◌, ℕ, suc, ◌+◌, ◌-◌, ◌<◌, true, false, cond, List, [], ◌∷◌, ◌++◌, length, map, take, drop, drop-drop, length-append, refl, sym, ap, ◌∙◌, add-one, arith, Result, Ok, Err}
-use Rattle.std.specs.Prelude.{slice_index_or}
+use Rattle.std.proofs.Common.{◌≡◌, ℕ, suc, ◌+◌, ◌-◌, ◌<◌, true, false, cond, List, [], ◌∷◌, ◌++◌, length, map, take, drop, drop-drop, refl, sym, ap, ◌∙◌, add-one, arith, Result, Ok, Err}
 use Rattle.std.proofs.lemmas.List.{take-map, drop-map}
-use Rattle.gql_values3.specs.Datum.{Datum, null}
+use Rattle.gql_values3.specs.Datum.{Datum}
 use Rattle.gql_values3.specs.Meaning.{datum_of}
 use Rattle.gql_values3.specs.declared.value.Value.{Value}
 use Rattle.gql_values3.specs.PropertyGraph.{PropertyGraph}
 use Rattle.gql_values3.specs.declared.table.ColumnKind.TheVariants as kind
-use Rattle.gql_ast.specs.Aggregates.{considered, aggregated}
 use Rattle.gql_ast.specs.Projections.{has_none}
 use Rattle.gql_ast.specs.RowAggregates.{RowAggregate, result_name}
 use Rattle.gql_ast.specs.declared.fault.DataFault.{DataFault}
@@ -15,11 +13,10 @@ use Rattle.gql_eval.specs.Machinery.Next.{next}
 use Rattle.gql_eval.specs.Gives.{Fails}
 use Rattle.gql_eval.specs.declared.error.EvalError.{EvalError}
 use Rattle.gql_eval.specs.declared.error.EvalError.TheVariants as error
-use Rattle.gql_eval.specs.RowLists.{RowList}
 use Rattle.gql_table.specs.Sorting.{first_key, later_keys}
 use Rattle.gql_table.specs.Grouping.{results}
 use Rattle.gql_table.specs.Machinery.Preparations.{prepared_value}
-use Rattle.gql_table.specs.Machinery.GroupPlan.{PreparedPlan, Kept, names_from, note_in, kept_behind, rows_kept_behind, results_behind, values_in_group}
+use Rattle.gql_table.specs.Machinery.GroupPlan.{PreparedPlan, Kept, names_from, note_in, kept_behind, values_in_group}
 use Rattle.gql_eval.proofs.EachSteps.{fails_first, each_cons}
 use Rattle.gql_table.proofs.KeyLemmas.{later_drop}
 
@@ -49,32 +46,6 @@ fails_joined error.OutOfMemory r before then p = tt
 fails_joined (error.Fault f) (Ok ds) before then p = absurd (cc)
 fails_joined (error.Fault f) (Err x) before then p = let same : x ≡ f = cc in ap Err same
 
-module _ (rows : RowList) where
-  -- one result more
-  pub results_step : (done : List Datum) (left more : List RowAggregate) (a : RowAggregate) (d : Datum) → left ≡ a ∷ more
-      → aggregated a.makes (considered a.quantifier (map (λ (r : List Datum). slice_index_or r (length done) null) rows)) ≡ Ok d
-      → next (results (length done) left rows) (λ ds. Ok (done ++ ds)) ≡ next (results (length (done ++ d ∷ [])) more rows) (λ ds. Ok ((done ++ d ∷ []) ++ ds))
-  results_step done left more a d p q =
-      ap (λ l. next (results (length done) l rows) (λ ds. Ok (done ++ ds))) p
-      ∙ ap (λ (r : Result Datum DataFault). next (next r (λ x. next (results (suc (length done)) more rows) (λ ds. Ok (x ∷ ds)))) (λ ds. Ok (done ++ ds))) q
-      ∙ each_cons (λ (x : Datum). Ok x) (results (suc (length done)) more rows) done d
-      ∙ ap (λ n. next (results n more rows) (λ ds. Ok ((done ++ d ∷ []) ++ ds))) (sym (length-append done (d ∷ []) ∙ add-one (length done)))
-
-  pub results_fail : {B : Type 0} (done : List Datum) (left more : List RowAggregate) (a : RowAggregate) (e : EvalError) (then : List Datum → Result B DataFault) → left ≡ a ∷ more
-      → Fails e (aggregated a.makes (considered a.quantifier (map (λ (r : List Datum). slice_index_or r (length done) null) rows))) → Fails e (next (results (length done) left rows) then)
-  results_fail done left more a e then p q = rw p (fails_first e _ then (fails_first e _ _ q))
-
-  -- the results of one item more
-  pub behind_step : (done after : List Datum) (left more : List PreparedPlan) (p : PreparedPlan) → left ≡ p ∷ more → next (results (length done) p.aggregates rows) (λ ds. Ok (done ++ ds)) ≡ Ok after
-      → results_behind done left rows ≡ results_behind after more rows
-  behind_step done after left more p q given =
-      let by = joined_by (results (length done) p.aggregates rows) done after given in
-      ap (λ l. results_behind done l rows) q ∙ ap (λ (r : Result (List Datum) DataFault). next r (λ ds. results_behind (done ++ ds) more rows)) by.1 ∙ ap (λ ds. results_behind ds more rows) by.2
-
-  pub behind_fails : (done : List Datum) (left more : List PreparedPlan) (p : PreparedPlan) (e : EvalError) → left ≡ p ∷ more → Fails e (next (results (length done) p.aggregates rows) (λ ds. Ok (done ++ ds)))
-      → Fails e (results_behind done left rows)
-  behind_fails done left more p e q given = rw q (fails_joined e (results (length done) p.aggregates rows) done (λ ds. results_behind (done ++ ds) more rows) given)
-
 module _ (g : PropertyGraph) (row : List Datum) where
   -- a key more is kept
   pub key_step : (keys after arguments : List Datum) (left more : List PreparedPlan) (p : PreparedPlan) → left ≡ p ∷ more → has_none p.aggregates ≡ true
@@ -100,18 +71,6 @@ module _ (g : PropertyGraph) (row : List Datum) where
   pub note_fails : (kept : Kept) (before : List Datum) (left more : List PreparedPlan) (p : PreparedPlan) (e : EvalError) → left ≡ p ∷ more
       → Fails e (next (note_in g p row) (λ ds. Ok (before ++ ds))) → Fails e (kept_behind g kept left row)
   note_fails kept before left more p e q given = rw q (fails_joined e (note_in g p row) before _ given)
-
-module _ (g : PropertyGraph) (plan : List PreparedPlan) where
-  -- one row more is noted
-  pub row_step : (keys arguments left rest : RowList) (row k a : List Datum) → left ≡ row ∷ rest → kept_behind g ([], []) plan row ≡ Ok (k, a)
-      → rows_kept_behind g keys arguments plan left ≡ rows_kept_behind g (keys ++ k ∷ []) (arguments ++ a ∷ []) plan rest
-  row_step keys arguments left rest row k a q given =
-      ap (rows_kept_behind g keys arguments plan) q
-      ∙ ap (λ (r : Result Kept DataFault). next r (λ kept. rows_kept_behind g (keys ++ kept.0 ∷ []) (arguments ++ kept.1 ∷ []) plan rest)) given
-
-  pub row_fails : (keys arguments left rest : RowList) (row : List Datum) (e : EvalError) → left ≡ row ∷ rest → Fails e (kept_behind g ([], []) plan row)
-      → Fails e (rows_kept_behind g keys arguments plan left)
-  row_fails keys arguments left rest row e q given = rw q (fails_first e _ _ given)
 
 module _ (g : PropertyGraph) (keys done : List Datum) where
   -- the value of a key more
@@ -143,25 +102,6 @@ module _ (g : PropertyGraph) (keys done : List Datum) where
       → Fails e (prepared_value g p.whole (take (length p.aggregates) (drop from done)))
       → Fails e (next (values_in_group g left (drop key keys) (drop from done)) then)
   whole_fails key from left more p e then q k given = rw (q, k) (fails_first e _ then (fails_first e _ _ given))
-
--- as many keys as rows of arguments
-module _ (g : PropertyGraph) (plan : List PreparedPlan) where
-  both_case : (rows keys arguments K A : RowList) (r : Result Kept DataFault) → length keys ≡ length arguments
-      → ((k a : RowList) → length k ≡ length a → rows_kept_behind g k a plan rows ≡ Ok (K, A) → length K ≡ length A)
-      → next r (λ kept. rows_kept_behind g (keys ++ kept.0 ∷ []) (arguments ++ kept.1 ∷ []) plan rows) ≡ Ok (K, A) → length K ≡ length A
-  both_case rows keys arguments K A (Err f) same more given = absurd (cc)
-  both_case rows keys arguments K A (Ok kept) same more given =
-      more (keys ++ kept.0 ∷ []) (arguments ++ kept.1 ∷ []) (omega (arith, same, length-append keys (kept.0 ∷ []), length-append arguments (kept.1 ∷ []))) given
-
-  pub both_long : (rows keys arguments K A : RowList) → length keys ≡ length arguments → rows_kept_behind g keys arguments plan rows ≡ Ok (K, A) → length K ≡ length A
-  both_long [] keys arguments K A same given =
-      let it = inside given in
-      sym (ap (λ (t : RowList × RowList). length t.0) it) ∙ same ∙ ap (λ (t : RowList × RowList). length t.1) it
-    where
-      inside : {x y : RowList × RowList} → ◌≡◌ {A = Result (RowList × RowList) DataFault} (Ok x) (Ok y) → x ≡ y
-      inside q = cc
-  both_long (row ∷ rows) keys arguments K A same given =
-      both_case rows keys arguments K A (kept_behind g ([], []) plan row) same (λ k a p q. both_long rows k a K A p q) given
 
 -- a part of the results
 pub part_is : (results : List Value) (from m k : ℕ) → m ≡ k → map datum_of (take m (drop from results)) ≡ take k (drop from (map datum_of results))

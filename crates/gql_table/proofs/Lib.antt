@@ -11,6 +11,8 @@ pub mod GatherLemmas
 pub mod NoteLemmas
 pub mod ResultLemmas
 pub mod GroupedLemmas
+pub mod RunningLemmas
+pub mod StoodLemmas
 pub mod GroupSteps
 pub mod AroundLemmas
 pub mod FitSteps

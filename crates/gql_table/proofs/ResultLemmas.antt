@@ -22,7 +22,7 @@ use Rattle.gql_eval.specs.Machinery.Next.{next}
 use Rattle.gql_eval.specs.RowLists.{RowList}
 use Rattle.gql_table.specs.Sorting.{first_key, later_keys}
 use Rattle.gql_table.specs.Grouping.{Note, key_in, notes_at, results, result_columns, group_part, group_parts, item_value, item_values}
-use Rattle.gql_table.specs.Machinery.GroupPlan.{PreparedPlan, names_from, results_behind, value_in_group, values_in_group, keys_behind, result_count}
+use Rattle.gql_table.specs.Machinery.GroupPlan.{names_from, results_behind, value_in_group, values_in_group, keys_behind}
 use Rattle.gql_table.proofs.ReturnLemmas.{next_next, each_length_cons}
 use Rattle.gql_table.proofs.NoteLemmas.{plan_of, plans, arguments_in, Shaped, width_of, both_ok}
 
@@ -357,19 +357,3 @@ module _ (g : PropertyGraph) (params : List (List ℕ × Datum)) (columns : Colu
 pub considered_same : (q : SetQuantifier) (ds es : List Datum) → filter (λ d. not (is_null d)) ds ≡ filter (λ d. not (is_null d)) es → considered q ds ≡ considered q es
 considered_same quantifier.All ds es p = p
 considered_same quantifier.Distinct ds es p = ap distinct p
-
--- as many results as the items have
-long_case : (rows : RowList) (done : List Datum) (p : PreparedPlan) (ps : List PreparedPlan) (ds : List Datum) (r : Result (List Datum) DataFault)
-    → ((es : List Datum) → r ≡ Ok es → length es ≡ length p.aggregates)
-    → ((d : List Datum) → results_behind d ps rows ≡ Ok ds → length ds ≡ length d + result_count ps)
-    → next r (λ es. results_behind (done ++ es) ps rows) ≡ Ok ds → length ds ≡ length done + (length p.aggregates + result_count ps)
-long_case rows done p ps ds (Err f) long more given = absurd (cc)
-long_case rows done p ps ds (Ok es) long more given = omega (arith, long es refl, more (done ++ es) given, length-append done es)
-
-pub behind_long : (rows : RowList) (done : List Datum) (ps : List PreparedPlan) (ds : List Datum) → results_behind done ps rows ≡ Ok ds → length ds ≡ length done + result_count ps
-behind_long rows done [] ds given = sym (ap length (inside given)) ∙ sym (add-zero (length done))
-  where
-    inside : {x y : List Datum} → ◌≡◌ {A = Result (List Datum) DataFault} (Ok x) (Ok y) → x ≡ y
-    inside q = cc
-behind_long rows done (p ∷ ps) ds given =
-    long_case rows done p ps ds (results (length done) p.aggregates rows) (λ es q. results_long (length done) p.aggregates rows es q) (λ d q. behind_long rows d ps ds q) given

@@ -6,4 +6,7 @@ pub mod GroupPlan
 pub mod Places
 pub mod Preparations
 pub mod Ranked
+pub mod RowKeys
+pub mod Running
+pub mod StandingMeaning
 pub mod Width

@@ -1,16 +1,18 @@
 //! The output rows of a grouped RETURN, one for each group.
 
 ghost use Rattle.std.specs.Prelude.{◌≡◌, map, length, drop, IfOk};
+ghost use Rattle.std.specs.List.{AllByRecursion};
 ghost use Rattle.gql_values3.specs.Meaning.{datum_of};
 ghost use Rattle.gql_ast.specs.Faults.{each};
 ghost use Rattle.gql_eval.specs.Gives.{Gives};
 ghost use Rattle.gql_table.specs.Sorting.{first_key};
-ghost use Rattle.gql_table.specs.Machinery.GroupPlan.{row_of_group, values_in_group, result_count};
+ghost use Rattle.gql_table.specs.Machinery.GroupPlan.{values_in_group, result_count};
+ghost use Rattle.gql_table.specs.Machinery.Running.{row_of_stood, Wide};
 ghost use Rattle.gql_table.specs.Machinery.GroupMeaning.{group_meant};
 
 use crate::group_results::group_results;
 use crate::grouping::Grouping;
-use crate::groups::Group;
+use crate::new_group::Group;
 use crate::prepared::prepared_cell;
 use crate::room::empty_row;
 use crate::sorting::value_at;
@@ -20,7 +22,8 @@ use std::alloc::Global;
 
 /// The row of each group.
 pub fn group_rows<V: View>(grouping: &Grouping<V>, groups: &[Group]) -> Result<Rows, EvalError>
-    ensures { Gives (λ r. r) result (each (row_of_group (V.graph grouping.now.view.now) grouping.now.items.now) (map group_meant groups.now)) }
+    requires wide { AllByRecursion (Wide grouping.now.items.now) (map group_meant groups.now) }
+    ensures { Gives (λ r. r) result (each (row_of_stood (V.graph grouping.now.view.now) grouping.now.items.now) (map group_meant groups.now)) }
 {
     let mut done = Rows::new(grouping.alloc);
     for i in 0..groups.len() {
@@ -31,10 +34,11 @@ pub fn group_rows<V: View>(grouping: &Grouping<V>, groups: &[Group]) -> Result<R
 
 /// All results come before the items around them.
 fn group_row<V: View>(grouping: &Grouping<V>, group: &Group) -> Result<Row, EvalError>
-    ensures { Gives (λ r. r) result (row_of_group (V.graph grouping.now.view.now) grouping.now.items.now (group_meant group.now)) }
+    requires wide { Wide grouping.now.items.now (group_meant group.now) }
+    ensures { Gives (λ r. r) result (row_of_stood (V.graph grouping.now.view.now) grouping.now.items.now (group_meant group.now)) }
 {
-    let results = group_results(grouping.alloc, grouping.items, group.rows.as_slice())?;
-    item_values(grouping, group.key, results.as_slice())
+    let results = group_results(grouping.alloc, group.states.as_slice())?;
+    item_values(grouping, group.key.as_slice(), results.as_slice())
 }
 
 /// The values of the items, of a group's key and its results.

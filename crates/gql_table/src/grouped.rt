@@ -14,8 +14,7 @@ use crate::group_items::{GroupItem, group_items};
 use crate::group_rows::group_rows;
 use crate::grouping::Grouping;
 use crate::groups::groups_of_rows;
-use crate::notes::noted_table;
-use crate::prepared_items::{PreparedItem, any_key, prepare_group_items};
+use crate::prepared_items::{PreparedItem, prepare_group_items};
 use gql_ast::{Expr, ReturnItem, ReturnItems};
 use gql_eval::EvalError;
 use gql_values3::{ColumnKind, Columns, OutOfMemory, Params, Rows, Text, Value, View};
@@ -98,14 +97,11 @@ fn prepared_rows<V: View>(
     rows_by_group(&grouping, rows)
 }
 
-/// First every row is noted, and then each group gives its row.
+/// First every row joins its group, and then each group gives its row.
 fn rows_by_group<V: View>(grouping: &Grouping<V>, rows: Rows) -> Result<Rows, EvalError>
     ensures { Gives (λ r. r) result (rows_with_plan (V.graph grouping.now.view.now) grouping.now.items.now rows) }
 {
-    let alloc = grouping.alloc;
-    let (keys, arguments) = noted_table(grouping, rows)?;
-    let keyed = any_key(grouping.items);
-    let groups = groups_of_rows(alloc, keyed, keys.as_slice(), arguments.as_slice())?;
+    let groups = groups_of_rows(grouping, rows)?;
     group_rows(grouping, groups.as_slice())
 }
 

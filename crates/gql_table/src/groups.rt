@@ -1,102 +1,106 @@
-//! Groups of rows of equal keys.
+//! Groups of rows of equal keys, as they grow row by row. Of a row nothing stays but what the aggregates of its group
+//! keep.
 
-ghost use Rattle.std.specs.Prelude.{◌≡◌, [], false, map, length, IfOk, OnOk};
-ghost use Rattle.gql_table.specs.Machinery.Places.{place, places};
-ghost use Rattle.gql_table.specs.Machinery.GroupPlan.{joined_group, with_group, gathered_rows, all_groups};
+ghost use Rattle.std.specs.Prelude.{◌≡◌, map, IfOk, OnOk};
+ghost use Rattle.gql_values3.specs.Meaning.{datum_of};
+ghost use Rattle.gql_eval.specs.Gives.{Gives};
+ghost use Rattle.gql_table.specs.Machinery.Places.{place};
+ghost use Rattle.gql_table.specs.Machinery.Running.{begun_all, stood_keys, with_stood, joined_stood, first_stood, stood_behind, opened_stood};
 ghost use Rattle.gql_table.specs.Machinery.GroupMeaning.{group_meant};
+ghost use Rattle.gql_table.specs.Machinery.RowKeys.{HasKeys};
 
-use crate::numbering::group_numbers;
-use gql_values3::{OutOfMemory, Row, Value};
+use crate::grouping::Grouping;
+use crate::new_group::{Group, new_group};
+use crate::notes::noted_row;
+use crate::prepared_items::{PreparedItem, any_key};
+use crate::row_key::RowKey;
+use crate::running::go_on_by_row;
+use gql_eval::EvalError;
+use gql_values3::{OutOfMemory, Row, Rows, Value, View};
 use std::alloc::Global;
+use std::collections::BTreeMap;
 
-/// The key of some rows, and the arguments of each of them.
-#[derive(Drop)]
-pub struct Group<'a> {
-    pub key: &'a [Value],
-    pub rows: Vec<&'a Row>,
-}
-
-/// The groups of rows of which the keys and the arguments are given, in the order of their first rows. Without keys
-/// there is one group, also over no rows. Takes n log n comparisons.
-pub fn groups_of_rows<'a>(
-    alloc: Global,
-    keyed: bool,
-    keys: &'a [Row],
-    arguments: &'a [Row],
-) -> Result<Vec<Group<'a>>, OutOfMemory>
-    requires { length keys.now ≡ length arguments.now }
-    ensures { IfOk result (λ groups. map group_meant groups.items ≡ all_groups keyed keys.now arguments.now) }
+/// The groups of the rows, in the order of their first rows. Without keys there is one group, also over no rows. Each
+/// key and each argument is evaluated once, row by row and item by item. Takes n log n comparisons.
+pub fn groups_of_rows<V: View>(grouping: &Grouping<V>, rows: Rows) -> Result<Vec<Group>, EvalError>
+    ensures { Gives (λ groups. map group_meant groups.items) result (stood_behind (V.graph grouping.now.view.now) (first_stood grouping.now.items.now) grouping.now.items.now rows) }
 {
-    if keyed {
-        let numbers = group_numbers(alloc, keys)?;
-        keyed_groups(alloc, keys, arguments, numbers.as_slice())
-    } else {
-        one_group(alloc, arguments)
-    }
-}
-
-/// All rows, under no key.
-fn one_group<'a>(alloc: Global, arguments: &'a [Row]) -> Result<Vec<Group<'a>>, OutOfMemory>
-    ensures { IfOk result (λ groups. map group_meant groups.items ≡ all_groups false [] arguments.now) }
-{
-    let mut rows = Vec::new(alloc);
-    for i in 0..arguments.len() {
-        rows.push(&arguments[i])?;
-    }
-    let mut groups = Vec::new(alloc);
-    groups.push(Group { key: &[], rows })?;
-    Ok(groups)
-}
-
-/// The rows, each in the group of its number.
-fn keyed_groups<'a>(
-    alloc: Global,
-    keys: &'a [Row],
-    arguments: &'a [Row],
-    numbers: &[usize],
-) -> Result<Vec<Group<'a>>, OutOfMemory>
-    requires long { length keys.now ≡ length arguments.now }
-    requires numbers { numbers.now ≡ places [] keys.now }
-    ensures { IfOk result (λ groups. map group_meant groups.items ≡ gathered_rows [] keys.now arguments.now) }
-{
-    let mut groups = Vec::new(alloc);
-    for i in 0..keys.len() {
-        join_group(alloc, &mut groups, numbers[i], &keys[i], &arguments[i])?;
+    let alloc = grouping.alloc;
+    let items = grouping.items;
+    let mut seen: BTreeMap<RowKey, usize> = BTreeMap::new(alloc);
+    let mut groups: Vec<Group> = Vec::new(alloc);
+    open_first(alloc, items, &mut seen, &mut groups)?;
+    for row in rows.into_vec() {
+        let (key, arguments) = noted_row(grouping, row.as_slice())?;
+        join_group(
+            alloc,
+            items,
+            &mut seen,
+            &mut groups,
+            key,
+            arguments.as_slice(),
+        )?;
     }
     Ok(groups)
 }
 
-/// Adds a row to the group of this number. A new group stands behind the others.
-fn join_group<'a>(
+/// Begins the one group that there is without keys.
+fn open_first(
     alloc: Global,
-    groups: &mut Vec<Group<'a>>,
-    number: usize,
-    key: &'a Row,
-    row: &'a Row,
+    items: &[PreparedItem],
+    seen: &mut BTreeMap<RowKey, usize>,
+    groups: &mut Vec<Group>,
 ) -> Result<(), OutOfMemory>
-    requires { number ≡ place (map (λ g. g.0) (map group_meant groups.old.items)) key.now }
-    ensures { OnOk result (map group_meant groups.new.items ≡ joined_group (map group_meant groups.old.items) key.now row.now) }
+    requires { HasKeys seen.old (stood_keys (map group_meant groups.old.items)) }
+    ensures groups { OnOk result (map group_meant groups.new.items ≡ opened_stood items.now (map group_meant groups.old.items)) }
+    ensures seen { OnOk result (HasKeys seen.new (stood_keys (map group_meant groups.new.items))) }
 {
-    open_group(alloc, groups, number, key)?;
-    groups[number].rows.push(row)?;
+    if any_key(items) {
+        return Ok(());
+    }
+    group_number(alloc, items, seen, groups, Row::new(alloc))?;
     Ok(())
 }
 
-/// Adds a group of this key, where its number is that of a new one.
-fn open_group<'a>(
+/// A row's arguments join the group of its key. A new group stands behind the others.
+fn join_group(
     alloc: Global,
-    groups: &mut Vec<Group<'a>>,
-    number: usize,
-    key: &'a Row,
+    items: &[PreparedItem],
+    seen: &mut BTreeMap<RowKey, usize>,
+    groups: &mut Vec<Group>,
+    key: Row,
+    arguments: &[Value],
 ) -> Result<(), OutOfMemory>
-    requires { number ≡ place (map (λ g. g.0) (map group_meant groups.old.items)) key.now }
-    ensures { OnOk result (map group_meant groups.new.items ≡ with_group (map group_meant groups.old.items) key.now) }
+    requires { HasKeys seen.old (stood_keys (map group_meant groups.old.items)) }
+    ensures groups { OnOk result (map group_meant groups.new.items ≡ joined_stood (begun_all items.now) (map group_meant groups.old.items) key (map datum_of arguments.now)) }
+    ensures seen { OnOk result (HasKeys seen.new (stood_keys (map group_meant groups.new.items))) }
 {
-    if number == groups.len() {
-        groups.push(Group {
-            key: key.as_slice(),
-            rows: Vec::new(alloc),
-        })?;
-    }
+    let number = group_number(alloc, items, seen, groups, key)?;
+    go_on_by_row(alloc, &mut groups[number].states, arguments)?;
     Ok(())
+}
+
+/// The number of the key's group, which is opened where there is none.
+fn group_number(
+    alloc: Global,
+    items: &[PreparedItem],
+    seen: &mut BTreeMap<RowKey, usize>,
+    groups: &mut Vec<Group>,
+    key: Row,
+) -> Result<usize, OutOfMemory>
+    requires { HasKeys seen.old (stood_keys (map group_meant groups.old.items)) }
+    ensures number { IfOk result (λ number. number ≡ place (stood_keys (map group_meant groups.old.items)) key) }
+    ensures groups { OnOk result (map group_meant groups.new.items ≡ with_stood (begun_all items.now) (map group_meant groups.old.items) key) }
+    ensures seen { OnOk result (HasKeys seen.new (stood_keys (map group_meant groups.new.items))) }
+{
+    let key = RowKey { row: key };
+    match seen.get(&key) {
+        Some(number) => Ok(*number),
+        None => {
+            let number = groups.len();
+            groups.push(new_group(alloc, items, &key.row)?)?;
+            seen.insert(key, number)?;
+            Ok(number)
+        }
+    }
 }

@@ -9,11 +9,12 @@ ghost use Rattle.gql_eval.specs.Gives.{Gives};
 
 use crate::columns::{copy_columns, expr_kind};
 use crate::prepared::{prepare, prepared_cell};
-use crate::room::{empty_rows, with_room};
+use crate::room::with_room;
 use gql_ast::LetItem;
 use gql_eval::{EvalError, Prepared};
 use gql_values3::{ColumnKind, Columns, OutOfMemory, Params, Row, Rows, Text, View};
 use std::alloc::Global;
+use std::mem;
 
 /// The columns behind LET: one for each item, behind those before.
 pub fn columns_after_let(
@@ -70,7 +71,7 @@ fn prepare_lets<'a>(
     Ok(all)
 }
 
-/// The rows with the values of the items.
+/// The rows with the values of the items, each in the place of the one that it was.
 fn rows_with<V: View>(
     alloc: Global,
     view: &V,
@@ -79,12 +80,12 @@ fn rows_with<V: View>(
 ) -> Result<Rows, EvalError>
     ensures { Gives (λ r. r) result (each (row_with (V.graph view.now) items.now) rows) }
 {
-    let mut done = empty_rows(alloc, rows.len())?;
-    for row in rows.into_vec() {
-        let longer = row_after_let(alloc, view, items, row)?;
-        done.push(longer)?;
+    let mut all = rows.into_vec();
+    for i in 0..all.len() {
+        let row = mem::replace(&mut all[i], Row::new(alloc));
+        all[i] = row_after_let(alloc, view, items, row)?;
     }
-    Ok(done)
+    Ok(Rows::from_vec(all))
 }
 
 /// The row with the values of the items, each seen by the next.

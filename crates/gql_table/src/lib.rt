@@ -20,6 +20,7 @@ mod grouped_return;
 mod grouping;
 mod groups;
 mod let_clause;
+mod new_group;
 mod notes;
 mod numbering;
 mod ordering;
@@ -32,7 +33,10 @@ mod ranked;
 mod return_columns;
 mod room;
 mod row_aggregates;
+mod row_key;
+mod running;
 mod sorting;
+mod sums;
 
 pub use clauses::apply;
 pub use columns::copy_columns;

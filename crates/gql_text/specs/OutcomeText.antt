@@ -44,6 +44,7 @@ abbrev pub elem_text : Elem → List ℕ
 elem_text (elem.Node n) = node_text n.0
 elem_text (elem.Edge e) = edge_text e.0
 
+-- the word of a data fault
 abbrev pub fault_text : DataFault → List ℕ
 fault_text fault.DivideByZero = codes "DIVIDE_BY_ZERO"
 fault_text fault.Overflow = codes "OVERFLOW"
@@ -59,6 +60,7 @@ column_text (column.Name x) = name_text x
 column_text (column.Property p) = any_name_text p
 column_text column.All = codes "*"
 
+-- the word of a kind of element
 abbrev pub elem_kind_text : ElemKind → List ℕ
 elem_kind_text elem_kind.Node = codes "NODE"
 elem_kind_text elem_kind.Edge = codes "EDGE"
@@ -91,6 +93,7 @@ refusal_text refusal.Store = codes "E22 STORE"
 refusal_text (refusal.Parameter p) = codes "E23 PARAM $" ++ name_text p
 refusal_text (refusal.Full k) = codes "E24 FULL " ++ elem_kind_text k
 
+-- what is printed for the outcome of a statement: the line `ok`, a table, or the line of a refusal
 abbrev pub outcome_text : Outcome → List ℕ
 outcome_text outcome.Done = line (codes "ok")
 outcome_text (outcome.Table t) = table_text t

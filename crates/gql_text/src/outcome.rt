@@ -17,6 +17,9 @@ use std::mem;
 /// How many bytes of a table's rows are gathered before they are added.
 const PART: usize = 65_536;
 
+/// How many bytes a row is guessed to take.
+const ROW: usize = 16;
+
 /// Adds what is printed for an outcome to the bytes; an Err leaves them as they were. A table is added part by part, so
 /// that its text stands in memory once.
 pub fn put_outcome(alloc: Global, outcome: &Outcome, out: &mut Bytes) -> Result<(), OutOfMemory>
@@ -105,7 +108,8 @@ fn add_rows(alloc: Global, rows: &[Row], out: &mut Bytes) -> Result<(), OutOfMem
     ensures ok { OnOk result (out.new ≡ out.old ++ flat_map row_text rows.now) }
     ensures err { OnErr result (BeginsWith out.old out.new) }
 {
-    let mut part = Text::new(alloc);
+    let room = rows.len().saturating_mul(ROW).min(PART);
+    let mut part = Text::with_room(alloc, room)?;
     for row in rows {
         add_row(alloc, row.as_slice(), &mut part, out)?;
     }
@@ -135,7 +139,7 @@ fn hand_over(alloc: Global, part: &mut Text, out: &mut Bytes) -> Result<(), OutO
     ensures begins { BeginsWith out.old out.new }
 {
     out.append(part.as_str().as_bytes())?;
-    *part = Text::new(alloc);
+    *part = Text::with_room(alloc, PART)?;
     Ok(())
 }
 

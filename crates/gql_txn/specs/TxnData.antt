@@ -17,18 +17,21 @@ pub record TxnData : Type 0 where
 abbrev pub settled : CatalogData → TxnData
 settled c = record { catalog = c; kept = c; access = None }
 
+-- statements see another catalog; the kept one and the transaction stay
 abbrev pub with_catalog : TxnData → CatalogData → TxnData
 with_catalog t c = record { catalog = c; kept = t.kept; access = t.access }
 
--- the type of the graph of this name, where it has one
+-- the type of this name among these types, where a name is given
 abbrev pub type_named : List (List ℕ × GraphType) → Option (List ℕ) → Option GraphType
 type_named types None = None
 type_named types (Some name) = named name types
 
+-- the type of a graph of the catalog, where there is such a graph and it has one
 abbrev pub type_of_held : CatalogData → Option CatalogGraph → Option GraphType
 type_of_held c None = None
 type_of_held c (Some g) = type_named c.types g.kind
 
+-- the type of the graph of this name, where it has one
 abbrev pub type_of_graph : CatalogData → List ℕ → Option GraphType
 type_of_graph c name = type_of_held c (held_in c name)
 

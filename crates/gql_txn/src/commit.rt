@@ -1,3 +1,5 @@
+//! Why a commit fails.
+
 use gql_ports::KeepFault;
 use gql_values3::OutOfMemory;
 

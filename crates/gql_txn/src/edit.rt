@@ -1,3 +1,5 @@
+//! Why a graph of a catalog is not replaced.
+
 use gql_type::Misfit;
 use gql_values3::OutOfMemory;
 

@@ -1,3 +1,5 @@
+//! The catalog as it is kept, copied while the one that statements see changes.
+
 ghost use Rattle.std.specs.Prelude.{◌≡◌, Some, OnOk, OnErr};
 ghost use Rattle.gql_txn.specs.Machinery.Meaning.{kept_of};
 

@@ -1,11 +1,12 @@
 //! The catalog for which the kept records stand.
 ghost use Rattle.std.specs.Prelude.{◌≡◌, ◌≢◌, ◌≤◌, ◌++◌, [], ◌∷◌, ℕ, Some, IfOk, IfErr, OnOk, MatchResult, ◌⊎◌, IsTrue};
-ghost use Rattle.gql_ports.specs.Causes.{Rose};
+ghost use Rattle.gql_ports.specs.Causes.{Rose, count_after};
 ghost use Rattle.gql_ports.specs.Held.{Holding};
 ghost use Rattle.gql_graph.specs.Catalog.{CatalogData};
 ghost use Rattle.gql_type.specs.SoundCatalog.{is_sound};
 ghost use Rattle.gql_rowcode.specs.StandFor.{StandFor};
 ghost use Rattle.gql_rowcode.specs.FirstBad.{FirstBad};
+ghost use Rattle.gql_txn.specs.Faults.{after_loading};
 ghost use Rattle.gql_txn.specs.Loads.{LoadCause, is_lack};
 
 use gql_graph::Catalog;
@@ -45,6 +46,7 @@ pub fn load_opened<K: Keeper>(alloc: Global, keeper: &mut K) -> Result<Catalog, 
     ensures kept { K.held keeper.new ≡ K.held keeper.old }
     ensures later { K.faults keeper.old ≤ K.faults keeper.new }
     ensures failed { result ≡ Err LoadFault.Failed → Rose (K.faults keeper.old) (K.faults keeper.new) }
+    ensures risen { K.faults keeper.new ≡ after_loading result (K.faults keeper.old) }
 {
     match fetch_all(alloc, keeper) {
         Ok(records) => read_records(alloc, records.as_slice()),
@@ -72,6 +74,7 @@ fn fetch_all<K: Keeper>(alloc: Global, keeper: &mut K) -> Result<Vec<Record>, Ke
     ensures kept { K.held keeper.new ≡ K.held keeper.old }
     ensures later { K.faults keeper.old ≤ K.faults keeper.new }
     ensures failed { result ≡ Err KeepFault.Failed → Rose (K.faults keeper.old) (K.faults keeper.new) }
+    ensures risen { K.faults keeper.new ≡ count_after result (K.faults keeper.old) }
 {
     let mut records = Vec::new(alloc);
     for index in 0..keeper.len() {

@@ -6,6 +6,7 @@ ghost use Rattle.gql_ports.specs.Causes.{Rose};
 ghost use Rattle.gql_ports.specs.Held.{keys_ascend};
 ghost use Rattle.gql_ports.specs.Told.{MatchTold};
 ghost use Rattle.gql_type.specs.SoundCatalog.{is_sound};
+ghost use Rattle.gql_txn.specs.Faults.{after_commit};
 ghost use Rattle.gql_txn.specs.Keeps.{Keeps, IsSameStore};
 ghost use Rattle.gql_txn.specs.Machinery.Changes.{puts_of, drops_of};
 ghost use Rattle.gql_txn.specs.Machinery.Storing.{AppliesInOrder, Leads};
@@ -32,6 +33,7 @@ pub fn store<K: Keeper>(
     ensures idle { catalog.now ≡ kept.now → (K.held keeper.new ≡ K.held keeper.old) × (K.faults keeper.new ≡ K.faults keeper.old) × (result ≢ Err CommitFault.Store) }
     ensures later { K.faults keeper.old ≤ K.faults keeper.new }
     ensures failed { result ≡ Err CommitFault.Store → Rose (K.faults keeper.old) (K.faults keeper.new) }
+    ensures risen { K.faults keeper.new ≡ after_commit result (K.faults keeper.old) }
 {
     let before = records(alloc, kept)?;
     let after = records(alloc, catalog)?;
@@ -50,6 +52,7 @@ fn store_records<K: Keeper>(
     ensures idle { after.now ≡ before.now → (K.held keeper.new ≡ K.held keeper.old) × (K.faults keeper.new ≡ K.faults keeper.old) × (result ≢ Err CommitFault.Store) }
     ensures later { K.faults keeper.old ≤ K.faults keeper.new }
     ensures failed { result ≡ Err CommitFault.Store → Rose (K.faults keeper.old) (K.faults keeper.new) }
+    ensures risen { K.faults keeper.new ≡ after_commit result (K.faults keeper.old) }
 {
     let changes = changes_of(alloc, before, after)?;
     if changes.is_none() {
@@ -74,6 +77,7 @@ fn store_changes<K: Keeper>(
     ensures stays { OnErr result (K.held keeper.new ≡ K.held keeper.old) }
     ensures later { K.faults keeper.old ≤ K.faults keeper.new }
     ensures failed { result ≡ Err CommitFault.Store → Rose (K.faults keeper.old) (K.faults keeper.new) }
+    ensures risen { K.faults keeper.new ≡ after_commit result (K.faults keeper.old) }
 {
     if keeper.len() == 0 {
         tell_all(alloc, keeper, after)
@@ -88,6 +92,7 @@ fn tell_all<K: Keeper>(alloc: Global, keeper: &mut K, after: &Records) -> Result
     ensures stays { OnErr result (K.held keeper.new ≡ K.held keeper.old) }
     ensures later { K.faults keeper.old ≤ K.faults keeper.new }
     ensures failed { result ≡ Err CommitFault.Store → Rose (K.faults keeper.old) (K.faults keeper.new) }
+    ensures risen { K.faults keeper.new ≡ after_commit result (K.faults keeper.old) }
 {
     let all = changes_of(alloc, &Records::new(alloc), after)?;
     tell(keeper, &all)
@@ -100,6 +105,7 @@ fn tell<K: Keeper>(keeper: &mut K, changes: &Changes) -> Result<(), CommitFault>
     ensures stays { OnErr result (K.held keeper.new ≡ K.held keeper.old) }
     ensures later { K.faults keeper.old ≤ K.faults keeper.new }
     ensures failed { result ≡ Err CommitFault.Store → Rose (K.faults keeper.old) (K.faults keeper.new) }
+    ensures risen { K.faults keeper.new ≡ after_commit result (K.faults keeper.old) }
 {
     match keeper.apply(changes.puts.as_slice(), changes.drops.as_slice()) {
         Ok(()) => {

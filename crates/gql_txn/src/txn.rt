@@ -11,6 +11,7 @@ ghost use Rattle.gql_type.specs.GraphTypes.{is_graph_type};
 ghost use Rattle.gql_type.specs.SoundCatalog.{is_sound};
 ghost use Rattle.gql_txn.specs.TxnData.{settled, with_catalog, misfit_in, new_graph};
 ghost use Rattle.gql_txn.specs.Edits.{IsMisfit, is_unused};
+ghost use Rattle.gql_txn.specs.Faults.{after_commit, after_loading};
 ghost use Rattle.gql_txn.specs.Keeps.{Keeps, IsSameStore};
 ghost use Rattle.gql_txn.specs.Loads.{LoadCause, is_lack};
 
@@ -64,6 +65,7 @@ impl Txn {
         ensures kept { K.held keeper.new ≡ K.held keeper.old }
         ensures later { K.faults keeper.old ≤ K.faults keeper.new }
         ensures failed { result ≡ Err LoadFault.Failed → Rose (K.faults keeper.old) (K.faults keeper.new) }
+        ensures risen { K.faults keeper.new ≡ after_loading result (K.faults keeper.old) }
     {
         match load_opened(alloc, keeper) {
             Ok(catalog) => Ok(Txn {
@@ -190,6 +192,7 @@ impl Txn {
         ensures idle { self.old.catalog ≡ self.old.kept → (K.held keeper.new ≡ K.held keeper.old) × (K.faults keeper.new ≡ K.faults keeper.old) × (result ≢ Err CommitFault.Store) }
         ensures later { K.faults keeper.old ≤ K.faults keeper.new }
         ensures failed { result ≡ Err CommitFault.Store → Rose (K.faults keeper.old) (K.faults keeper.new) }
+        ensures risen { K.faults keeper.new ≡ after_commit result (K.faults keeper.old) }
     {
         self.access = None;
         let Some(kept) = self.kept.take() else {

@@ -7,7 +7,7 @@ use Rattle.gql_values3.specs.PropertyGraph.{numbers_ascend}
 use Rattle.gql_values3.specs.declared.element.NodeId.{NodeId}
 use Rattle.gql_values3.specs.declared.records.NodeRecord.{NodeRecord}
 use Rattle.gql_graph.specs.Machinery.Ascending.{AscendsTo}
-use Rattle.gql_type.specs.Machinery.InOrder.{node_among}
+use Rattle.gql_type.specs.Machinery.InOrder.{node_of_number}
 
 module _ {A : Type 0} (key : A → ℕ) (high : ℕ) where
   -- all items are above the bound
@@ -43,7 +43,7 @@ got (x ∷ xs) (suc i) y lt e = got xs i y (omega arith) e
 
 -- among nodes by ascending number
 pub node_at_place : (nodes : List NodeRecord) (i : ℕ) (r : NodeRecord) (n : NodeId) → AscendsTo (λ (x : NodeRecord). x.number.0) nodes → i < length nodes → r ≡ get_or nodes i r → r.number.0 ≡ n.0
-    → Some r ≡ node_among nodes n
+    → Some r ≡ node_of_number nodes n
 node_at_place nodes i r n up lt e same =
     let found = got_found (λ (x : NodeRecord). x.number.0) up.0 0 nodes i r up.1 (got nodes i r lt e) in
     sym found ∙ ap (λ (k : ℕ). find (λ (x : NodeRecord). x.number.0 == k) nodes) same

@@ -11,7 +11,7 @@ use Rattle.gql_ast.specs.declared.graph_type.TypeElement.TheVariants as element
 use Rattle.gql_front.specs.Reading.{many, sequence}
 use Rattle.gql_parts.specs.Machinery.FillerReaders.{variable_of}
 use Rattle.gql_front.specs.Reading.{maybe}
-use Rattle.gql_type.specs.Machinery.TypeReaders.{required_of, list_kind_of, kind_of, property_of, properties_of, braced_properties_of, other_label_of, label_names_of, labels_of, content_of, type_node_of, end_of, bracketed_of, edge_of, segment_of, element_of, type_body_of}
+use Rattle.gql_type.specs.Machinery.TypeReaders.{required_of, list_kind_of, kind_of, property_of, properties_of, braced_properties_of, other_label_of, label_names_of, optional_labels_of, content_of, type_node_of, end_of, bracketed_of, edge_of, segment_of, element_of, type_body_of}
 
 abbrev sign : ℕ → Lexeme
 sign n = lex.Sign n
@@ -36,18 +36,18 @@ a_list = refl
 -- (p :P {k INT NOT NULL})
 a_node_type : element_of (sign opening ∷ name (codes "p") ∷ sign colon ∷ name (codes "P") ∷ sign opening_brace ∷ name (codes "k") ∷ says word.INT ∷ says word.NOT ∷ says word.NULL ∷ sign closing_brace ∷ sign closing ∷ [])
     ≡ Some (element.Node (Some (codes "p")) (record { labels = Some (codes "P" ∷ []); properties = Some (record { name = codes "k"; kind = kind.One scalar.Int; required = true } ∷ []) }), [])
-unfolding element_of type_node_of variable_of maybe content_of labels_of label_names_of other_label_of many braced_properties_of properties_of sequence property_of kind_of required_of segment_of
+unfolding element_of type_node_of variable_of maybe content_of optional_labels_of label_names_of other_label_of many braced_properties_of properties_of sequence property_of kind_of required_of segment_of
 a_node_type = refl
 
 -- (p)-[]->(q)
 an_edge_type : element_of (sign opening ∷ name (codes "p") ∷ sign closing ∷ sign minus ∷ sign opening_bracket ∷ sign closing_bracket ∷ sign right_arrow ∷ sign opening ∷ name (codes "q") ∷ sign closing ∷ [])
     ≡ Some (element.Edge (codes "p") arrow.Right (record { labels = None; properties = None }) (codes "q"), [])
-unfolding element_of type_node_of variable_of maybe content_of labels_of label_names_of other_label_of many braced_properties_of properties_of sequence property_of kind_of required_of segment_of edge_of bracketed_of end_of
+unfolding element_of type_node_of variable_of maybe content_of optional_labels_of label_names_of other_label_of many braced_properties_of properties_of sequence property_of kind_of required_of segment_of edge_of bracketed_of end_of
 an_edge_type = refl
 
 -- (p)-: an arrow that no edge follows is left
 an_arrow_is_left : element_of (sign opening ∷ name (codes "p") ∷ sign closing ∷ sign minus ∷ []) ≡ Some (element.Node (Some (codes "p")) (record { labels = None; properties = None }), sign minus ∷ [])
-unfolding element_of type_node_of variable_of maybe content_of labels_of label_names_of other_label_of many braced_properties_of properties_of sequence property_of kind_of required_of segment_of edge_of bracketed_of end_of
+unfolding element_of type_node_of variable_of maybe content_of optional_labels_of label_names_of other_label_of many braced_properties_of properties_of sequence property_of kind_of required_of segment_of edge_of bracketed_of end_of
 an_arrow_is_left = refl
 
 -- {} is no body, since there is at least one element

@@ -32,7 +32,7 @@ use Rattle.gql_parts.proofs.FillerLaws.{is_name, variable_sound, variable_exact,
 use Rattle.gql_type.specs.declared.segment.TypeSegment.{TypeSegment}
 use Rattle.gql_type.specs.TypeWords.{scalar_words, scalar_word, is_typed, arrow_sign, closing_of}
 use Rattle.gql_type.specs.TypeGrammar.{IsRequired, IsKind, IsProperty, AreProperties, BearsProperties, AreMoreLabels, AreLabels, BearsLabels, IsContent, IsEnd, IsSegment, IsElement, IsTypeBody}
-use Rattle.gql_type.specs.Machinery.TypeReaders.{not_null_of, required_or, required_of, list_kind_of, kind_or, kind_of, property_of, empty_or_properties, properties_of, braced_properties_of, other_label_of, label_names_of, labels_of, content_of, type_node_of, end_of, bracketed_of, edge_of, segment_of, is_alone, segment_behind, made_element, element_of, type_body_of}
+use Rattle.gql_type.specs.Machinery.TypeReaders.{not_null_of, required_or, required_of, list_kind_of, kind_or, kind_of, property_of, empty_or_properties, properties_of, braced_properties_of, other_label_of, label_names_of, optional_labels_of, content_of, type_node_of, end_of, bracketed_of, edge_of, segment_of, is_alone, segment_behind, made_element, element_of, type_body_of}
 
 -- [NOT NULL]
 
@@ -261,12 +261,12 @@ label_names_shorter [] ts r h = absurd h
 label_names_shorter (l ∷ ls) ts r h =
     omega (arith, begins_shorter any_name_in l ts h.0 h.1, many_shorter other_label_of OtherLabel AreMoreLabels others_are other_label_shorter ls h.0 r h.2)
 
-labels_sound : Sound (IsOptional BearsLabels) labels_of
-unfolding labels_of
+labels_sound : Sound (IsOptional BearsLabels) optional_labels_of
+unfolding optional_labels_of
 labels_sound = led_sound is_colon label_names_of BearsLabels AreLabels (λ x ts r h. h) (λ x ts r h. h) label_names_sound
 
-labels_exact : (ls : Option (List (List ℕ))) (ts s : List Lexeme) → IsOptional BearsLabels ls ts s → Stops is_colon s → Stops (is_sign ampersand) s → labels_of ts ≡ Some (ls, s)
-unfolding labels_of
+labels_exact : (ls : Option (List (List ℕ))) (ts s : List Lexeme) → IsOptional BearsLabels ls ts s → Stops is_colon s → Stops (is_sign ampersand) s → optional_labels_of ts ≡ Some (ls, s)
+unfolding optional_labels_of
 labels_exact ls ts s h stop end =
     led_exact is_colon label_names_of BearsLabels AreLabels (λ x ts r h. h) (λ x ts r h. h) ls ts s (λ x a k. label_names_exact x a s k end) h stop
 
@@ -278,7 +278,7 @@ labels_shorter = optional_shorter BearsLabels (λ l ts r h. omega (arith, passes
 content_sound : Sound IsContent content_of
 unfolding content_of
 content_sound ts b r e =
-    bind_then (labels_of ts) _ (b, r) e (λ l p e.
+    bind_then (optional_labels_of ts) _ (b, r) e (λ l p e.
     bind_then (braced_properties_of l.1) _ (b, r) e (λ q k e.
     finish (λ b r. IsContent b ts r) (record { labels = l.0; properties = q.0 }) q.1 b r e (l.1, labels_sound ts l.0 l.1 p, braced_sound l.1 q.0 q.1 k)))
 

@@ -42,10 +42,12 @@ aliases_at_fault known before (e ∷ es) = repeated before (alias_in e) ++ unkno
 abbrev pub wrong_aliases : TypeBody → List (List ℕ)
 wrong_aliases body = aliases_at_fault (aliases_in body.elements) [] body.elements
 
+-- the labels and properties of a node type or an edge type
 abbrev pub content_in : TypeElement → ElementBody
 content_in (element.Node alias body) = body
 content_in (element.Edge first arrow body second) = body
 
+-- the names of the properties that stand in braces; without braces there are none
 abbrev pub names_given : Option (List TypeProperty) → List (List ℕ)
 names_given None = []
 names_given (Some ps) = map (λ (p : TypeProperty). p.name) ps

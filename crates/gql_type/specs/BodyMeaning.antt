@@ -25,13 +25,16 @@ is_before a b = is_lt (slice_cmp nat_cmp a b)
 abbrev pub label_set : List (List ℕ) → List (List ℕ)
 label_set labels = dedup same_text (stably_sorted is_before labels)
 
+-- the labels of an element type; where none stand, the empty set
 abbrev pub labels_meant : Option (List (List ℕ)) → List (List ℕ)
 labels_meant None = []
 labels_meant (Some labels) = label_set labels
 
+-- a property of the text, as a property of the type
 abbrev pub property_type : TypeProperty → PropType
 property_type p = record { name = p.name; kind = p.kind; required = p.required }
 
+-- the property of the lesser name comes first
 abbrev pub name_before : PropType → PropType → Bool
 name_before a b = is_before a.name b.name
 
@@ -40,9 +43,11 @@ abbrev pub properties_meant : Option (List TypeProperty) → List PropType
 properties_meant None = []
 properties_meant (Some ps) = stably_sorted name_before (map property_type ps)
 
+-- the node type of these labels and properties
 abbrev pub node_type : ElementBody → NodeType
 node_type body = record { labels = labels_meant body.labels; body = properties_meant body.properties }
 
+-- the node types, in the order of the text; edge types are passed over
 abbrev pub node_types : List TypeElement → List NodeType
 node_types [] = []
 node_types (element.Node alias body ∷ es) = node_type body ∷ node_types es
@@ -65,10 +70,12 @@ edge_type all a arrow.Right body b = record { directed = true; first = place_of 
 edge_type all a arrow.Left body b = record { directed = true; first = place_of b all; second = place_of a all; labels = labels_meant body.labels; body = properties_meant body.properties }
 edge_type all a arrow.Undirected body b = record { directed = false; first = place_of a all; second = place_of b all; labels = labels_meant body.labels; body = properties_meant body.properties }
 
+-- the edge types, in the order of the text; the aliases of their ends are looked up among all elements
 abbrev pub edge_types : List TypeElement → List TypeElement → List EdgeType
 edge_types all [] = []
 edge_types all (element.Node alias body ∷ es) = edge_types all es
 edge_types all (element.Edge a arrow body b ∷ es) = edge_type all a arrow body b ∷ edge_types all es
 
+-- the graph type of a whole body
 abbrev pub graph_type_of : TypeBody → GraphType
 graph_type_of body = record { nodes = node_types body.elements; edges = edge_types body.elements body.elements }

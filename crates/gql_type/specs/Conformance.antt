@@ -23,6 +23,7 @@ use Rattle.gql_type.specs.PropertyKinds.{is_of_kind}
 abbrev pub PropertyList : Type 0
 PropertyList = List (List ℕ × Datum)
 
+-- the name is among these
 abbrev pub contains_name : List (List ℕ) → List ℕ → Bool
 contains_name names name = list_any (same_text name) names
 
@@ -42,9 +43,11 @@ is_provided ps t = not t.required || list_any (λ (p : List ℕ × Datum). same_
 abbrev pub has_content : List (List ℕ) → List PropType → List (List ℕ) → PropertyList → Bool
 has_content labels body ls ps = same_set ls labels && list_all (is_allowed body) ps && list_all (is_provided ps) body
 
+-- the node has the content that the node type asks for
 abbrev pub fits_node_type : NodeRecord → NodeType → Bool
 fits_node_type r t = has_content t.labels t.body r.labels r.properties
 
+-- there are a node and a node type, and the one fits the other
 abbrev pub both_fit : Option NodeRecord → Option NodeType → Bool
 both_fit (Some r) (Some t) = fits_node_type r t
 both_fit _ _ = false
@@ -58,6 +61,7 @@ abbrev pub has_ends : PropertyGraph → GraphType → Ends → EdgeType → Bool
 has_ends g t (ends.Directed source target) e = e.directed && is_end g t source e.first && is_end g t target e.second
 has_ends g t (ends.Undirected low high) e = not e.directed && ((is_end g t low e.first && is_end g t high e.second) || (is_end g t high e.first && is_end g t low e.second))
 
+-- the edge has the content that the edge type asks for, and its ends, too, are as the type says
 abbrev pub fits_edge_type : PropertyGraph → GraphType → EdgeRecord → EdgeType → Bool
 fits_edge_type g t r e = has_content e.labels e.body r.labels r.properties && has_ends g t r.ends e
 

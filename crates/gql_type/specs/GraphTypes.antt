@@ -11,6 +11,7 @@ use Rattle.gql_graph.specs.declared.graph_type.GraphType.{GraphType}
 abbrev pub is_content_type : List (List ℕ) → List PropType → Bool
 is_content_type labels body = texts_ascend labels && texts_ascend (map (λ (t : PropType). t.name) body)
 
+-- the labels and properties of a node type are in order
 abbrev pub is_node_type : NodeType → Bool
 is_node_type t = is_content_type t.labels t.body
 

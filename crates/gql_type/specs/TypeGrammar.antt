@@ -31,12 +31,14 @@ abbrev pub IsRequired : Bool → List Lexeme → List Lexeme → Type 0
 IsRequired false ts r = ts ≡ r
 IsRequired true ts r = (a : List Lexeme) × Passes (is_word word.NOT) ts a × Passes (is_word word.NULL) a r
 
+-- Kind
 abbrev pub IsKind : PropKind → List Lexeme → List Lexeme → Type 0
 IsKind (kind.One s) ts r = Begins scalar_word s ts r
 IsKind (kind.Many s required) ts r =
     (a : List Lexeme) × Passes (is_word word.LIST) ts a × (b : List Lexeme) × Passes (is_sign less) a b × (c : List Lexeme) × Begins scalar_word s b c
     × (d : List Lexeme) × IsRequired required c d × Passes (is_sign greater) d r
 
+-- Property
 abbrev pub IsProperty : TypeProperty → List Lexeme → List Lexeme → Type 0
 IsProperty p ts r =
     (a : List Lexeme) × Begins any_name_in p.name ts a × (b : List Lexeme) × MayPass is_typed a b × (c : List Lexeme) × IsKind p.kind b c
@@ -67,23 +69,28 @@ AreLabels (l ∷ ls) ts r = (a : List Lexeme) × Begins any_name_in l ts a × Ar
 abbrev pub BearsLabels : List (List ℕ) → List Lexeme → List Lexeme → Type 0
 BearsLabels ls ts r = (a : List Lexeme) × Passes is_colon ts a × AreLabels ls a r
 
+-- Content
 abbrev pub IsContent : ElementBody → List Lexeme → List Lexeme → Type 0
 IsContent b ts r = (a : List Lexeme) × IsOptional BearsLabels b.labels ts a × IsOptional BearsProperties b.properties a r
 
+-- End
 abbrev pub IsEnd : List ℕ → List Lexeme → List Lexeme → Type 0
 IsEnd x ts r = (a : List Lexeme) × Passes (is_sign opening) ts a × (b : List Lexeme) × Begins name_in x a b × Passes (is_sign closing) b r
 
+-- Segment: the edge, and the node type to which it leads
 abbrev pub IsSegment : Arrow → ElementBody → List ℕ → List Lexeme → List Lexeme → Type 0
 IsSegment w b y ts r =
     (a : List Lexeme) × Begins arrow_sign w ts a × (c : List Lexeme) × Passes (is_sign opening_bracket) a c × (d : List Lexeme) × IsContent b c d
     × (e : List Lexeme) × Passes (is_sign closing_bracket) d e × (f : List Lexeme) × Passes (is_sign (closing_of w)) e f × IsEnd y f r
 
+-- Element: a node type with its alias where it has one, or an edge type between two aliases
 abbrev pub IsElement : TypeElement → List Lexeme → List Lexeme → Type 0
 IsElement (element.Node x b) ts r =
     (a : List Lexeme) × Passes (is_sign opening) ts a × (c : List Lexeme) × IsOptional (Begins name_in) x a c × (d : List Lexeme) × IsContent b c d
     × Passes (is_sign closing) d r
 IsElement (element.Edge x w b y) ts r = (a : List Lexeme) × IsEnd x ts a × IsSegment w b y a r
 
+-- TypeBody
 abbrev pub IsTypeBody : TypeBody → List Lexeme → List Lexeme → Type 0
 IsTypeBody b ts r =
     (a : List Lexeme) × Passes (is_sign opening_brace) ts a × (c : List Lexeme) × IsListOf IsElement b.elements a c × Passes (is_sign closing_brace) c r

@@ -16,6 +16,7 @@ scalar_words =
     (word.BOOL, scalar.Bool) ∷ (word.BOOLEAN, scalar.Bool) ∷ (word.INT, scalar.Int) ∷ (word.INTEGER, scalar.Int) ∷ (word.INT64, scalar.Int)
     ∷ (word.STRING, scalar.Text) ∷ []
 
+-- the kind of plain values that a word says, where it says one
 abbrev pub scalar_word : Lexeme → Option Scalar
 scalar_word t = word_in scalar_words t
 
@@ -27,6 +28,7 @@ is_typed t = is_word word.TYPED t || is_sign double_colon t
 abbrev pub arrow_signs : List (ℕ × Arrow)
 arrow_signs = (minus, arrow.Right) ∷ (left_arrow, arrow.Left) ∷ (tilde, arrow.Undirected) ∷ []
 
+-- the direction that a symbol says, where it says one
 abbrev pub arrow_sign : Lexeme → Option Arrow
 arrow_sign t = sign_in arrow_signs t
 

@@ -1,10 +1,8 @@
 //! Graph types: whether a property graph conforms to one, and which one a type's text means.
 //!
-//! The promise: `fits` answers nothing exactly where each node fits some node type and each edge some edge type, else the
-//! first element that fits none, nodes before edges, each by number; `node_fits` and `edge_fits` judge one element. None of
-//! them takes memory. `graph_type` gives the type that a text's tree means, `wrong_alias` and `repeated_property` what is
-//! refused of that tree, and `parse_type` reads it: the longest front of some lexemes that derives one. It stands on gql_graph
-//! (graphs and their types), gql_ast (the tree), gql_parts, gql_front and gql_lexer (reading) and gql_eval (what a stable sort is).
+//! The promise: `fits` tells the first element of a graph that fits no type, nodes before edges, or that there is none. `parse_type`
+//! reads the longest front of some lexemes that derives a type, `graph_type` gives the type that it means, and `wrong_alias` and
+//! `repeated_property` what is refused of it. It stands on gql_graph, gql_ast, gql_parts, gql_front, gql_lexer and gql_eval.
 #![tactic(auto)]
 
 mod aliases;

@@ -4,7 +4,7 @@ ghost use Rattle.std.specs.Prelude.{◌≡◌};
 ghost use Rattle.std.specs.Option.{option_copied};
 ghost use Rattle.gql_values3.specs.declared.records.NodeRecord.{NodeRecord};
 ghost use Rattle.gql_graph.specs.Machinery.Ascending.{AscendsTo};
-ghost use Rattle.gql_type.specs.Machinery.InOrder.{node_among};
+ghost use Rattle.gql_type.specs.Machinery.InOrder.{node_of_number};
 
 use gql_graph::find_node;
 use gql_values3::{NodeId, NodeRecord};
@@ -44,7 +44,7 @@ impl<'a> Nodes<'a> {
     /// The node of that number. Where none before it was deleted it stands at the place of its number, which is looked at
     /// first; else by binary search.
     pub fn find(&self, node: NodeId) -> Option<&NodeRecord>
-        ensures { option_copied result ≡ node_among self.now node }
+        ensures { option_copied result ≡ node_of_number self.now node }
     {
         match self.records.get((node.0 as usize).saturating_sub(1)) {
             Some(record) if record.number == node => Some(record),

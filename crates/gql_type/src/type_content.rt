@@ -2,7 +2,7 @@
 
 ghost use Rattle.std.specs.Prelude.{◌≡◌, ◌<◌, ◌≤◌, length, IfOk};
 ghost use Rattle.gql_front.specs.Reads.{Reads, MayRead};
-ghost use Rattle.gql_type.specs.Machinery.TypeReaders.{labels_of, braced_properties_of, content_of};
+ghost use Rattle.gql_type.specs.Machinery.TypeReaders.{optional_labels_of, braced_properties_of, content_of};
 
 use gql_ast::{ElementBody, TypeProperty};
 use gql_front::{NoFront, ParseResult, after_sign, any_name};
@@ -77,9 +77,9 @@ pub fn content<'a>(alloc: Global, rest: &'a [Lexeme]) -> ParseResult<'a, Element
 }
 
 /// A colon or IS and labels, or nothing.
-#[tactic(auto, unfolding(crate::specs::Machinery::TypeReaders::labels_of))]
+#[tactic(auto, unfolding(crate::specs::Machinery::TypeReaders::optional_labels_of))]
 fn labels<'a>(alloc: Global, rest: &'a [Lexeme]) -> ParseResult<'a, Option<Names>>
-    ensures { MayRead result rest.now labels_of }
+    ensures { MayRead result rest.now optional_labels_of }
 {
     match after_colon(rest) {
         Ok(behind) => item_or_nothing::<TypeParts, Names>(alloc, rest, behind),

@@ -9,6 +9,7 @@ use Rattle.gql_graph.specs.declared.graph_type.EdgeType.{EdgeType}
 use Rattle.gql_graph.specs.declared.graph_type.GraphType.{GraphType}
 use Rattle.gql_fields.specs.Kept.{IsText, AreKeptLabels}
 
+-- a property of a type: its name is a text
 abbrev pub IsKeptPropType : PropType → Type 0
 IsKeptPropType t = IsText t.name
 
@@ -18,6 +19,7 @@ pub record IsKeptBody (ts : List PropType) : Type 0 where
   pub ascend : IsTrue (texts_ascend (map (λ (t : PropType). t.name) ts))
   pub texts : AllByRecursion IsKeptPropType ts
 
+-- a node type: its labels and its properties
 abbrev pub IsKeptNodeType : NodeType → Type 0
 IsKeptNodeType t = AreKeptLabels t.labels × IsKeptBody t.body
 
@@ -28,6 +30,7 @@ pub record IsKeptEdgeType (t : EdgeType) : Type 0 where
   pub labels : AreKeptLabels t.labels
   pub body : IsKeptBody t.body
 
+-- a graph type: few enough node types and edge types, each of which can be kept
 pub record IsKeptType (t : GraphType) : Type 0 where
   pub few_nodes : length t.nodes < 2 ^ 64
   pub few_edges : length t.edges < 2 ^ 64

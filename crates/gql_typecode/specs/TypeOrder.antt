@@ -11,6 +11,7 @@ use Rattle.gql_graph.specs.declared.graph_type.GraphType.{GraphType}
 abbrev pub AreInOrder : List (List ℕ) → List PropType → Type 0
 AreInOrder labels body = IsTrue (texts_ascend labels) × IsTrue (texts_ascend (map (λ (t : PropType). t.name) body))
 
+-- the labels and the properties of a node type, and so of an edge type
 abbrev pub IsNodeTypeInOrder : NodeType → Type 0
 IsNodeTypeInOrder t = AreInOrder t.labels t.body
 

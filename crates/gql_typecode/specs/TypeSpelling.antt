@@ -31,6 +31,7 @@ property_type_spelled t = spelled t.name ++ kind_spelled t.kind ++ flag_spelled 
 abbrev pub body_spelled : List PropType → List ℕ
 body_spelled ts = to_be_bytes w64 (length ts) ++ flat_map property_type_spelled ts
 
+-- a node type: its labels and its properties
 abbrev pub node_type_spelled : NodeType → List ℕ
 node_type_spelled t = labels_spelled t.labels ++ body_spelled t.body
 

@@ -1,3 +1,5 @@
+//! The properties of a node type or an edge type, read and written.
+
 ghost use Rattle.std.specs.Prelude.{◌≡◌, ◌++◌, map, IsTrue, OnOk};
 ghost use Rattle.std.specs.List.{flat_map, AllByRecursion};
 ghost use Rattle.gql_values3.specs.Texts.{texts_ascend};

@@ -1,3 +1,5 @@
+//! One byte, read.
+
 ghost use Rattle.std.specs.Prelude.{◌≡◌};
 ghost use Rattle.gql_fields.specs.Machinery.Reading.{GivesFree};
 ghost use Rattle.gql_typecode.specs.Machinery.TypeReading.{byte_at};

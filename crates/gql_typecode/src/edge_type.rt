@@ -1,3 +1,5 @@
+//! Edge types, one or many behind their count, read and written.
+
 ghost use Rattle.std.specs.Prelude.{◌≡◌, ◌<◌, ◌^◌, not, ◌∷◌, ◌++◌, length, OnOk};
 ghost use Rattle.std.specs.Int.{w64, to_be_bytes};
 ghost use Rattle.std.specs.List.{flat_map, AllByRecursion};
@@ -10,7 +12,7 @@ ghost use Rattle.gql_typecode.specs.Machinery.TypeReading.{edge_type_at};
 
 use crate::body::{body_of, put_body};
 use crate::type_ends::{TypeEnds, ends_of};
-use gql_fields::{Misread, labels_of, put_flag, put_labels, put_u64, u64_at};
+use gql_fields::{Misread, label_set_of, put_flag, put_labels, put_u64, u64_at};
 use gql_graph::{EdgeType, EdgeTypes};
 use gql_values3::{Bytes, OutOfMemory};
 use std::alloc::Global;
@@ -42,7 +44,7 @@ fn edge_type_of(alloc: Global, bytes: &[u8]) -> Result<(EdgeType, &[u8]), Misrea
     ensures { Gives (λ x. (x.0, x.1.now)) result (edge_type_at bytes.now) }
 {
     let (ends, rest) = ends_of(bytes)?;
-    let (labels, rest) = labels_of(alloc, rest)?;
+    let (labels, rest) = label_set_of(alloc, rest)?;
     let (body, rest) = body_of(alloc, rest)?;
     let TypeEnds {
         directed,

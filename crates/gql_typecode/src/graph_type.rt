@@ -1,3 +1,5 @@
+//! A whole graph type, read and written: its node types, then its edge types.
+
 ghost use Rattle.std.specs.Prelude.{◌≡◌, ◌++◌, IfOk, OnOk, MatchResult};
 ghost use Rattle.gql_graph.specs.declared.graph_type.GraphType.{GraphType as TypeData};
 ghost use Rattle.gql_fields.specs.Machinery.Reading.{Gives};

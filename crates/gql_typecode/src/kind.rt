@@ -1,3 +1,5 @@
+//! The kind of a property, read and written: a scalar, or a list of one kind of scalar.
+
 ghost use Rattle.std.specs.Prelude.{◌≡◌, ◌++◌, OnOk};
 ghost use Rattle.gql_fields.specs.Machinery.Reading.{GivesFree};
 ghost use Rattle.gql_typecode.specs.TypeSpelling.{scalar_spelled, kind_spelled};

@@ -1,3 +1,5 @@
+//! Node types, one or many behind their count, read and written.
+
 ghost use Rattle.std.specs.Prelude.{◌≡◌, ◌<◌, ◌^◌, ◌++◌, length, OnOk};
 ghost use Rattle.std.specs.Int.{w64, to_be_bytes};
 ghost use Rattle.std.specs.List.{flat_map, AllByRecursion};
@@ -8,7 +10,7 @@ ghost use Rattle.gql_typecode.specs.TypeOrder.{IsNodeTypeInOrder};
 ghost use Rattle.gql_typecode.specs.Machinery.TypeReading.{node_type_at};
 
 use crate::body::{body_of, put_body};
-use gql_fields::{Misread, labels_of, put_labels, put_u64, u64_at};
+use gql_fields::{Misread, label_set_of, put_labels, put_u64, u64_at};
 use gql_graph::{NodeType, NodeTypes};
 use gql_values3::{Bytes, OutOfMemory};
 use std::alloc::Global;
@@ -39,7 +41,7 @@ fn each_node_type(alloc: Global, count: u64, bytes: &[u8]) -> Result<(NodeTypes,
 fn node_type_of(alloc: Global, bytes: &[u8]) -> Result<(NodeType, &[u8]), Misread>
     ensures { Gives (λ x. (x.0, x.1.now)) result (node_type_at bytes.now) }
 {
-    let (labels, rest) = labels_of(alloc, bytes)?;
+    let (labels, rest) = label_set_of(alloc, bytes)?;
     let (body, rest) = body_of(alloc, rest)?;
     Ok((NodeType { labels, body }, rest))
 }

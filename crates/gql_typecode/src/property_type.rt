@@ -1,3 +1,5 @@
+//! A property of a type, read and written: its name, its kind, and whether it is NOT NULL.
+
 ghost use Rattle.std.specs.Prelude.{◌≡◌, ◌++◌, OnOk};
 ghost use Rattle.gql_fields.specs.Machinery.Reading.{Gives};
 ghost use Rattle.gql_typecode.specs.TypeSpelling.{property_type_spelled};

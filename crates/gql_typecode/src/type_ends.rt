@@ -1,3 +1,5 @@
+//! The ends of an edge type, read: its direction and the places of two node types.
+
 ghost use Rattle.std.specs.Prelude.{◌≡◌};
 ghost use Rattle.gql_fields.specs.Machinery.Reading.{GivesFree};
 ghost use Rattle.gql_typecode.specs.Machinery.TypeReading.{ends_at};

@@ -9,6 +9,7 @@ pub record PathData : Type 0 where
   pub start : ℕ
   pub steps : List (ℕ × ℕ)
 
+-- a value of the database, and the items of a list; nodes and edges are their numbers
 mutual
   pub data Datum : Type 0 where
     null : Datum
@@ -29,6 +30,7 @@ abbrev pub items_of : Data → List Datum
 items_of no_data = []
 items_of (more_data d ds) = d ∷ items_of ds
 
+-- the list with these items
 abbrev pub data_of : List Datum → Data
 data_of [] = no_data
 data_of (d ∷ ds) = more_data d (data_of ds)
@@ -106,5 +108,6 @@ mutual
       λ i. more_data (datum_inj a b (ap (λ g. head g) p) i) (data_inj more rest (ap (λ g. tail g) p) i)
   data_inj (more_data a more) _ p = absurd (cc)
 
+-- how the logic tells values apart: each has a code, and no two have the same
 abbrev pub coded_datum : Coded Datum
 coded_datum = record { code = datum_code; inj = datum_inj }

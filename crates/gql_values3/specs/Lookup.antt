@@ -17,12 +17,15 @@ use Rattle.gql_values3.specs.declared.element.Ends.TheVariants.{Directed, Undire
 abbrev pub node_of : PropertyGraph → NodeId → Option NodeRecord
 node_of g n = find (λ r. r.number.0 == n.0) g.nodes
 
+-- the edge of a number, where the graph has one
 abbrev pub edge_of : PropertyGraph → EdgeId → Option EdgeRecord
 edge_of g e = find (λ r. r.number.0 == e.0) g.edges
 
+-- the graph has a node of this number
 abbrev pub has_node : PropertyGraph → NodeId → Bool
 has_node g n = is_some (node_of g n)
 
+-- the endpoints of an edge, where the graph has the edge
 abbrev pub ends_of : PropertyGraph → EdgeId → Option Ends
 ends_of g e = option_map (λ r. r.ends) (edge_of g e)
 
@@ -35,10 +38,12 @@ abbrev pub labels_in : Option (List (List ℕ)) → List (List ℕ)
 labels_in None = []
 labels_in (Some ls) = ls
 
+-- the labels of a node or an edge, in order
 abbrev pub labels_of : PropertyGraph → Elem → List (List ℕ)
 labels_of g (elem.Node n) = labels_in (option_map (λ r. r.labels) (node_of g n))
 labels_of g (elem.Edge e) = labels_in (option_map (λ r. r.labels) (edge_of g e))
 
+-- the element is there and has the label
 abbrev pub has_label : PropertyGraph → Elem → List ℕ → Bool
 has_label g e label = list_any (same_text label) (labels_of g e)
 
@@ -51,6 +56,7 @@ abbrev pub properties_in : Option (List (List ℕ × Datum)) → List (List ℕ 
 properties_in None = []
 properties_in (Some ps) = ps
 
+-- the properties of a node or an edge, in order of their names
 abbrev pub properties_of : PropertyGraph → Elem → List (List ℕ × Datum)
 properties_of g (elem.Node n) = properties_in (option_map (λ r. r.properties) (node_of g n))
 properties_of g (elem.Edge e) = properties_in (option_map (λ r. r.properties) (edge_of g e))
@@ -59,6 +65,7 @@ properties_of g (elem.Edge e) = properties_in (option_map (λ r. r.properties) (
 abbrev pub names_of : PropertyGraph → Elem → List (List ℕ)
 names_of g e = map (λ (p : List ℕ × Datum). p.0) (properties_of g e)
 
+-- the value of an element's property, where it has one of this name
 abbrev pub property_of : PropertyGraph → Elem → List ℕ → Option Datum
 property_of g e name = option_map (λ (p : List ℕ × Datum). p.1) (find (λ p. same_text name p.0) (properties_of g e))
 

@@ -61,9 +61,11 @@ abbrev pub are_ends : List NodeRecord → Ends → Bool
 are_ends nodes (Directed s t) = is_among nodes s && is_among nodes t
 are_ends nodes (Undirected l h) = is_among nodes l && is_among nodes h && nat_le l.0 h.0
 
+-- a node of a graph: its labels strictly ascend, and its properties are a property map
 abbrev pub is_node_record : NodeRecord → Bool
 is_node_record r = texts_ascend r.labels && are_properties r.properties
 
+-- an edge of a graph with these nodes: the same of its labels and properties, and its endpoints are among the nodes
 abbrev pub is_edge_record : List NodeRecord → EdgeRecord → Bool
 is_edge_record nodes r = texts_ascend r.labels && are_properties r.properties && are_ends nodes r.ends
 

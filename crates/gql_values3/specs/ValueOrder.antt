@@ -25,6 +25,7 @@ step_cmp s t = ordering_then (nat_cmp s.0 t.0) (nat_cmp s.1 t.1)
 abbrev pub path_cmp : PathData → PathData → Ordering
 path_cmp v w = ordering_then (nat_cmp v.start w.start) (slice_cmp step_cmp v.steps w.steps)
 
+-- the total order of all values: by kinds first, and then by contents
 abbrev mutual
   pub datum_cmp : Datum → Datum → Ordering
   datum_cmp (boolean a) (boolean b) = bool_cmp a b

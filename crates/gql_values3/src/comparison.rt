@@ -1,3 +1,5 @@
+//! The signs of comparison, and the truth of a comparison of two values.
+
 ghost use Rattle.std.specs.Prelude.{◌≡◌, map, length, Bool, MatchResult, Some, None};
 ghost use Rattle.std.specs.Option.{option_map_or};
 ghost use Rattle.std.specs.declared.cmp.Ordering.{Ordering};

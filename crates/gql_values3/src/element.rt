@@ -1,3 +1,5 @@
+//! The numbers of nodes and edges, and the endpoints of an edge.
+
 /// The number of a node, from 1 to 4,294,967,294 in a graph.
 #[derive(Clone, Copy, Debug, PartialEq, Eq, PartialOrd, Ord, Hash)]
 pub struct NodeId(pub u32);

@@ -1,3 +1,5 @@
+//! What has a key of bytes, and whether keys strictly ascend.
+
 ghost use Rattle.std.specs.Prelude.{◌≡◌, ℕ, List, map};
 ghost use Rattle.gql_values3.specs.Texts.{texts_ascend};
 

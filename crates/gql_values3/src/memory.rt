@@ -1,3 +1,5 @@
+//! Want of memory, as the crates above tell it.
+
 use std::alloc::{AllocError, AllocFailed};
 
 /// There is no memory for the answer. It is the one fault that no clause ties to a cause.

@@ -1,3 +1,5 @@
+//! The reserved words, each found by its slot, and which texts are names.
+
 ghost use Rattle.std.specs.Prelude.{◌≡◌, ◌<◌, ◌≤◌, map, length, IsTrue, ◌||◌, ◌==◌};
 ghost use Rattle.std.specs.List.{list_all, position};
 ghost use Rattle.std.specs.Str.{chars};

@@ -1,3 +1,5 @@
+//! The total order of all values, by which rows are sorted and equal ones are found.
+
 ghost use Rattle.std.specs.Prelude.{◌≡◌, map};
 ghost use Rattle.std.specs.Cmp.{IsTotalOrder};
 ghost use Rattle.std.specs.declared.cmp.Ordering.TheVariants.{Equal};

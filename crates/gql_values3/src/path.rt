@@ -1,3 +1,5 @@
+//! Paths as values: a node, and the edges that lead on from it.
+
 ghost use Rattle.std.specs.Prelude.{◌≡◌, map, IfOk};
 ghost use Rattle.gql_values3.specs.ValueOrder.{path_cmp};
 

@@ -1,3 +1,5 @@
+//! The types of plain values, and of what a property may hold.
+
 /// The types of plain values that a query may name.
 #[derive(Clone, Copy, Debug, PartialEq, Eq)]
 pub enum Scalar {

@@ -1,3 +1,5 @@
+//! The properties of an element, and the value of one of them by its name.
+
 ghost use Rattle.std.specs.Prelude.{◌≡◌, [], option_map, map, find, length};
 ghost use Rattle.std.specs.Option.{option_copied};
 ghost use Rattle.gql_values3.specs.Meaning.{datum_of};

@@ -1,3 +1,5 @@
+//! Nodes and edges with their labels and properties, as a graph keeps them.
+
 use crate::element::{EdgeId, Ends, NodeId};
 use crate::properties::Properties;
 use crate::sequence::Names;

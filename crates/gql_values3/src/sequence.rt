@@ -1,3 +1,5 @@
+//! Lists of items, among them bytes, numbers and names.
+
 ghost use Rattle.std.specs.Prelude.{◌≡◌, [], ◌∷◌, ◌++◌, length, OnOk, OnErr, IfOk, ◌==◌};
 
 use crate::memory::OutOfMemory;

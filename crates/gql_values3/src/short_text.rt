@@ -1,3 +1,5 @@
+//! Texts of at most 12 bytes, which take no allocation.
+
 ghost use Rattle.std.specs.Prelude.{◌≡◌, [], ◌++◌, ◌+◌, ◌<◌, ◌≤◌, length, true, false};
 
 use std::marker::Model;

@@ -1,3 +1,5 @@
+//! Columns, rows and tables, the parameters of a query, and what the names of a match stand for.
+
 use crate::element::Elem;
 use crate::properties::Properties;
 use crate::sequence::{Names, Sequence};

@@ -1,3 +1,5 @@
+//! That lists, texts and paths grow and are copied with ample memory, and where the first and the last reserved word stand.
+
 use crate::{
     Bytes, EdgeId, List, Names, NodeId, PathValue, Text, Value, keys_ascend, reserved_place,
 };

@@ -1,3 +1,5 @@
+//! Texts in UTF-8, short ones in their place and long ones in an allocation of their own.
+
 ghost use Rattle.std.specs.Prelude.{◌≡◌, [], ◌++◌, IfOk, OnOk, OnErr, length, string_bytes, ◌==◌};
 ghost use Rattle.std.specs.Ordering.{nat_cmp};
 ghost use Rattle.std.specs.Cmp.Lexicographic.{slice_cmp};
@@ -82,6 +84,17 @@ impl Text {
             alloc,
             stored: Stored::Short(ShortText::new()),
         }
+    }
+
+    /// An empty text with room for so many bytes.
+    pub fn with_room(alloc: Global, room: usize) -> Result<Text, OutOfMemory>
+        ensures { IfOk result (λ made. made ≡ []) }
+    {
+        let long = String::with_capacity(alloc, room)?;
+        Ok(Text {
+            alloc,
+            stored: Stored::Long(Box::new(alloc, long)?),
+        })
     }
 
     pub fn from_str(alloc: Global, text: &str) -> Result<Text, OutOfMemory>

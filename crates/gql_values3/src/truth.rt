@@ -1,3 +1,5 @@
+//! The three truths of the language, and what NOT, AND, OR and XOR make of them.
+
 ghost use Rattle.std.specs.Prelude.{◌≡◌, ◌+◌, min, max};
 ghost use Rattle.gql_values3.specs.Truth.{rank_of, negated, both, either, one_of, truth_of};
 

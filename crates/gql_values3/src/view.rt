@@ -1,3 +1,5 @@
+//! How a graph is looked at: what can be asked of its nodes and edges.
+
 ghost use Rattle.std.specs.Prelude.{◌≡◌, ◌≢◌, [], IsTrue, ◌↔◌, option_map, slice_get, length};
 ghost use Rattle.std.specs.Option.{option_copied};
 ghost use Rattle.gql_values3.specs.PropertyGraph.{PropertyGraph, is_graph};

@@ -1,3 +1,5 @@
+//! Copies of expressions and of their parts.
+
 ghost use Rattle.std.specs.Prelude.{◌≡◌, IfOk};
 ghost use Rattle.gql_ast.specs.Meaning.{tree_of, link_of};
 

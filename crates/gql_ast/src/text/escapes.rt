@@ -1,3 +1,5 @@
+//! Characters that cannot stand as they are, and the escapes that stand for them.
+
 ghost use Rattle.std.specs.Prelude.{◌≡◌, ◌<◌, ◌+◌, [], ◌∷◌, ◌++◌, OnOk, MatchOption, IsTrue, length, take, drop, slice_index};
 ghost use Rattle.std.specs.List.{flat_map, position};
 ghost use Rattle.gql_ast.specs.ValueText.{hex_digit, control};

@@ -1,3 +1,5 @@
+//! The canonical text of a label expression.
+
 ghost use Rattle.std.specs.Prelude.{◌≡◌, ◌++◌, OnOk, map};
 ghost use Rattle.gql_ast.specs.Label.{labels_listed};
 ghost use Rattle.gql_ast.specs.LabelMeaning.{label_of};

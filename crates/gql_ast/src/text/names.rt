@@ -1,3 +1,5 @@
+//! The texts of names: variables, parameters, properties and labels, and the headers of columns.
+
 ghost use Rattle.std.specs.Prelude.{◌≡◌, ◌++◌, OnOk, codes};
 ghost use Rattle.gql_ast.specs.ValueText.{name_text, any_name_text, header_text, ticked_text};
 

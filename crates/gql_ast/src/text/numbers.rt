@@ -1,3 +1,5 @@
+//! The texts of numbers, by their value or by the digits that were written.
+
 ghost use Rattle.std.specs.Prelude.{◌≡◌, ◌<◌, ◌^◌, ◌++◌, ◌==◌, not, ℕ, List, IsTrue, OnOk};
 ghost use Rattle.std.specs.List.{position};
 ghost use Rattle.std.specs.Fmt.{decimal, signed_decimal};

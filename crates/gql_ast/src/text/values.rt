@@ -1,3 +1,5 @@
+//! The texts of values: strings between quotes, lists between brackets, and nodes, edges and paths by their numbers.
+
 ghost use Rattle.std.specs.Prelude.{◌≡◌, ◌++◌, OnOk, map};
 ghost use Rattle.std.specs.List.{flat_map};
 ghost use Rattle.gql_values3.specs.Datum.{data_of};

@@ -66,9 +66,9 @@ abbrev pub symbol_of : LabelChain → ℕ
 symbol_of Or = bar
 symbol_of And = ampersand
 
-abbrev pub node_of : LabelChain → Label → List Label → Label
-node_of Or = disjoined
-node_of And = conjoined
+abbrev pub chain_label : LabelChain → Label → List Label → Label
+chain_label Or = disjoined
+chain_label And = conjoined
 
 abbrev pub side_of : LabelChain → Reader Label → Reader Label
 side_of Or f = term_of f

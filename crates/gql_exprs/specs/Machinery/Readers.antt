@@ -23,7 +23,7 @@ use Rattle.gql_exprs.specs.declared.chain.Chain.TheVariants as level
 use Rattle.gql_lexer.specs.SymbolPlaces.{opening, closing, opening_bracket, closing_bracket, comma, colon, dot, star}
 use Rattle.gql_lexer.specs.WordPlaces.{IS, NOT, OF}
 use Rattle.gql_front.specs.Tables.{entry}
-use Rattle.gql_front.specs.Reading.{◌>>=◌, Reader, is_sign, is_word, name_in, any_name_in, after, op_at, step, many, chain, prefix, ended, suffix}
+use Rattle.gql_front.specs.Reading.{◌>>=◌, Reader, is_sign, is_word, name_in, any_name_in, after, op_at, step, many, chain, prefix, with_ending, suffix}
 use Rattle.gql_exprs.specs.Machinery.LabelReaders.{read_label}
 use Rattle.gql_exprs.specs.ExprWords.{or_op, and_op, sum_op, product_op, sign_op, comparison_op, atom_words, quantifier_op, test_word}
 use Rattle.gql_exprs.specs.Grammar.{Ending, has_quality, has_labels, is_end}
@@ -68,7 +68,7 @@ field ts = do
   op_at any_name_in a
 
 unfoldable pub named : List ℕ → Reader Tree
-named x ts = Some (ended (λ e p. property x p) (name x) ts (field ts))
+named x ts = Some (with_ending (λ e p. property x p) (name x) ts (field ts))
 
 -- [DISTINCT or ALL]
 abbrev pub quantifier_or_all : List Lexeme → Option (SetQuantifier × List Lexeme) → SetQuantifier × List Lexeme
@@ -267,11 +267,11 @@ operator_in level.And = and_op
 operator_in level.Sum = sum_op
 operator_in level.Product = product_op
 
-abbrev pub node_of : Chain → Tree → Links → Tree
-node_of level.Or = disjunction
-node_of level.And = conjunction
-node_of level.Sum = sum
-node_of level.Product = product
+abbrev pub chain_tree : Chain → Tree → Links → Tree
+chain_tree level.Or = disjunction
+chain_tree level.And = conjunction
+chain_tree level.Sum = sum
+chain_tree level.Product = product
 
 abbrev pub side_of : Chain → Reader Tree → Reader Tree
 side_of level.Or f = and_of f

@@ -1,6 +1,5 @@
 -- What stands between a statement and its commit point, as the code tells it.
-use Rattle.std.specs.Prelude.{◌≡◌, ◌≢◌, ◌≤◌, ℕ, Bool, true, false, List, Option, Some, None}
-use Rattle.gql_ports.specs.Causes.{Rose}
+use Rattle.std.specs.Prelude.{◌≡◌, ◌≢◌, ◌+◌, ◌-◌, ◌^◌, min, ℕ, Bool, true, false, List, Option, Some, None}
 use Rattle.gql_ast.specs.declared.refusal.Outcome.TheVariants as outcome
 use Rattle.gql_ast.specs.declared.refusal.Refusal.{Refusal}
 use Rattle.gql_ast.specs.declared.refusal.Refusal.TheVariants as refusal
@@ -46,6 +45,6 @@ pub record Answers (before : SessionState) (piece : List ℕ) (made : Option End
 -- What came of a commit point: what was changed is kept, and the text stays; or the store refused, and the text is that of E22.
 abbrev pub CameTo : SessionState → List ℕ → Bool → List ℕ → ℕ → ℕ → SessionState → Type 0
 CameTo before text false text_behind faults faults_behind after =
-    (text_behind ≡ text) × (faults ≤ faults_behind) × (after ≡ record before { kept = before.catalog; access = None })
+    (text_behind ≡ text) × (faults_behind ≡ faults) × (after ≡ record before { kept = before.catalog; access = None })
 CameTo before text true text_behind faults faults_behind after =
-    (before.catalog ≢ before.kept) × (text_behind ≡ outcome_text (outcome.Refused refusal.Store)) × Rose faults faults_behind × (after ≡ record before { catalog = before.kept; access = None })
+    (before.catalog ≢ before.kept) × (text_behind ≡ outcome_text (outcome.Refused refusal.Store)) × (faults_behind ≡ min (faults + 1) (2 ^ 64 - 1)) × (after ≡ record before { catalog = before.kept; access = None })

@@ -18,5 +18,5 @@ reading_of found.Unread = unread
 reading_of (found.Statement s) = read s
 
 -- an outcome and the state behind it
-abbrev pub ended : Outcome → SessionState → StatementEnd
-ended made after = record { outcome = made; after = after }
+abbrev pub statement_end : Outcome → SessionState → StatementEnd
+statement_end made after = record { outcome = made; after = after }

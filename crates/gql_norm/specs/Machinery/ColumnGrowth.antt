@@ -43,7 +43,3 @@ declared_in_all (p ∷ ps) = declared_in p ++ declared_in_all ps
 -- each variable by its degree over all path patterns
 abbrev pub by_degrees : List NormalPath → ColumnList → ColumnList
 by_degrees paths cs = map (λ (c : List ℕ × ColumnKind). (c.0, of_degree (degree_in_paths paths c.0) c.1)) cs
-
--- columns with the variables of a part
-abbrev pub with_declared : List NormalPath → ColumnList → ColumnList → ColumnList
-with_declared paths columns cs = with_columns columns (by_degrees paths cs)

@@ -19,8 +19,8 @@ use Rattle.gql_patterns.specs.declared.path_chain.PathChain.{PathChain}
 use Rattle.gql_patterns.specs.declared.path_chain.PathChain.TheVariants as chain
 
 -- a node, behind its opening parenthesis
-unfoldable pub node_of : Reader Pattern
-node_of ts = do
+unfoldable pub node_pattern_of : Reader Pattern
+node_pattern_of ts = do
   f ← filler_of ts
   r ← after (is_sign closing) f.1
   Some (node (meaning.filler_of f.0), r)
@@ -57,7 +57,7 @@ module _ (f : Reader Pattern) where
   part_of ts = closed_part_of (part_mode_of ts).0 (part_mode_of ts).1
 
   unfoldable pub in_parentheses_of : Reader Pattern
-  in_parentheses_of = either node_of part_of
+  in_parentheses_of = either node_pattern_of part_of
 
   -- in parentheses, or an edge
   abbrev pub parenthesis_or_edge : List Lexeme → Option (List Lexeme) → Option (Pattern × List Lexeme)

@@ -1,8 +1,10 @@
+//! A keeper in memory, which fails at the calls that it was told.
+
 ghost use Rattle.std.specs.Prelude.{◌≡◌, ◌≤◌, ◌<◌, ◌+◌, ◌-◌, ◌^◌, ◌++◌, ◌↔◌, min, ℕ, List, Option, Some, None, option_map, length, map, IfOk, OnOk, OnErr, IfSome, IsTrue, slice_get, Contains, is_some, if◌then◌else◌};
 ghost use Rattle.std.specs.Option.{option_copied};
 ghost use Rattle.std.specs.List.{list_any};
 ghost use Rattle.gql_values3.specs.Texts.{same_text};
-ghost use Rattle.gql_ports.specs.Causes.{Rose};
+ghost use Rattle.gql_ports.specs.Causes.{Rose, count_after};
 ghost use Rattle.gql_ports.specs.Told.{MatchTold};
 ghost use Rattle.gql_values3.specs.Texts.{texts_differ};
 ghost use Rattle.gql_ports.specs.Held.{held_after_opening, same_name, Applies, value_at, value_after};
@@ -42,6 +44,7 @@ impl Keeper for MemKeeper {
         ensures err { OnErr result (held_by self.new ≡ held_by self.old) }
         ensures later { self.old.faults ≤ self.new.faults }
         ensures failed { result ≡ Err KeepFault.Failed → Rose self.old.faults self.new.faults }
+        ensures risen { self.new.faults ≡ count_after result self.old.faults }
         ensures honest { result ≡ Err KeepFault.Failed ↔ Contains self.old.fails self.new.calls }
         ensures counted { self.new.calls ≡ min (self.old.calls + 1) (2 ^ 64 - 1) }
         ensures settings { self.new.fails ≡ self.old.fails }
@@ -69,6 +72,7 @@ impl Keeper for MemKeeper {
         ensures same { length self.new.records ≡ length self.old.records }
         ensures later { self.old.faults ≤ self.new.faults }
         ensures failed { result ≡ Err KeepFault.Failed → Rose self.old.faults self.new.faults }
+        ensures risen { self.new.faults ≡ count_after result self.old.faults }
         ensures honest { result ≡ Err KeepFault.Failed ↔ Contains self.old.fails self.new.calls }
         ensures counted { self.new.calls ≡ min (self.old.calls + 1) (2 ^ 64 - 1) }
         ensures settings { self.new.fails ≡ self.old.fails }
@@ -88,6 +92,7 @@ impl Keeper for MemKeeper {
         ensures err { OnErr result (held_by self.new ≡ held_by self.old) }
         ensures later { self.old.faults ≤ self.new.faults }
         ensures failed { result ≡ Err KeepFault.Failed → Rose self.old.faults self.new.faults }
+        ensures risen { self.new.faults ≡ count_after result self.old.faults }
         ensures honest { result ≡ Err KeepFault.Failed ↔ Contains self.old.fails self.new.calls }
         ensures counted { self.new.calls ≡ min (self.old.calls + 1) (2 ^ 64 - 1) }
         ensures settings { self.new.fails ≡ self.old.fails }

@@ -1,3 +1,5 @@
+//! A sink in memory, which fails at the puts that it was told.
+
 ghost use Rattle.std.specs.Prelude.{◌≡◌, ◌+◌, ◌-◌, ◌^◌, min, Some, IsErr, OnOk, OnErr, Contains};
 ghost use Rattle.gql_ports.specs.Causes.{HasCause};
 ghost use Rattle.gql_ports.specs.Told.{MatchTold, Appends, AppendsPrefix};

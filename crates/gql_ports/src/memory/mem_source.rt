@@ -1,3 +1,5 @@
+//! A source in memory, which gives its text in pieces and fails at the calls that it was told.
+
 ghost use Rattle.std.specs.Prelude.{◌≡◌, ◌≤◌, ◌<◌, ◌+◌, ◌-◌, ◌^◌, ◌↔◌, min, max, if◌then◌else◌, Some, length, take, drop, true, option_map, is_ok, IsErr, IfOk, OnErr, Contains};
 ghost use Rattle.gql_ports.specs.Causes.{HasCause};
 ghost use Rattle.gql_ports.specs.Told.{after_opening, MatchTold, AfterReading};

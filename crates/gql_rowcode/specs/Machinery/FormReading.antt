@@ -19,12 +19,12 @@ both_at first second bytes = do
   Some ((a.0, b.0), b.1)
 
 -- what was read, where nothing stands behind it
-abbrev pub ended : {A : Type 0} → A × List ℕ → Option A
-ended x = if length x.1 == 0 then Some x.0 else None
+abbrev pub without_rest : {A : Type 0} → A × List ℕ → Option A
+without_rest x = if length x.1 == 0 then Some x.0 else None
 
 -- to the last byte
 abbrev pub whole_at : {A : Type 0} → (List ℕ → Option (A × List ℕ)) → List ℕ → Option A
-whole_at read bytes = read bytes >>= ended
+whole_at read bytes = read bytes >>= without_rest
 
 -- the name of a type behind the byte that tells whether there is one
 abbrev pub type_name_behind : Bool × List ℕ → Option (Option (List ℕ) × List ℕ)

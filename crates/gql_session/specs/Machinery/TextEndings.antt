@@ -1,5 +1,5 @@
 -- How the run of a piece and that of a text end, as the calls below `run` tell it.
-use Rattle.std.specs.Prelude.{◌≡◌, ℕ, ◌≤◌, ◌<◌, ◌⊎◌, Bool, true, false, Result, Ok, Err, MatchResult, List, [], ◌∷◌, ◌++◌, length, take, Option, Some}
+use Rattle.std.specs.Prelude.{◌≡◌, ℕ, ◌+◌, ◌≤◌, ◌<◌, ◌⊎◌, Bool, true, false, Result, Ok, Err, MatchResult, List, [], ◌∷◌, ◌++◌, length, take, Option, Some}
 use Rattle.std.specs.List.{list_any}
 use Rattle.gql_ports.specs.Held.{Holding}
 use Rattle.gql_ast.specs.declared.refusal.Outcome.{Outcome}
@@ -38,6 +38,7 @@ pub record FailedPiece (start : SessionState) (piece before : List ℕ) (faults 
 pub record UnrunPiece (start : SessionState) (before : List ℕ) (faults : FaultCounts) (held : Option Holding) (after : Option (List ℕ)) (held_after : Option Holding) : Type 0 where
   pub written : after ≡ Some before
   pub later : faults.before ≤ faults.after
+  pub once : faults.after ≤ faults.before + 1
   pub kept : Keeps held start.kept → Keeps held_after start.kept
 
 -- where a piece's run ended early

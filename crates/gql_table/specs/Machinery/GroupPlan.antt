@@ -14,7 +14,6 @@ use Rattle.gql_ast.specs.declared.fault.DataFault.{DataFault}
 use Rattle.gql_eval.specs.Preparation.{Preparation}
 use Rattle.gql_eval.specs.RowLists.{RowList}
 use Rattle.gql_table.specs.Distinct.{same_row}
-use Rattle.gql_table.specs.Machinery.Places.{among}
 use Rattle.gql_table.specs.Machinery.Preparations.{prepared_under, prepared_value}
 use Rattle.gql_table.specs.Sorting.{first_key, later_keys}
 use Rattle.gql_table.specs.Grouping.{results}
@@ -73,10 +72,6 @@ Gathered = List Datum × RowList
 abbrev pub joined_group : List Gathered → List Datum → List Datum → List Gathered
 joined_group [] key row = (key, row ∷ []) ∷ []
 joined_group (g ∷ gs) key row = if same_row g.0 key then (g.0, g.1 ++ row ∷ []) ∷ gs else g ∷ joined_group gs key row
-
--- with a group of the key, which has no row yet where it is new
-abbrev pub with_group : List Gathered → List Datum → List Gathered
-with_group gs key = if among (map (λ (g : Gathered). g.0) gs) key then gs else gs ++ (key, []) ∷ []
 
 -- rows with their keys join groups
 abbrev pub gathered_rows : List Gathered → RowList → RowList → List Gathered

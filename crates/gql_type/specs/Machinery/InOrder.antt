@@ -43,11 +43,11 @@ both_match (Some r) (Some t) = matches_node_type r t
 both_match _ _ = false
 
 -- the node of a number among some nodes
-abbrev pub node_among : List NodeRecord → NodeId → Option NodeRecord
-node_among nodes n = find (λ (r : NodeRecord). r.number.0 == n.0) nodes
+abbrev pub node_of_number : List NodeRecord → NodeId → Option NodeRecord
+node_of_number nodes n = find (λ (r : NodeRecord). r.number.0 == n.0) nodes
 
 abbrev pub end_matches : List NodeRecord → GraphType → NodeId → ℕ → Bool
-end_matches nodes t n place = both_match (node_among nodes n) (slice_get t.nodes place)
+end_matches nodes t n place = both_match (node_of_number nodes n) (slice_get t.nodes place)
 
 abbrev pub ends_either_way : List NodeRecord → GraphType → NodeId → NodeId → EdgeType → Bool
 ends_either_way nodes t low high e = (end_matches nodes t low e.first && end_matches nodes t high e.second) || (end_matches nodes t high e.first && end_matches nodes t low e.second)

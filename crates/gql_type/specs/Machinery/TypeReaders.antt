@@ -79,12 +79,12 @@ label_names_of ts = do
   Some (x.0 ∷ (many other_label_of (length x.1) x.1).0, (many other_label_of (length x.1) x.1).1)
 
 -- [(":" or IS) Labels]
-unfoldable pub labels_of : Reader (Option (List (List ℕ)))
-labels_of ts = led is_colon label_names_of ts
+unfoldable pub optional_labels_of : Reader (Option (List (List ℕ)))
+optional_labels_of ts = led is_colon label_names_of ts
 
 unfoldable pub content_of : Reader ElementBody
 content_of ts = do
-  l ← labels_of ts
+  l ← optional_labels_of ts
   p ← braced_properties_of l.1
   Some (record { labels = l.0; properties = p.0 }, p.1)
 

@@ -2,7 +2,7 @@ use Rattle.std.proofs.Common.{ap}
 use Rattle.gql_ast.specs.declared.refusal.Outcome.TheVariants as outcome
 use Rattle.gql_ast.specs.declared.statement.Statement.TheVariants as statement
 use Rattle.gql_machine.specs.StatementRun.{MayExecute}
-use Rattle.gql_machine.specs.Machinery.Meaning.{session_state, ended}
+use Rattle.gql_machine.specs.Machinery.Meaning.{session_state, statement_end}
 use Rattle.gql_machine.proofs.PieceLemmas.{ends_here}
 use Rattle.gql_machine.proofs.StateLemmas.{over}
 use Rattle.gql_machine.proofs.statement.execute.Goals as goal
@@ -19,4 +19,4 @@ returns-in_ok-run_catalog_statement-in-Catalog g c =
     let s = c.args.session.now in
     rw c.in-Catalog.is
     (ends_here (MayExecute (session_state s) (statement.Catalog c.in-Catalog.statement)) c.end_with-in-Catalog.result outcome.Done (over c.run_catalog_statement.new.txn s.graph s.parameters s.is_closed)
-    (ap (λ t. ended outcome.Done (over t s.graph s.parameters s.is_closed)) c.in_ok-run_catalog_statement-in-Catalog.ensures) c.end_with-in-Catalog.ensures.outcome c.end_with-in-Catalog.ensures.commits)
+    (ap (λ t. statement_end outcome.Done (over t s.graph s.parameters s.is_closed)) c.in_ok-run_catalog_statement-in-Catalog.ensures) c.end_with-in-Catalog.ensures.outcome c.end_with-in-Catalog.ensures.commits)

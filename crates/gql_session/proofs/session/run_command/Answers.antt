@@ -8,8 +8,9 @@ use Rattle.gql_session.proofs.session.run_command.Goals as goal
 pub returns-in-Ok-clause-ends : goal.returns-in-Ok-clause-ends
 returns-in-Ok-clause-ends g c = λ text before records t w k.
     let here = named _ _ _ records c.store_of.ensures k in
-    ends_as records (store_of (seen c.args.command.now)) c.in-Ok.txn.catalog text before _ _ _ c.run_loaded.result _ _ _ (c.in-Ok.ensures.kept records here ∙ k) c.in-Ok.ensures.later
-    (c.in-Ok.ensures.found records here).1 c.run_loaded.ensures.same (c.run_loaded.ensures.ends text before t w)
+    let told = rw c.in-Ok.ensures.risen at (c.run_loaded.ensures.ends text before t w) in
+    ends_as records (store_of (seen c.args.command.now)) c.in-Ok.txn.catalog text before _ c.run_loaded.result _ _ _ (c.in-Ok.ensures.kept records here ∙ k) (c.in-Ok.ensures.found records here).1
+    c.run_loaded.ensures.same told
 
 pub returns-in-Err-Failed-clause-ends : goal.returns-in-Err-Failed-clause-ends
 returns-in-Err-Failed-clause-ends g c = λ text before records t w k. nothing_ran records _ before _ _ _ k w (c.in-Err-Failed.ensures.kept records (named _ _ _ records c.store_of.ensures k))

@@ -1,32 +1,26 @@
-use Rattle.std.proofs.Common.{◌≡◌, ◌∷◌, ◌∙◌, ◌<◌, ◌+◌, [], List, map, length, drop, sym, arith, rules}
-use Rattle.std.specs.Borrow.{Bor}
-use Rattle.gql_values3.specs.Datum.{Datum}
+use Rattle.std.proofs.Common.{◌≡◌, ◌∷◌, ◌∙◌, ◌<◌, ◌+◌, map, length, drop, sym, ap, arith, rules}
+use Rattle.gql_values3.specs.Meaning.{datum_of}
+use Rattle.gql_ast.specs.Faults.{each}
 use Rattle.gql_eval.specs.Gives.{Fails}
-use Rattle.gql_eval.specs.RowLists.{RowList}
-use Rattle.gql_table.specs.Machinery.GroupPlan.{results_behind}
-use Rattle.gql_eval.proofs.EachSteps.{drop_here}
-use Rattle.gql_table.proofs.GroupSteps.{behind_step, behind_fails}
+use Rattle.gql_table.specs.Machinery.Running.{finished}
+use Rattle.gql_table.specs.Machinery.StandingMeaning.{standing_of}
+use Rattle.gql_eval.proofs.EachSteps.{each_step, each_fails, drop_here}
 use Rattle.gql_table.proofs.group_results.group_results.Goals as goal
+
+pub returns-in_err-finish : goal.returns-in_err-finish
+returns-in_err-finish c =
+    let at = c.loop-i in
+    let state = c.index-states-i.result in
+    let e = c.in_err-finish.field-0.0 in
+    let below : at.i < length c.args.states.now = omega arith in
+    let left : map standing_of (drop at.i c.args.states.now) ≡ standing_of state ∷ map standing_of (drop (at.i + 1) c.args.states.now) = ap (map standing_of) (drop_here c.args.states.now at.i state below c.index-states-i.is) in
+    let whole : Fails e (each finished (map standing_of c.args.states.now)) = rw (← at.invariant) (each_fails finished _ (standing_of state) _ e _ left c.in_err-finish.ensures) in
+    search rules
 
 pub loop-i-preserved : goal.loop-i-preserved
 loop-i-preserved c =
     let at = c.loop-i in
-    let items = c.args.items.now in
-    let item = c.index-items-i.result in
-    let rows : RowList = map (λ (r : Bor (List Datum)). r.now) c.args.rows.now in
-    let below : at.i < length items = omega arith in
-    let left : drop at.i items ≡ item ∷ drop (at.i + 1) items = drop_here items at.i item below c.index-items-i.is in
-    sym (behind_step rows at.done c.add_results.new.done _ (drop (at.i + 1) items) item left (rw c.aggregates.ensures at c.in_ok-add_results.ensures)) ∙ at.invariant
-
-pub returns-in_err-add_results : goal.returns-in_err-add_results
-returns-in_err-add_results c =
-    let at = c.loop-i in
-    let items = c.args.items.now in
-    let item = c.index-items-i.result in
-    let e = c.in_err-add_results.field-0.0 in
-    let rows : RowList = map (λ (r : Bor (List Datum)). r.now) c.args.rows.now in
-    let below : at.i < length items = omega arith in
-    let left : drop at.i items ≡ item ∷ drop (at.i + 1) items = drop_here items at.i item below c.index-items-i.is in
-    let whole : Fails e (results_behind [] items rows) =
-    rw (← at.invariant) (behind_fails rows at.done _ (drop (at.i + 1) items) item e left (rw c.aggregates.ensures at c.in_err-add_results.ensures)) in
-    search rules
+    let state = c.index-states-i.result in
+    let below : at.i < length c.args.states.now = omega arith in
+    let left : map standing_of (drop at.i c.args.states.now) ≡ standing_of state ∷ map standing_of (drop (at.i + 1) c.args.states.now) = ap (map standing_of) (drop_here c.args.states.now at.i state below c.index-states-i.is) in
+    rw c.in_ok-push.ensures.ok (sym (each_step finished _ (standing_of state) _ at.done (datum_of c.in_ok-finish.field-0) left c.in_ok-finish.ensures) ∙ at.invariant)

@@ -1,10 +1,9 @@
-use Rattle.std.proofs.Common.{◌≡◌, [], List, map, drop}
-use Rattle.std.specs.Borrow.{Bor}
-use Rattle.gql_values3.specs.Datum.{Datum}
-use Rattle.gql_table.specs.Machinery.GroupPlan.{results_behind}
+use Rattle.std.proofs.Common.{◌≡◌, ◌++◌, map, drop, Ok}
+use Rattle.gql_ast.specs.Faults.{each}
+use Rattle.gql_eval.specs.Machinery.Next.{next}
+use Rattle.gql_table.specs.Machinery.Running.{finished}
+use Rattle.gql_table.specs.Machinery.StandingMeaning.{standing_of}
 use Rattle.gql_table.proofs.group_results.group_results.Given as goal
 
 abbrev pub invariant-loop-i : goal.invariant-loop-i
-invariant-loop-i l =
-    results_behind l.done (drop l.i l.items) (map (λ (r : Bor (List Datum)). r.now) l.rows)
-    ≡ results_behind [] l.items (map (λ (r : Bor (List Datum)). r.now) l.rows)
+invariant-loop-i l = next (each finished (map standing_of (drop l.i l.states))) (λ ds. Ok (l.done ++ ds)) ≡ each finished (map standing_of l.states)

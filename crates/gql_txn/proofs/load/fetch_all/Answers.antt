@@ -7,7 +7,7 @@ pub loop-index-preserved : goal.loop-index-preserved
 loop-index-preserved g c = record {
   held = c.in_ok-found.ensures.kept ∙ c.loop-index.invariant.held;
   count = c.in_ok-found.ensures.same ∙ c.loop-index.invariant.count;
-  later = omega (arith, c.in_ok-found.ensures.later, c.loop-index.invariant.later);
+  faults = c.in_ok-found.ensures.risen ∙ c.loop-index.invariant.faults;
   all = λ h e.
       let here = c.loop-index.invariant.held ∙ e in
       let got = rw here at c.in_ok-found.ensures.found in
