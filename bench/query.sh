@@ -1,12 +1,13 @@
 #!/bin/sh
 # Prints seconds and peak memory of one query over 1,000,000 rows (two nested FOR, FILTER, LET, grouping with COUNT and
 # SUM, ORDER BY), five times, and of SQLite's form of it where sqlite3 is installed, each in turn. Both print the same
-# rows, which is checked. The other words are programs to compare with: bench/query.sh [PROGRAM..]
+# rows, which is checked. Words are programs to measure in its
+# place: bench/query.sh [PROGRAM..]
 top=$(cd "$(dirname "$0")/.." && pwd) || exit 70
 folder=$(mktemp -d) || exit 70
 trap 'rm -rf "$folder"' EXIT
-"$top/gql" --build >/dev/null 2>&1 || exit 70
-exec python3 - "$folder" "$top/crates/gql/out/gql" "$@" <<'PY'
+if [ $# -eq 0 ]; then "$top/gql" --build >/dev/null 2>&1 || exit 70; set -- "$top/crates/gql/out/gql"; fi
+exec python3 - "$folder" "$@" <<'PY'
 import os, resource, shutil, subprocess, sys, time
 folder, *programs = sys.argv[1:]
 numbers = range(1000)
