@@ -181,13 +181,6 @@ impl Sub {
     {
         &self.expr
     }
-
-    pub fn into_expr(self) -> Expr
-        ensures { tree_of result ≡ self }
-    {
-        let Sub { expr } = self;
-        Box::into_inner(expr)
-    }
 }
 
 impl Exprs {
@@ -199,35 +192,10 @@ impl Exprs {
         }
     }
 
-    pub fn from_vec(items: Vec<Expr>) -> Exprs
-        ensures { result ≡ map tree_of items.items }
-    {
-        Exprs { items }
-    }
-
-    pub fn into_vec(self) -> Vec<Expr>
-        ensures { map tree_of result.items ≡ self }
-    {
-        let Exprs { items } = self;
-        items
-    }
-
     pub fn as_slice(&self) -> &[Expr]
         ensures { map tree_of result.now ≡ self.now }
     {
         self.items.as_slice()
-    }
-
-    pub fn len(&self) -> usize
-        ensures { result ≡ length self.now }
-    {
-        self.items.len()
-    }
-
-    pub fn is_empty(&self) -> bool
-        ensures { result ≡ (length self.now == 0) }
-    {
-        self.items.is_empty()
     }
 
     pub fn push(&mut self, expr: Expr) -> Result<(), OutOfMemory>
@@ -246,19 +214,6 @@ impl Steps {
         Steps {
             items: Vec::new(alloc),
         }
-    }
-
-    pub fn from_vec(items: Vec<Step>) -> Steps
-        ensures { result ≡ map link_of items.items }
-    {
-        Steps { items }
-    }
-
-    pub fn into_vec(self) -> Vec<Step>
-        ensures { map link_of result.items ≡ self }
-    {
-        let Steps { items } = self;
-        items
     }
 
     pub fn as_slice(&self) -> &[Step]

@@ -102,13 +102,6 @@ impl LabelSub {
         &self.expr
     }
 
-    pub fn into_expr(self) -> LabelExpr
-        ensures { label_of result ≡ self }
-    {
-        let LabelSub { expr } = self;
-        Box::into_inner(expr)
-    }
-
     /// An equal part.
     #[cycle(label_copy)]
     pub fn try_copy(&self, alloc: Global) -> Result<LabelSub, OutOfMemory>
@@ -127,29 +120,10 @@ impl LabelList {
         }
     }
 
-    pub fn from_vec(items: Vec<LabelExpr>) -> LabelList
-        ensures { result ≡ map label_of items.items }
-    {
-        LabelList { items }
-    }
-
-    pub fn into_vec(self) -> Vec<LabelExpr>
-        ensures { map label_of result.items ≡ self }
-    {
-        let LabelList { items } = self;
-        items
-    }
-
     pub fn as_slice(&self) -> &[LabelExpr]
         ensures { map label_of result.now ≡ self.now }
     {
         self.items.as_slice()
-    }
-
-    pub fn len(&self) -> usize
-        ensures { result ≡ length self.now }
-    {
-        self.items.len()
     }
 
     pub fn is_empty(&self) -> bool

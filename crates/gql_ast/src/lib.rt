@@ -14,7 +14,6 @@ mod filler;
 mod graph_type;
 mod label;
 mod last_clause;
-mod lone_node;
 mod mode;
 mod page;
 mod parse_fault;
@@ -38,7 +37,6 @@ pub use filler::{Condition, Filler, Map, MapItem};
 pub use graph_type::{ElementBody, TypeBody, TypeElement, TypeProperty};
 pub use label::{LabelExpr, LabelList, LabelSub};
 pub use last_clause::{ends_in_change, is_change};
-pub use lone_node::node_of_pattern;
 pub use mode::Mode;
 pub use page::{NullOrder, Page, RowCount, SortDirection, SortItem, SortItems};
 pub use parse_fault::ParseFault;
@@ -51,7 +49,7 @@ pub use statement::{
 };
 pub use text::{
     Setting, a_number_prints_in_decimal, expr_text, push_any_name, push_digits, push_edge,
-    push_escaped, push_expr, push_header, push_integer, push_label, push_name, push_node,
-    push_number, push_parameter, push_property, push_value,
+    push_escaped, push_header, push_integer, push_label, push_name, push_node, push_number,
+    push_parameter, push_property, push_value,
 };
 pub use words::{Aggregate, EdgeEnd, Function, Operator, Quality, Sense, SetQuantifier, Sign};

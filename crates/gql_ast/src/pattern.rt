@@ -138,13 +138,6 @@ impl PathSub {
     {
         &self.expr
     }
-
-    pub fn into_expr(self) -> PathExpr
-        ensures { pattern_of result ≡ self }
-    {
-        let PathSub { expr } = self;
-        Box::into_inner(expr)
-    }
 }
 
 impl PathList {
@@ -156,29 +149,10 @@ impl PathList {
         }
     }
 
-    pub fn from_vec(items: Vec<PathExpr>) -> PathList
-        ensures { result ≡ map pattern_of items.items }
-    {
-        PathList { items }
-    }
-
-    pub fn into_vec(self) -> Vec<PathExpr>
-        ensures { map pattern_of result.items ≡ self }
-    {
-        let PathList { items } = self;
-        items
-    }
-
     pub fn as_slice(&self) -> &[PathExpr]
         ensures { map pattern_of result.now ≡ self.now }
     {
         self.items.as_slice()
-    }
-
-    pub fn len(&self) -> usize
-        ensures { result ≡ length self.now }
-    {
-        self.items.len()
     }
 
     pub fn is_empty(&self) -> bool

@@ -12,7 +12,7 @@ mod values;
 mod words;
 
 pub use escapes::{Setting, push_escaped};
-pub use expressions::{expr_text, push_expr};
+pub use expressions::expr_text;
 pub use labels::push_label;
 pub use names::{push_any_name, push_header, push_name, push_parameter, push_property};
 pub use numbers::{a_number_prints_in_decimal, push_digits, push_integer, push_number};

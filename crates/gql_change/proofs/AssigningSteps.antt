@@ -1,11 +1,9 @@
 -- What SET and REMOVE store: a value is told by its meaning, and one that may be stored is set.
 use Rattle.std.proofs.Common.{◌≡◌, ℕ, Bool, true, cond, Option, Some, List, [], ◌∷◌, ◌++◌, refl, sym, ap, ◌∙◌, append_assoc, append-nil, Result, Ok, Err}
-use Rattle.std.specs.Prelude.{◌||◌}
 use Rattle.std.specs.List.{flat_map}
-use Rattle.gql_values3.specs.Datum.{Datum, data_of, items_of, null, boolean, integer, text, list, node, edge, path}
+use Rattle.gql_values3.specs.Datum.{Datum, data_of, items_of}
 use Rattle.gql_values3.specs.Meaning.{datum_of}
-use Rattle.gql_values3.specs.Datum.{is_null}
-use Rattle.gql_values3.specs.PropertyGraph.{PropertyGraph, is_storable, is_property}
+use Rattle.gql_values3.specs.PropertyGraph.{PropertyGraph, is_storable}
 use Rattle.gql_values3.specs.declared.element.Elem.{Elem}
 use Rattle.gql_values3.specs.declared.value.Value.{Value}
 use Rattle.gql_values3.specs.declared.value.Value.TheVariants as v
@@ -38,17 +36,6 @@ value_back (v.Path p) = refl
 
 pub same_value : (a b : Value) → datum_of a ≡ datum_of b → a ≡ b
 same_value a b p = sym (value_back a) ∙ ap as_value p ∙ value_back b
-
--- what may be stored is NULL or may be a property
-pub storable_is : (d : Datum) → (is_null d || is_property d) ≡ is_storable d 64
-storable_is null = refl
-storable_is (boolean b) = refl
-storable_is (integer z) = refl
-storable_is (text t) = refl
-storable_is (list ds) = refl
-storable_is (node n) = refl
-storable_is (edge e) = refl
-storable_is (path p) = refl
 
 -- a value that may be stored is set
 pub set_kept : (g : PropertyGraph) (params : List (List ℕ × Datum)) (r : Result (Option Elem) DataFault) (s : Result Datum DataFault) (e : Elem) (p : List ℕ) (a : Value)

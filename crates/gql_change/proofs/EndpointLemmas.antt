@@ -7,12 +7,10 @@ use Rattle.gql_values3.specs.declared.table.ColumnKind.{ColumnKind}
 use Rattle.gql_values3.specs.declared.table.ColumnKind.TheVariants as kind
 use Rattle.gql_ast.specs.ClauseColumns.{ColumnList, is_column}
 use Rattle.gql_ast.specs.Outputs.{kind_of_name}
-use Rattle.gql_ast.specs.InsertColumns.{Spots, spot_columns, path_spots, step_spots, with_variable}
+use Rattle.gql_ast.specs.InsertColumns.{Spots, spot_columns, step_spots, with_variable}
 use Rattle.gql_ast.specs.declared.change.InsertStep.{InsertStep}
-use Rattle.std.specs.List.{flat_map}
 use Rattle.gql_eval.specs.Machinery.Places.{place_among}
 use Rattle.gql_ast.specs.Endpoints.{is_node, wrong_endpoint, wrong_in_spots}
-use Rattle.gql_ast.specs.declared.change.InsertPath.{InsertPath}
 use Rattle.gql_change.specs.Changing.{is_empty}
 use Rattle.gql_change.specs.Machinery.Endpoints.{may_stand}
 
@@ -61,14 +59,6 @@ endpoint_new cs kind.Edges x h = refl
 endpoint_new cs kind.Path x h = refl
 endpoint_new cs kind.Plain x h = refl
 
-pub without_variable : (cs : ColumnList) (d : ColumnKind) → is_empty (wrong_endpoint cs d None) ≡ true
-without_variable cs kind.Node = refl
-without_variable cs kind.Edge = refl
-without_variable cs kind.Nodes = refl
-without_variable cs kind.Edges = refl
-without_variable cs kind.Path = refl
-without_variable cs kind.Plain = refl
-
 pub and_true : (b c : Bool) → c ≡ true → b ≡ (b && c)
 and_true true c h = sym h
 and_true false c h = refl
@@ -111,15 +101,6 @@ right_step b cs s =
     let node = wrong_endpoint (with_variable cs kind.Edge s.edge.variable) kind.Node s.node.variable in
     and_assoc b (is_empty edge) (is_empty node)
     ∙ ap (λ (c : Bool). b && c) (sym (empty_append edge (node ++ []) ∙ ap (λ (ns : List (List ℕ)). is_empty edge && is_empty ns) (append-nil node)))
-
--- and of the first node of a path
-pub right_start : (b : Bool) (cs : ColumnList) (p : InsertPath)
-    → ((b && is_empty (wrong_endpoint cs kind.Node p.start.variable)) && is_empty (wrong_in_spots (with_variable cs kind.Node p.start.variable) (flat_map step_spots p.steps)))
-    ≡ (b && is_empty (wrong_in_spots cs (path_spots p)))
-right_start b cs p =
-    let node = wrong_endpoint cs kind.Node p.start.variable in
-    let rest = wrong_in_spots (with_variable cs kind.Node p.start.variable) (flat_map step_spots p.steps) in
-    and_assoc b (is_empty node) (is_empty rest) ∙ ap (λ (c : Bool). b && c) (sym (empty_append node rest))
 
 -- what a column holds, by its place
 abbrev pub kind_by : ColumnList → Option ℕ → Option ColumnKind

@@ -1,5 +1,5 @@
 -- A text's place among texts in order, and what is put there.
-use Rattle.std.proofs.Common.{◌≡◌, ℕ, zero, suc, ◌+◌, ◌<◌, Bool, true, false, cond, not, List, [], ◌∷◌, length, map, drop, get_or, refl, sym, ap, ◌∙◌, arith, Result, Ok, Err}
+use Rattle.std.proofs.Common.{◌≡◌, ℕ, suc, ◌+◌, Bool, true, false, cond, not, List, [], ◌∷◌, length, map, drop, refl, sym, ap, arith, Result, Ok, Err}
 use Rattle.std.proofs.Math.Seq.{drop-cons}
 use Rattle.std.specs.Prelude.{filter}
 use Rattle.std.specs.declared.cmp.Ordering.{Ordering}
@@ -10,7 +10,6 @@ use Rattle.gql_values3.specs.Datum.{Datum}
 use Rattle.gql_values3.specs.Meaning.{datum_of}
 use Rattle.gql_values3.specs.Texts.{same_text}
 use Rattle.gql_values3.specs.declared.value.Value.{Value}
-use Rattle.gql_eval.proofs.EachSteps.{drop_here}
 use Rattle.gql_change.specs.Storing.{PropertyList, by_order, put_property, without_property, put_label}
 use Rattle.gql_change.specs.Machinery.Places.{further, one_further, place_in_order, put_at, joined_at, IsWithin}
 
@@ -65,28 +64,6 @@ step_case Less i r = ap (λ n. Err n) (omega arith)
 step_case Equal i r = ap (λ n. Ok n) (omega arith)
 step_case Greater i (Ok j) = ap (λ n. Ok n) (omega arith)
 step_case Greater i (Err j) = ap (λ n. Err n) (omega arith)
-
-pub place_step : {A : Type 0} (key : A → List ℕ) (x : List ℕ) (xs : List A) (i : ℕ) (y : A) → i < length xs → y ≡ get_or xs i y
-    → place_from key x xs i ≡ by_order (slice_cmp nat_cmp x (key y)) (Err i) (Ok i) (place_from key x xs (i + 1))
-place_step key x xs i y h here =
-    ap (λ ys. further i (place_in_order x (map key ys))) (drop_here xs i y h here)
-    ∙ step_case (slice_cmp nat_cmp x (key y)) i (place_in_order x (map key (drop (i + 1) xs)))
-
-pub place_none : {A : Type 0} (key : A → List ℕ) (x : List ℕ) (xs : List A) → place_from key x xs 0 ≡ place_in_order x (map key xs)
-place_none key x xs = from_zero (place_in_order x (map key xs))
-  where
-    from_zero : (r : Result ℕ ℕ) → further 0 r ≡ r
-    from_zero (Ok i) = ap (λ n. Ok n) (omega arith)
-    from_zero (Err i) = ap (λ n. Err n) (omega arith)
-
-pub place_end : {A : Type 0} (key : A → List ℕ) (x : List ℕ) (xs : List A) (i : ℕ) → i ≡ length xs → place_from key x xs i ≡ Err i
-place_end key x xs i h = ap (λ ys. further i (place_in_order x (map key ys))) (over xs i h) ∙ ap (λ n. Err n) (omega arith)
-  where
-    over : {A : Type 0} (xs : List A) (i : ℕ) → i ≡ length xs → drop i xs ≡ []
-    over [] zero h = refl
-    over [] (suc i) h = absurd (omega arith)
-    over (x ∷ xs) zero h = absurd (omega arith)
-    over (x ∷ xs) (suc i) h = over xs i (omega arith)
 
 kept_or_not : (b : Bool) (p : List ℕ × Value) (ps : List (List ℕ × Value)) (qs : PropertyList) → map shown ps ≡ qs
     → map shown (cond b (p ∷ ps) ps) ≡ cond b (shown p ∷ qs) qs

@@ -11,7 +11,6 @@ ghost use Rattle.gql_change.specs.Machinery.Roles.{question_of, questions};
 ghost use Rattle.gql_change.specs.Plans.{Plans};
 
 use crate::basis::Basis;
-use crate::columns::copy_columns;
 use crate::deletion::plan_delete;
 use crate::fault::ChangeFault;
 use crate::insert::plan_insert;
@@ -21,6 +20,7 @@ use crate::questions::{Outline, outline_of};
 use crate::set_clause::{plan_remove, plan_set};
 use crate::spot_question::SpotQuestion;
 use gql_ast::{ChangeClause, DataFault, InsertPath, Refusal};
+use gql_eval::copied_columns;
 use gql_graph::Changes;
 use gql_values3::{Columns, Params, Row, Rows, View};
 use std::alloc::Global;
@@ -89,17 +89,17 @@ fn changes_of<'a, V: View>(
         ChangeClause::Insert(paths) => { insert(basis, rows, paths.as_slice()) }
         ChangeClause::Set(items) => {
             let changes = plan_set(basis, &rows, items.as_slice())?;
-            let same = copy_columns(basis.alloc, basis.columns)?;
+            let same = copied_columns(basis.alloc, basis.columns.as_slice())?;
             Ok((changes, same, rows))
         }
         ChangeClause::Remove(items) => {
             let changes = plan_remove(basis, &rows, items.as_slice())?;
-            let same = copy_columns(basis.alloc, basis.columns)?;
+            let same = copied_columns(basis.alloc, basis.columns.as_slice())?;
             Ok((changes, same, rows))
         }
         ChangeClause::Delete(detachment, names) => {
             let changes = plan_delete(basis, &rows, *detachment, names.as_slice())?;
-            let same = copy_columns(basis.alloc, basis.columns)?;
+            let same = copied_columns(basis.alloc, basis.columns.as_slice())?;
             Ok((changes, same, rows))
         }
     }

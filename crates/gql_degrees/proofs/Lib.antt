@@ -1,4 +1,3 @@
-mod DigitLemmas
 mod BoundLemmas
 mod DeclaredLemmas
 mod KindLemmas

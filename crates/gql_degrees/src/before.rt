@@ -1,11 +1,10 @@
 //! Degrees that a name has in parts before, and which two degrees are at fault.
 
 ghost use Rattle.std.specs.Prelude.{◌≡◌};
-ghost use Rattle.gql_degrees.specs.DegreeData.{degree_data, plain};
 ghost use Rattle.gql_degrees.specs.Machinery.JoinData.{at_fault, before_data};
 ghost use Rattle.gql_degrees.specs.Machinery.JoinWalk.{and_degree, is_behind_fault, none_before};
 
-use crate::degrees::Degree;
+use gql_norm::Degree;
 
 /// Which two degrees of a name are at fault.
 #[derive(Clone, Copy, Debug, PartialEq, Eq)]
@@ -37,7 +36,7 @@ pub fn none_before() -> Before
 
 /// A part more, if it declares the name.
 pub fn and_degree(before: Before, degree: Option<Degree>) -> Before
-    ensures { before_data result ≡ and_degree (before_data before) (plain degree) }
+    ensures { before_data result ≡ and_degree (before_data before) degree }
 {
     let mut after = before;
     match degree {
@@ -51,7 +50,7 @@ pub fn and_degree(before: Before, degree: Option<Degree>) -> Before
 
 /// Whether a degree is at fault with one before.
 pub fn is_behind_fault(join: Join, before: Before, degree: Option<Degree>) -> bool
-    ensures { result ≡ is_behind_fault (at_fault join) (before_data before) (plain degree) }
+    ensures { result ≡ is_behind_fault (at_fault join) (before_data before) degree }
 {
     match degree {
         Some(degree) => {
@@ -65,7 +64,7 @@ pub fn is_behind_fault(join: Join, before: Before, degree: Option<Degree>) -> bo
 
 /// Whether two degrees of a name are at fault.
 pub fn are_faulty(join: Join, a: Degree, b: Degree) -> bool
-    ensures { result ≡ at_fault join (degree_data a) (degree_data b) }
+    ensures { result ≡ at_fault join a b }
 {
     match (join, a, b) {
         (Join::Group, Degree::Group, _) | (Join::Group, _, Degree::Group) => true,

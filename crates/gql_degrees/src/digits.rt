@@ -6,30 +6,16 @@ ghost use Rattle.gql_norm.specs.NormalForm.{fewest_copies, most_copies, number_o
 ghost use Rattle.gql_degrees.specs.FirstFaults.{at_most_largest};
 
 use gql_ast::Quantifier;
-use gql_values3::Text;
+use gql_values3::{Text, number_within};
 
 /// The largest integer.
-const LARGEST: u128 = 9_223_372_036_854_775_807;
+const LARGEST: u64 = 9_223_372_036_854_775_807;
 
 /// The number that digits write, or the largest integer where it is larger.
 pub fn number_of(digits: &Text) -> u64
     ensures { result ≡ at_most_largest (value_of_digits digits.now) }
 {
-    number_by(digits.as_str().as_bytes())
-}
-
-/// A number never falls as digits come behind it, so the first that is above the largest integer decides.
-fn number_by(digits: &[u8]) -> u64
-    ensures { result ≡ at_most_largest (value_of_digits digits.now) }
-{
-    let mut value = 0u128;
-    for digit in digits {
-        value = value * 10 + u128::from(digit.saturating_sub(b'0'));
-        if value > LARGEST {
-            return 9_223_372_036_854_775_807;
-        }
-    }
-    value as u64
+    number_within(LARGEST, digits.as_str().as_bytes()).unwrap_or(LARGEST)
 }
 
 /// A number that may be missing and then is 1.

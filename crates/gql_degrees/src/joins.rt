@@ -2,7 +2,6 @@
 
 ghost use Rattle.std.specs.Prelude.{◌≡◌, [], None, map, option_map, IfOk};
 ghost use Rattle.gql_norm.specs.JoinDefects.{column_degree, joined_conditional, joined_group};
-ghost use Rattle.gql_degrees.specs.DegreeData.{degree_data};
 ghost use Rattle.gql_norm.specs.NormalData.{path_data, pattern_data};
 ghost use Rattle.gql_degrees.specs.Machinery.JoinData.{at_fault, walked_data};
 ghost use Rattle.gql_degrees.specs.Machinery.JoinWalk.{first_among, first_joined, place_of_fault, sooner_named, suspects, with_column};
@@ -10,11 +9,10 @@ ghost use Rattle.gql_degrees.specs.Machinery.KindWalk.{declared_in_all_paths};
 
 use crate::before::{Join, are_faulty, none_before};
 use crate::declared::declared_in_paths;
-use crate::degrees::Degree;
-use crate::known::{KnownNames, known};
 use crate::walk::walked_paths;
 use crate::walked::{Walked, place_if, sooner};
-use gql_norm::{NormalPath, NormalPattern};
+use gql_expr_checks::{KnownColumns, known_columns};
+use gql_norm::{Degree, NormalPath, NormalPattern};
 use gql_values3::{ColumnKind, Columns, OutOfMemory, Text};
 use std::alloc::Global;
 
@@ -59,10 +57,10 @@ fn first_joined(
 ) -> Result<Option<Text>, OutOfMemory>
     ensures { IfOk result (λ name. name ≡ first_joined (at_fault join) columns.now (map path_data paths.now)) }
 {
-    let columns = known(alloc, columns)?;
+    let columns = known_columns(alloc, columns)?;
     let declared = declared_in_paths(alloc, paths)?;
     let suspects = suspects(alloc, &columns, declared.as_slice())?;
-    let best = first_among(alloc, join, &columns, paths, suspects.as_slice())?;
+    let best = first_among(alloc, join, &columns, paths, suspects.columns())?;
     Ok(name_of(best))
 }
 
@@ -78,13 +76,13 @@ fn name_of(spot: Option<(u64, Text)>) -> Option<Text>
 /// The names that may be at fault: those declared a second time and those that are columns, each once.
 fn suspects(
     alloc: Global,
-    columns: &KnownNames,
+    columns: &KnownColumns,
     declared: &[(Text, ColumnKind)],
-) -> Result<KnownNames, OutOfMemory>
+) -> Result<KnownColumns, OutOfMemory>
     ensures { IfOk result (λ names. names ≡ suspects columns.now [] [] declared.now) }
 {
-    let mut seen = KnownNames::new(alloc);
-    let mut named = KnownNames::new(alloc);
+    let mut seen = KnownColumns::new(alloc);
+    let mut named = KnownColumns::new(alloc);
     for i in 0..declared.len() {
         let (name, kind) = &declared[i];
         if (seen.contains(name) || columns.contains(name)) && !named.contains(name) {
@@ -99,7 +97,7 @@ fn suspects(
 fn first_among(
     alloc: Global,
     join: Join,
-    columns: &KnownNames,
+    columns: &KnownColumns,
     paths: &[NormalPath],
     names: &[(Text, ColumnKind)],
 ) -> Result<Option<(u64, Text)>, OutOfMemory>
@@ -117,14 +115,14 @@ fn first_among(
 /// The least place at which a name is at fault.
 fn place_of_fault(
     join: Join,
-    columns: &KnownNames,
+    columns: &KnownColumns,
     paths: &[NormalPath],
     name: &Text,
 ) -> Result<Option<u64>, OutOfMemory>
     ensures { IfOk result (λ place. place ≡ place_of_fault (at_fault join) columns.now (map path_data paths.now) name.now) }
 {
     let found = walked_paths(join, name, paths, 0, none_before())?;
-    Ok(with_column(join, columns.kind(name), found))
+    Ok(with_column(join, columns.first_kind(name), found))
 }
 
 fn with_column(join: Join, column: Option<ColumnKind>, found: Walked) -> Option<u64>
@@ -141,7 +139,7 @@ fn with_column(join: Join, column: Option<ColumnKind>, found: Walked) -> Option<
 
 /// A column counts as a group or a singleton.
 fn column_degree(kind: ColumnKind) -> Degree
-    ensures { degree_data result ≡ column_degree kind }
+    ensures { result ≡ column_degree kind }
 {
     match kind {
         ColumnKind::Nodes | ColumnKind::Edges => Degree::Group,

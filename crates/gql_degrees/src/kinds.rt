@@ -9,7 +9,7 @@ ghost use Rattle.gql_degrees.specs.Machinery.KindWalk.{and_declared, clashes_wit
 ghost use Rattle.gql_degrees.specs.Machinery.SeenData.{seen_data};
 
 use crate::declared::declared_in_paths;
-use crate::known::{KnownNames, known};
+use gql_expr_checks::{KnownColumns, known_columns};
 use gql_norm::NormalPattern;
 use gql_values3::{ColumnKind, Columns, OutOfMemory, Text};
 use std::alloc::Global;
@@ -24,7 +24,7 @@ pub fn wrong_kind(
 ) -> Result<Option<Text>, OutOfMemory>
     ensures { IfOk result (λ name. name ≡ first_wrong_kind columns.now (pattern_data pattern.now)) }
 {
-    let columns = known(alloc, columns.as_slice())?;
+    let columns = known_columns(alloc, columns.as_slice())?;
     let declared = declared_in_paths(alloc, pattern.paths.as_slice())?;
     first_clash(alloc, &columns, declared.as_slice())
 }
@@ -32,20 +32,20 @@ pub fn wrong_kind(
 /// Names that were declared as nodes, and as edges. Its meaning is `seen_data`.
 #[derive(Drop)]
 pub struct Seen {
-    pub nodes: KnownNames,
-    pub edges: KnownNames,
+    pub nodes: KnownColumns,
+    pub edges: KnownColumns,
 }
 
 fn first_clash(
     alloc: Global,
-    columns: &KnownNames,
+    columns: &KnownColumns,
     declared: &[(Text, ColumnKind)],
 ) -> Result<Option<Text>, OutOfMemory>
     ensures { IfOk result (λ name. name ≡ first_clash columns.now none_before declared.now) }
 {
     let mut seen = Seen {
-        nodes: KnownNames::new(alloc),
-        edges: KnownNames::new(alloc),
+        nodes: KnownColumns::new(alloc),
+        edges: KnownColumns::new(alloc),
     };
     for i in 0..declared.len() {
         let (name, kind) = &declared[i];
@@ -57,10 +57,10 @@ fn first_clash(
     Ok(None)
 }
 
-fn clashes(columns: &KnownNames, seen: &Seen, name: &Text, kind: ColumnKind) -> bool
+fn clashes(columns: &KnownColumns, seen: &Seen, name: &Text, kind: ColumnKind) -> bool
     ensures { result ≡ clashes_with columns.now (seen_data seen.now) (name.now, kind) }
 {
-    is_declared_otherwise(seen, name, kind) || needs_other(kind, columns.kind(name))
+    is_declared_otherwise(seen, name, kind) || needs_other(kind, columns.first_kind(name))
 }
 
 fn is_declared_otherwise(seen: &Seen, name: &Text, kind: ColumnKind) -> bool

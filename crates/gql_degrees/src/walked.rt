@@ -5,8 +5,8 @@ ghost use Rattle.gql_degrees.specs.Machinery.JoinData.{at_fault, before_data, wa
 ghost use Rattle.gql_degrees.specs.Machinery.JoinWalk.{against, all_group, all_optional, closed, former, in_turn, lone, nothing, place_if, side_by, sooner};
 
 use crate::before::{Before, Join, is_behind_fault};
-use crate::degrees::{Degree, beside, element_degree, joint, optional, repeated};
-use gql_norm::plus;
+use crate::degrees::{beside, element_degree, joint, optional, repeated};
+use gql_norm::{Degree, plus};
 use gql_values3::{OutOfMemory, Text};
 
 /// What a walk finds of a name in a part: its degree there, the place of its first declaration, the least place at fault, and

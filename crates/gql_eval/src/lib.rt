@@ -6,6 +6,7 @@
 
 mod aggregates;
 mod arithmetic;
+mod columns;
 mod compiling;
 mod cow;
 mod distinct;
@@ -34,6 +35,7 @@ mod truths;
 
 pub use aggregates::{aggregate_of, extremes_of_values};
 pub use arithmetic::count_value;
+pub use columns::{copied_column, copied_columns};
 pub use cow::CowValue;
 pub use elements::element_in;
 pub use error::EvalError;

@@ -1,7 +1,6 @@
 //! The stack on which the steps of a program work.
 
 ghost use Rattle.std.specs.Prelude.{◌≡◌, [], ◌∷◌, true, nat_le, OnOk, MatchOption};
-ghost use Rattle.gql_values3.specs.Datum.{null};
 ghost use Rattle.gql_values3.specs.Nesting.{depth};
 ghost use Rattle.gql_values3.specs.Meaning.{datum_of};
 ghost use Rattle.gql_eval.specs.CowValue.{cow_datum};
@@ -9,7 +8,6 @@ ghost use Rattle.gql_eval.specs.Machinery.Program.{is_boolean, has_on_top};
 
 use crate::cow::CowValue;
 use gql_values3::{OutOfMemory, Value};
-use smallvec::SmallVec;
 use std::alloc::Global;
 use std::marker::Model;
 
@@ -33,17 +31,6 @@ impl<'a> Model for StackValue<'a> {
     ghost view = { λ h. cow_datum h.value };
 
     ghost invariant = { λ h. h.is_within ≡ true → nat_le (depth (cow_datum h.value)) 64 ≡ true };
-}
-
-/// NULL, which stands in the room that a stack has left.
-impl<'a> Default for StackValue<'a> {
-    ghost is_default = { λ h. h ≡ null };
-
-    fn default() -> StackValue<'a>
-        ensures { result ≡ null }
-    {
-        StackValue::any(CowValue::Owned(Value::Null))
-    }
 }
 
 impl<'a> StackValue<'a> {
@@ -85,13 +72,10 @@ impl<'a> StackValue<'a> {
     }
 }
 
-/// How many values stand in their place, so that the programs of most expressions take no memory.
-const ROOM: usize = 4;
-
 /// Values, the last of which is the top. It is seen from the top on.
 #[derive(Drop)]
 pub struct Stack<'a> {
-    items: SmallVec<StackValue<'a>, ROOM>,
+    items: Vec<StackValue<'a>>,
 }
 
 impl<'a> Model for Stack<'a> {
@@ -113,7 +97,7 @@ impl<'a> Stack<'a> {
         ensures { result ≡ [] }
     {
         Stack {
-            items: SmallVec::new(alloc),
+            items: Vec::new(alloc),
         }
     }
 
@@ -139,7 +123,7 @@ impl<'a> Stack<'a> {
     pub fn has_on_top(&self, wanted: bool) -> bool
         ensures { result ≡ has_on_top wanted self.now }
     {
-        match self.items.as_slice().last() {
+        match self.items.last() {
             Some(held) => is_boolean(held.value(), wanted),
             None => false,
         }

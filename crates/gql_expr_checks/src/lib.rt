@@ -8,6 +8,7 @@
 
 mod aggregates;
 mod columns;
+mod expr_names;
 mod fault;
 mod misuses;
 mod names;
@@ -16,12 +17,10 @@ mod parameters;
 mod refusals;
 mod repeated;
 
-pub use aggregates::{has_aggregate, is_over_group};
-pub use columns::KnownColumns;
+pub use aggregates::has_aggregate;
+pub use columns::{KnownColumns, known_columns};
+pub use expr_names::{names_in, push_names};
 pub use fault::ScopeFault;
-pub use misuses::{Place, is_misused};
-pub use names::{Sought, first_name, is_group_column};
 pub use outside::name_outside;
-pub use parameters::{if_unset, unset_parameter};
 pub use refusals::{check_item, check_misuse, check_names, check_parameter, check_parameters};
 pub use repeated::check_properties;

@@ -19,7 +19,8 @@ use Rattle.gql_front.proofs.LexemeTests.{after_sign}
 use Rattle.gql_front.proofs.TableLemmas.{read_begins, begins_shorter, word_row}
 use Rattle.gql_exprs.specs.ExprWords.{atom_word, quantifier_words, quantifier_op}
 use Rattle.gql_exprs.specs.Grammar.{at_atom, OpensList, IsQuantifier, Is, IsItems, IsList}
-use Rattle.gql_exprs.specs.Machinery.Readers.{quantifier_of, star_of, closed_of, paren_of, list_of, listing_of, word_listing_of, aggregate_of, call_of, expr_before_comma_of, modulo_of, coalesce_of, word_atom_of, atom_of}
+use Rattle.gql_exprs.specs.Machinery.LeafReaders.{quantifier_of, star_of}
+use Rattle.gql_exprs.specs.Machinery.Readers.{closed_of, paren_of, list_of, listing_of, word_listing_of, aggregate_of, call_of, expr_before_comma_of, modulo_of, coalesce_of, word_atom_of, atom_of}
 use Rattle.gql_exprs.proofs.ExprChains.{At, trees_of-items_of_trees}
 use Rattle.gql_exprs.proofs.ExprLists.{goes_atom, goes_or, goes_list, Inner, list_found}
 use Rattle.gql_exprs.proofs.ExprShorter.{is_shorter}

@@ -20,7 +20,8 @@ use Rattle.gql_front.proofs.LexemeTests.{after_sign}
 use Rattle.gql_front.proofs.TableLemmas.{read_begins, word_row}
 use Rattle.gql_exprs.specs.ExprWords.{atom_words, atom_word, quantifier_words, quantifier_op}
 use Rattle.gql_exprs.specs.Grammar.{at_atom, OpensList, IsQuantifier, Is, IsItems, IsList}
-use Rattle.gql_exprs.specs.Machinery.Readers.{field, named, quantifier_or_all, quantifier_of, star_of, closed_of, paren_of, list_of, empty_or_items, listing_of, word_listing_of, all_or_item, aggregate_of, call_of, expr_before_comma_of, modulo_of, coalesce_of, word_atom_of, atom_of}
+use Rattle.gql_exprs.specs.Machinery.LeafReaders.{field, named, quantifier_or_all, quantifier_of, star_of}
+use Rattle.gql_exprs.specs.Machinery.Readers.{closed_of, paren_of, list_of, empty_or_items, listing_of, word_listing_of, all_or_item, aggregate_of, call_of, expr_before_comma_of, modulo_of, coalesce_of, word_atom_of, atom_of}
 use Rattle.gql_exprs.proofs.ExprChains.{At}
 use Rattle.gql_exprs.proofs.ExprLists.{goes_atom, Inner, list_sound}
 

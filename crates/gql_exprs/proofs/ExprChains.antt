@@ -7,7 +7,7 @@ use Rattle.gql_front.specs.Reading.{Reader, step, chain}
 use Rattle.gql_front.proofs.Found.{Found, Sound, Complete, Shrinks, or_op_of, is_there, StepIs, step_goes, step_sound, step_complete}
 use Rattle.gql_front.proofs.Chains.{Consumes, Many, Read, operators_apart, sequence_read, sequence_found}
 use Rattle.gql_exprs.specs.Grammar.{rank, IsMany, Is, IsSteps}
-use Rattle.gql_exprs.specs.Machinery.Readers.{chain_or_side}
+use Rattle.gql_exprs.specs.Machinery.LeafReaders.{chain_or_side}
 use Rattle.gql_exprs.proofs.ExprShorter.{is_shorter}
 
 pub links_of-items_of_links : (ls : Links) → links_of (items_of_links ls) ≡ ls

@@ -20,7 +20,7 @@ use Rattle.gql_exprs.specs.ExprWords.{test_words, test_word}
 use Rattle.gql_exprs.specs.LabelGrammar.{IsLabel}
 use Rattle.gql_exprs.specs.Machinery.LabelReaders.{read_label}
 use Rattle.gql_exprs.specs.Grammar.{Asks, AsksLabels, Ending, has_quality, has_labels, is_end, IsEnding}
-use Rattle.gql_exprs.specs.Machinery.Readers.{not_or_is, sense_of, labels_ending, end_ending, asked_ending, is_ending, ending}
+use Rattle.gql_exprs.specs.Machinery.LeafReaders.{not_or_is, sense_of, labels_ending, end_ending, asked_ending, is_ending, ending}
 use Rattle.gql_exprs.proofs.LabelLevels.{goes_label, label_sound, label_complete}
 use Rattle.gql_exprs.proofs.ExprShorter.{ending_shorter}
 use Rattle.gql_exprs.proofs.ExprLists.{goes_comparison, begins_ending}

@@ -14,7 +14,8 @@ use Rattle.gql_front.proofs.LexemeTests.{word_is, cond_some_is}
 use Rattle.gql_front.proofs.TableLemmas.{word_row, sign_row}
 use Rattle.gql_exprs.specs.ExprWords.{or_words, or_op, and_words, and_op, sum_signs, sum_op, product_signs, product_op, signs, sign_op, comparison_signs, comparison_op}
 use Rattle.gql_exprs.specs.Grammar.{at_signed, at_product, at_sum, at_comparison, at_test, at_not, at_and, at_or, Ending, has_quality, has_labels, is_end, IsEnding}
-use Rattle.gql_exprs.specs.Machinery.Readers.{not_op, negated, compared, other_side, tested, ending, atom_of, signed_of, product_of, sum_of, comparison_of, test_of, not_of, and_of, or_of}
+use Rattle.gql_exprs.specs.Machinery.LeafReaders.{not_op, negated, compared, other_side, tested, ending}
+use Rattle.gql_exprs.specs.Machinery.Readers.{atom_of, signed_of, product_of, sum_of, comparison_of, test_of, not_of, and_of, or_of}
 use Rattle.gql_exprs.proofs.LabelLevels.{goes_label}
 use Rattle.gql_exprs.proofs.ExprChains.{At, at_shrinks, Reads, IsChain, SideOrChain, chain_reads}
 use Rattle.gql_exprs.proofs.ExprLists.{goes_atom, goes_product, goes_sum, goes_comparison, begins_ending, goes_test, goes_and, goes_or, Inner}

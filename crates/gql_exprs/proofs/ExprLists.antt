@@ -11,7 +11,8 @@ use Rattle.gql_front.proofs.Chains.{Consumes, Many, operators_apart, sequence_re
 use Rattle.gql_front.proofs.LexemeTests.{cond_some_is, sign_is}
 use Rattle.gql_exprs.specs.ExprWords.{product_op, sum_op, comparison_op, and_op, or_op}
 use Rattle.gql_exprs.specs.Grammar.{Is, IsList, IsOthers}
-use Rattle.gql_exprs.specs.Machinery.Readers.{comma_op, operand, items, list_of}
+use Rattle.gql_exprs.specs.Machinery.LeafReaders.{comma_op, operand, items}
+use Rattle.gql_exprs.specs.Machinery.Readers.{list_of}
 use Rattle.gql_exprs.proofs.LabelLevels.{goes_label}
 use Rattle.gql_exprs.proofs.ExprChains.{trees_of-items_of_trees}
 use Rattle.gql_exprs.proofs.ExprShorter.{is_shorter}

@@ -9,7 +9,8 @@ use Rattle.gql_front.specs.Reading.{◌>>=◌, Reader, is_sign, after, op_at, be
 use Rattle.gql_front.proofs.Loops.{with_front, loop_stops, loop_goes_on}
 use Rattle.gql_front.proofs.Found.{Shrinks, step_shrinks}
 use Rattle.gql_exprs.specs.Grammar.{at_signed, at_product, at_not, at_and}
-use Rattle.gql_exprs.specs.Machinery.Readers.{comma_op, operand, operator_in, chain_tree, chain_or_side, side_of, steps_of, chain_of, list_of, read_expr, or_of, and_of, not_of, product_of, signed_of, sum_of}
+use Rattle.gql_exprs.specs.Machinery.LeafReaders.{comma_op, operand, chain_or_side}
+use Rattle.gql_exprs.specs.Machinery.Readers.{operator_in, chain_tree, side_of, steps_of, chain_of, list_of, read_expr, or_of, and_of, not_of, product_of, signed_of, sum_of}
 use Rattle.gql_exprs.proofs.ExprChains.{at_shrinks}
 use Rattle.gql_exprs.proofs.ExprLists.{shrinks}
 use Rattle.gql_exprs.proofs.ExprLevels.{signed_reads, product_reads, not_reads, and_reads}

@@ -4,7 +4,8 @@ ghost use Rattle.std.specs.Prelude.{◌≡◌, ◌<◌, length, IfOk};
 ghost use Rattle.gql_front.specs.Reading.{op_at};
 ghost use Rattle.gql_front.specs.Reads.{Takes};
 ghost use Rattle.gql_ast.specs.Meaning.{tree_of};
-ghost use Rattle.gql_exprs.specs.Machinery.Readers.{operator_in, chain_tree, chain_or_side};
+ghost use Rattle.gql_exprs.specs.Machinery.LeafReaders.{chain_or_side};
+ghost use Rattle.gql_exprs.specs.Machinery.Readers.{operator_in, chain_tree};
 
 use gql_ast::{Expr, Operator, Steps, Sub};
 use gql_front::NoFront;

@@ -1,10 +1,10 @@
 //! What may stand behind a comparison and makes a test of it: IS or IS NOT and what is asked, or a colon and labels.
 
-ghost use Rattle.std.specs.Prelude.{◌≡◌, ◌<◌, ◌≤◌, length, IfOk};
-ghost use Rattle.gql_front.specs.Reads.{ReadsAs, MayReadAs};
+ghost use Rattle.std.specs.Prelude.{◌≡◌, IfOk};
+ghost use Rattle.gql_front.specs.Reads.{ReadsAs, MayReadAs, AlwaysReads};
 ghost use Rattle.gql_ast.specs.Meaning.{tree_of};
 ghost use Rattle.gql_exprs.specs.Machinery.EndingMeaning.{ending_of};
-ghost use Rattle.gql_exprs.specs.Machinery.Readers.{sense_of, labels_ending, end_ending, asked_ending, is_ending, ending, tested};
+ghost use Rattle.gql_exprs.specs.Machinery.LeafReaders.{sense_of, labels_ending, end_ending, asked_ending, is_ending, ending, tested};
 
 use crate::labels::label_expression;
 use crate::test_word::{TestWord, asked_at};
@@ -25,7 +25,7 @@ pub enum TestEnding {
 }
 
 /// The ending at the front, and the lexemes behind it. `Syntax` comes exactly where none is.
-#[tactic(auto, unfolding(crate::specs::Machinery::Readers::ending))]
+#[tactic(auto, unfolding(crate::specs::Machinery::LeafReaders::ending))]
 pub fn ending<'a>(alloc: Global, rest: &'a [Lexeme]) -> ParseResult<'a, TestEnding>
     ensures { ReadsAs ending_of result rest.now ending }
 {
@@ -49,7 +49,7 @@ pub fn tested(alloc: Global, expr: Expr, ending: TestEnding) -> Result<Expr, Out
 }
 
 /// Behind IS.
-#[tactic(auto, unfolding(crate::specs::Machinery::Readers::is_ending))]
+#[tactic(auto, unfolding(crate::specs::Machinery::LeafReaders::is_ending))]
 fn behind_is<'a>(alloc: Global, rest: &'a [Lexeme]) -> ParseResult<'a, TestEnding>
     ensures { ReadsAs ending_of result rest.now is_ending }
 {
@@ -59,10 +59,9 @@ fn behind_is<'a>(alloc: Global, rest: &'a [Lexeme]) -> ParseResult<'a, TestEndin
 }
 
 /// NOT at the front, or nothing.
-#[tactic(auto, unfolding(crate::specs::Machinery::Readers::sense_of))]
+#[tactic(auto, unfolding(crate::specs::Machinery::LeafReaders::sense_of))]
 fn sense_of(rest: &[Lexeme]) -> (Sense, &[Lexeme])
-    ensures given { (result.0, result.1.now) ≡ sense_of rest.now }
-    ensures shorter { length result.1.now ≤ length rest.now }
+    ensures { AlwaysReads result rest.now (sense_of rest.now) }
 {
     match after_word(NOT, rest) {
         Ok(behind) => (Sense::IsNot, behind),
@@ -87,7 +86,7 @@ fn asked<'a>(
 }
 
 /// A label expression, behind a colon or LABELED.
-#[tactic(auto, unfolding(crate::specs::Machinery::Readers::labels_ending))]
+#[tactic(auto, unfolding(crate::specs::Machinery::LeafReaders::labels_ending))]
 fn labels<'a>(alloc: Global, sense: Sense, rest: &'a [Lexeme]) -> ParseResult<'a, TestEnding>
     ensures { ReadsAs ending_of result rest.now (labels_ending sense) }
 {
@@ -96,7 +95,7 @@ fn labels<'a>(alloc: Global, sense: Sense, rest: &'a [Lexeme]) -> ParseResult<'a
 }
 
 /// OF and a variable, behind SOURCE or DESTINATION.
-#[tactic(auto, unfolding(crate::specs::Machinery::Readers::end_ending))]
+#[tactic(auto, unfolding(crate::specs::Machinery::LeafReaders::end_ending))]
 fn end_of<'a>(
     alloc: Global,
     sense: Sense,

@@ -1,7 +1,7 @@
 //! The recursion over label expressions: a function a production, and a loop for the sides of a chain.
 
-ghost use Rattle.std.specs.Prelude.{◌≡◌, ◌<◌, ◌≤◌, length, IfOk};
-ghost use Rattle.gql_front.specs.Reads.{ReadsAs};
+ghost use Rattle.std.specs.Prelude.{◌≡◌, IfOk};
+ghost use Rattle.gql_front.specs.Reads.{ReadsAs, AlwaysReadsInMemory};
 ghost use Rattle.gql_front.specs.Reading.{one_or};
 ghost use Rattle.gql_ast.specs.LabelMeaning.{label_of};
 ghost use Rattle.gql_exprs.specs.Machinery.LabelReaders.{paren_of, base_of, factor_of, symbol_of, chain_label, side_of, sides_of, chain_of, read_label};
@@ -61,8 +61,7 @@ fn sides<'a>(
     kind: LabelChain,
     start: &'a [Lexeme],
 ) -> Result<(LabelList, &'a [Lexeme]), OutOfMemory>
-    ensures given { IfOk result (λ x. (x.0, x.1.now) ≡ sides_of kind read_label start.now) }
-    ensures shorter { IfOk result (λ x. length x.1.now ≤ length start.now) }
+    ensures { AlwaysReadsInMemory result start.now (sides_of kind read_label start.now) }
 {
     let mut others = LabelList::new(alloc);
     let mut rest = start;

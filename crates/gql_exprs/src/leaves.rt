@@ -1,12 +1,10 @@
 //! Parts of atoms that hold no expression.
 
-ghost use Rattle.std.specs.Prelude.{◌≡◌, ◌<◌, ◌≤◌, length, IfOk};
-ghost use Rattle.gql_front.specs.Gives.{Finds};
-ghost use Rattle.gql_front.specs.Reads.{MayReadAs, Takes, TakesAs};
+ghost use Rattle.gql_front.specs.Reads.{MayReadAs, Takes, TakesAs, AlwaysReads, GoesBehind};
 ghost use Rattle.gql_front.specs.Reading.{op_at};
 ghost use Rattle.gql_ast.specs.Meaning.{tree_of};
 ghost use Rattle.gql_exprs.specs.ExprWords.{sign_op, comparison_op, quantifier_op};
-ghost use Rattle.gql_exprs.specs.Machinery.Readers.{field, named, quantifier_of, star_of};
+ghost use Rattle.gql_exprs.specs.Machinery.LeafReaders.{field, named, quantifier_of, star_of};
 
 use gql_ast::{Aggregate, Expr, ParseFault, SetQuantifier, Sign};
 use gql_front::{NoFront, ParseResult, after_sign, any_name};
@@ -45,7 +43,7 @@ pub fn comparison_at(rest: &[Lexeme]) -> Result<(Comparison, &[Lexeme]), NoFront
 }
 
 /// A variable or a property of it, behind its name.
-#[tactic(auto, unfolding(crate::specs::Machinery::Readers::named))]
+#[tactic(auto, unfolding(crate::specs::Machinery::LeafReaders::named))]
 pub fn named<'a>(alloc: Global, name: &Text, rest: &'a [Lexeme]) -> ParseResult<'a, Expr>
     ensures { MayReadAs tree_of result rest.now (named name.now) }
 {
@@ -57,7 +55,7 @@ pub fn named<'a>(alloc: Global, name: &Text, rest: &'a [Lexeme]) -> ParseResult<
 }
 
 /// A dot and a name.
-#[tactic(auto, unfolding(crate::specs::Machinery::Readers::field))]
+#[tactic(auto, unfolding(crate::specs::Machinery::LeafReaders::field))]
 fn property(rest: &[Lexeme]) -> Result<(&Text, &[Lexeme]), NoFront>
     ensures { TakesAs (λ x. x.now) result rest.now field }
 {
@@ -66,10 +64,9 @@ fn property(rest: &[Lexeme]) -> Result<(&Text, &[Lexeme]), NoFront>
 }
 
 /// DISTINCT or ALL at the front, or nothing, which means the same as ALL.
-#[tactic(auto, unfolding(crate::specs::Machinery::Readers::quantifier_of))]
+#[tactic(auto, unfolding(crate::specs::Machinery::LeafReaders::quantifier_of))]
 pub fn quantifier_of(rest: &[Lexeme]) -> (SetQuantifier, &[Lexeme])
-    ensures given { (result.0, result.1.now) ≡ quantifier_of rest.now }
-    ensures shorter { length result.1.now ≤ length rest.now }
+    ensures { AlwaysReads result rest.now (quantifier_of rest.now) }
 {
     match rest {
         [
@@ -86,8 +83,7 @@ pub fn quantifier_of(rest: &[Lexeme]) -> (SetQuantifier, &[Lexeme])
 
 /// What is behind the star of `COUNT(*)`.
 pub fn star_of(kind: Aggregate, rest: &[Lexeme]) -> Result<&[Lexeme], NoFront>
-    ensures given { Finds (λ x. x.now) result (star_of kind rest.now) }
-    ensures shorter { IfOk result (λ x. length x.now < length rest.now) }
+    ensures { GoesBehind result rest.now (star_of kind rest.now) }
 {
     match kind {
         Aggregate::Count => after_sign(STAR, rest),

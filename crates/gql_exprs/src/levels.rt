@@ -1,11 +1,11 @@
 //! The recursion over expressions: a function a production, where the functions of the loops read any length.
 
-ghost use Rattle.std.specs.Prelude.{◌≡◌, ◌<◌, ◌≤◌, length, IfOk};
-ghost use Rattle.gql_front.specs.Reads.{ReadsAs, MayReadAs};
+ghost use Rattle.gql_front.specs.Reads.{ReadsAs, MayReadAs, AlwaysReadsInMemory};
 ghost use Rattle.gql_front.specs.Reading.{step};
 ghost use Rattle.gql_ast.specs.Meaning.{tree_of};
 ghost use Rattle.gql_exprs.specs.ExprWords.{comparison_op};
-ghost use Rattle.gql_exprs.specs.Machinery.Readers.{word_atom_of, atom_of, signed_of, sum_of, other_side, comparison_of, test_of, not_of, side_of, steps_of, chain_of, read_expr};
+ghost use Rattle.gql_exprs.specs.Machinery.LeafReaders.{other_side};
+ghost use Rattle.gql_exprs.specs.Machinery.Readers.{word_atom_of, atom_of, signed_of, sum_of, comparison_of, test_of, not_of, side_of, steps_of, chain_of, read_expr};
 
 use crate::atom_word::{AtomWord, atom_word};
 use crate::brackets::{aggregate, call, coalesce, listing, modulo, paren, word_listing};
@@ -63,8 +63,7 @@ fn steps<'a>(
     kind: Chain,
     start: &'a [Lexeme],
 ) -> Result<(Steps, &'a [Lexeme]), OutOfMemory>
-    ensures given { IfOk result (λ x. (x.0, x.1.now) ≡ steps_of kind read_expr start.now) }
-    ensures shorter { IfOk result (λ x. length x.1.now ≤ length start.now) }
+    ensures { AlwaysReadsInMemory result start.now (steps_of kind read_expr start.now) }
 {
     let mut steps = Steps::new(alloc);
     let mut rest = start;

@@ -1,5 +1,5 @@
 -- Reads: what a reader over slices promises. It answers what it read and the slice of lexemes behind it.
-use Rattle.std.specs.Prelude.{◌<◌, ◌≤◌, Bool, List, length, Result, IfOk}
+use Rattle.std.specs.Prelude.{◌≡◌, ◌<◌, ◌≤◌, Bool, List, length, Option, Result, IfOk}
 use Rattle.std.specs.Borrow.{Bor}
 use Rattle.gql_lexer.specs.declared.lexeme.Lexeme.{Lexeme}
 use Rattle.gql_ast.specs.declared.parse_fault.ParseFault.{ParseFault}
@@ -41,3 +41,23 @@ Takes result ts reader = TakesAs (λ x. x) result ts reader
 pub record GoesPast {E : Type 0} (result : Result (Bor (List Lexeme)) E) (ts : List Lexeme) (test : Lexeme → Bool) : Type 0 where
   pub given : Finds (λ x. x.now) result (after test ts)
   pub shorter : IfOk result (λ x. length x.now < length ts)
+
+-- what is left behind some words, given as a result
+pub record GoesBehind {E : Type 0} (result : Result (Bor (List Lexeme)) E) (ts : List Lexeme) (left : Option (List Lexeme)) : Type 0 where
+  pub given : Finds (λ x. x.now) result left
+  pub shorter : IfOk result (λ x. length x.now < length ts)
+
+-- what is left behind words that may be missing
+pub record LeftBehind (result : Bor (List Lexeme)) (ts left : List Lexeme) : Type 0 where
+  pub given : result.now ≡ left
+  pub shorter : length result.now ≤ length ts
+
+-- what is always there to read, since nothing at all is one of its forms
+pub record AlwaysReads {A : Type 0} (result : A × Bor (List Lexeme)) (ts : List Lexeme) (expected : A × List Lexeme) : Type 0 where
+  pub given : (result.0, result.1.now) ≡ expected
+  pub shorter : length result.1.now ≤ length ts
+
+-- the same where memory is taken
+pub record AlwaysReadsInMemory {A E : Type 0} (result : Parsed A E) (ts : List Lexeme) (expected : A × List Lexeme) : Type 0 where
+  pub given : IfOk result (λ x. (x.0, x.1.now) ≡ expected)
+  pub shorter : IfOk result (λ x. length x.1.now ≤ length ts)

@@ -42,16 +42,6 @@ impl Model for Catalog {
 }
 
 impl Catalog {
-    /// The catalog without graphs.
-    pub fn new(alloc: Global) -> Catalog
-        ensures { result ≡ record { graphs = []; types = [] } }
-    {
-        Catalog {
-            graphs: Vec::new(alloc),
-            types: Vec::new(alloc),
-        }
-    }
-
     /// What a store without records stands for: an empty graph of the name home.
     pub fn initial(alloc: Global) -> Result<Catalog, OutOfMemory>
         ensures { IfOk result (λ c. c ≡ initial_catalog) }

@@ -1,4 +1,7 @@
 mod ChangeLemmas
+mod HeldLemmas
+mod MemoryLemmas
 mod MergeLemmas
+mod SearchLemmas
 mod TransactionLemmas
 mod WrittenLemmas

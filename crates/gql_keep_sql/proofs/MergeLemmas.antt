@@ -37,10 +37,10 @@ less Greater h = absurd (true≢false (sym h))
 
 -- ---- orders of keys
 
-less_from_greater : (a b : List ℕ) → key_cmp a b ≡ Greater → key_cmp b a ≡ Less
+pub less_from_greater : (a b : List ℕ) → key_cmp a b ≡ Greater → key_cmp b a ≡ Less
 less_from_greater a b h = nat_list_cmp_total.antisymm b a ∙ ap ordering_reverse h
 
-cmp_same : (a : List ℕ) → key_cmp a a ≡ Equal
+pub cmp_same : (a : List ℕ) → key_cmp a a ≡ Equal
 cmp_same a = same_order (key_cmp a a) (nat_list_cmp_total.antisymm a a)
   where
     same_order : (o : Ordering) → o ≡ ordering_reverse o → o ≡ Equal
@@ -49,7 +49,7 @@ cmp_same a = same_order (key_cmp a a) (nat_list_cmp_total.antisymm a a)
     same_order Greater h = cc
 
 -- what is below is not the same
-differs : (a b : List ℕ) → key_cmp a b ≡ Less → same_text a b ≡ false
+pub differs : (a b : List ℕ) → key_cmp a b ≡ Less → same_text a b ≡ false
 differs a b h = tested (same_text a b) (λ e. apart ((bytes_decides a b).0 e))
   where
     apart : a ≡ b → ⊥
@@ -61,10 +61,10 @@ differs a b h = tested (same_text a b) (λ e. apart ((bytes_decides a b).0 e))
 
 -- ---- ascending keys
 
-head_above : (low key : List ℕ) (keys : List (List ℕ)) → ascend_above low (key ∷ keys) ≡ true → key_cmp low key ≡ Less
+pub head_above : (low key : List ℕ) (keys : List (List ℕ)) → ascend_above low (key ∷ keys) ≡ true → key_cmp low key ≡ Less
 head_above low key keys h = less (key_cmp low key) (left (is_lt (key_cmp low key)) (ascend_above key keys) h)
 
-tail_above : (low key : List ℕ) (keys : List (List ℕ)) → ascend_above low (key ∷ keys) ≡ true → ascend_above key keys ≡ true
+pub tail_above : (low key : List ℕ) (keys : List (List ℕ)) → ascend_above low (key ∷ keys) ≡ true → ascend_above key keys ≡ true
 tail_above low key keys h = right (is_lt (key_cmp low key)) (ascend_above key keys) h
 
 cons_above : (low key : List ℕ) (keys : List (List ℕ)) → key_cmp low key ≡ Less → ascend_above key keys ≡ true → ascend_above low (key ∷ keys) ≡ true
@@ -116,7 +116,7 @@ merged_above : (changes : List Change) (keys : List (List ℕ)) (low : List ℕ)
 merged_above [] keys low h k = k
 merged_above (c ∷ more) keys low h k = change_above c more (λ ks. merged_above more ks c.key) keys low h k
 
-ascend_behind : (low : List ℕ) (keys : List (List ℕ)) → ascend_above low keys ≡ true → texts_ascend keys ≡ true
+pub ascend_behind : (low : List ℕ) (keys : List (List ℕ)) → ascend_above low keys ≡ true → texts_ascend keys ≡ true
 ascend_behind low [] h = refl
 ascend_behind low (key ∷ keys) h = tail_above low key keys h
 

@@ -7,7 +7,7 @@ use Rattle.sqlite.specs.Held.{Held, state}
 use Rattle.gql_ports.specs.declared.stored.Record.{Record}
 use Rattle.gql_keep_sql.specs.declared.place.Place.{Place}
 use Rattle.gql_keep_sql.specs.declared.place.Place.TheVariants.{Nowhere, Memory, File}
-use Rattle.gql_keep_sql.specs.Written.{Transacts, Writes}
+use Rattle.gql_keep_sql.specs.Written.{Transacts, Alters, Writes}
 
 survives_itself : (s : State) (P : Trees → Type 0) → Survives s s P
 survives_itself s P = record {
@@ -26,7 +26,10 @@ not_asked g puts drops h = record {
   crash = survives_itself (state g h) _;
 }
 
+pub unaltered : (puts : List Record) (drops : List (List ℕ)) (records : List Record) → Alters puts drops false records records
+unaltered puts drops records = record { all = λ done. absurd cc; nothing = λ not_done. refl }
+
 pub unwritten : (puts : List Record) (drops : List (List ℕ)) (place : Place) → Writes puts drops false place place
 unwritten puts drops Nowhere = refl
-unwritten puts drops (Memory h) = not_asked _ puts drops h
+unwritten puts drops (Memory h) = unaltered puts drops h.items
 unwritten puts drops (File name h) = (refl, not_asked _ puts drops h)

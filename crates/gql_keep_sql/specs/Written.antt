@@ -1,14 +1,15 @@
--- What a write does to the place where the records are: memory, or a file.
-use Rattle.std.specs.Prelude.{◌≡◌, Bool, false, List, ℕ, IsTrue}
+-- What a write does to the place where the records are: a list in memory, or a file.
+use Rattle.std.specs.Prelude.{◌≡◌, Bool, false, not, ◌||◌, List, ◌++◌, ℕ, IsTrue, IsPermutation}
 use Rattle.sqlite.specs.Store.{Ghosts}
 use Rattle.sqlite.specs.Effect.{Database}
 use Rattle.sqlite.specs.State.{HasCleanDisk, Survives}
 use Rattle.sqlite.specs.Held.{Held, state}
-use Rattle.sqlite.specs.Steps.{over_memory}
 use Rattle.sqlite.specs.Files.{over_files}
 use Rattle.gql_ports.specs.declared.stored.Record.{Record}
 use Rattle.gql_keep_sql.specs.declared.place.Place.{Place}
 use Rattle.gql_keep_sql.specs.declared.place.Place.TheVariants.{Nowhere, Memory, File}
+use Rattle.std.specs.List.{filter}
+use Rattle.gql_keep_sql.specs.Keys.{has_key, keys_of}
 use Rattle.gql_keep_sql.specs.Transaction.{Rewrote}
 
 -- A connection was asked to write these, and did or did not. What is said of what it holds is said where the disk has given back what was written.
@@ -20,9 +21,20 @@ pub record Transacts {S : Type 0} (g : Ghosts S) (puts : List Record) (drops : L
   -- a crash leaves what it could leave before, or all of it
   pub crash : Survives (state g old) (state g new) (λ trees. (db : Database) × Rewrote g puts drops old db × (trees ≡ db.trees))
 
--- the place stays, and its connection writes; where nothing is open, nothing is written
+-- the record stays where these are put and those dropped
+abbrev pub stays : List Record → List (List ℕ) → Record → Bool
+stays puts drops r = not (has_key (keys_of puts) r.key || has_key drops r.key)
+
+-- Records in memory were to be changed by these, and were or were not.
+pub record Alters (puts : List Record) (drops : List (List ℕ)) (done : Bool) (old new : List Record) : Type 0 where
+  -- those that were put, and of those before the ones whose keys are neither put nor dropped, in some order
+  pub all : IsTrue done → IsPermutation (puts ++ filter (stays puts drops) old) new
+  -- those before
+  pub nothing : done ≡ false → new ≡ old
+
+-- the place stays, and its records are changed, or its connection writes; where nothing is open, nothing is written
 abbrev pub Writes : List Record → List (List ℕ) → Bool → Place → Place → Type 0
 Writes puts drops done Nowhere Nowhere = done ≡ false
-Writes puts drops done (Memory old) (Memory new) = Transacts over_memory puts drops done old new
+Writes puts drops done (Memory old) (Memory new) = Alters puts drops done old.items new.items
 Writes puts drops done (File name old) (File new_name new) = (new_name ≡ name) × Transacts over_files puts drops done old new
 Writes puts drops done _ _ = ⊥

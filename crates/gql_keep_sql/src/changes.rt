@@ -63,6 +63,13 @@ impl Changes {
         self.items.len()
     }
 
+    /// Whether the key is put or dropped.
+    pub fn names(&self, key: &[u8]) -> bool
+        ensures { result ≡ is_changed_in self.now key.now }
+    {
+        has_change(self.items.as_slice(), key)
+    }
+
     pub fn into_vec(self) -> Vec<Change>
         ensures items { result.items ≡ self }
         ensures ascending { changes_ascend result.items ≡ true }
@@ -70,6 +77,14 @@ impl Changes {
         let Changes { items } = self;
         items
     }
+}
+
+fn has_change(items: &[Change], key: &[u8]) -> bool
+    requires { changes_ascend items.now ≡ true }
+    ensures { result ≡ is_changed_in items.now key.now }
+{
+    let found = items.binary_search_by(|change| change.key.as_slice().cmp(key));
+    found.is_ok()
 }
 
 fn ascending(items: Vec<Change>) -> Option<Changes>

@@ -1,6 +1,6 @@
-//! The keeper over SQLite, which keeps the keys of its store at hand.
+//! The keeper over SQLite, or memory, which keeps the keys of its store at hand.
 
-ghost use Rattle.std.specs.Prelude.{◌≡◌, ◌≤◌, ◌<◌, ◌++◌, ℕ, List, [], Option, Some, None, Ok, Err, option_map, length, map, Bool, true, ◌+◌, IfOk, OnOk, OnErr, IfSome, IsTrue, is_ok, slice_get};
+ghost use Rattle.std.specs.Prelude.{◌≡◌, ◌⊎◌, ◌≤◌, ◌<◌, ◌++◌, ℕ, List, [], Option, Some, None, Ok, Err, option_map, length, map, Bool, true, ◌+◌, IfOk, OnOk, OnErr, IfSome, IsTrue, is_ok, slice_get};
 ghost use Rattle.std.specs.Option.{option_copied};
 ghost use Rattle.gql_values3.specs.Texts.{texts_differ, texts_ascend};
 ghost use Rattle.gql_ports.specs.Causes.{Rose, count_after};
@@ -8,7 +8,7 @@ ghost use Rattle.gql_ports.specs.Told.{MatchTold};
 ghost use Rattle.gql_ports.specs.Held.{held_after_opening, keys_ascend, Applies};
 ghost use Rattle.gql_keep_sql.specs.Told.{told_by};
 ghost use Rattle.gql_keep_sql.specs.Keys.{has_key, stands_after};
-ghost use Rattle.gql_keep_sql.specs.Fetched.{Fetches};
+ghost use Rattle.gql_keep_sql.specs.Fetched.{Fetches, AreAllKeys};
 ghost use Rattle.gql_keep_sql.specs.Places.{IsUnder};
 ghost use Rattle.gql_keep_sql.specs.Written.{Writes};
 ghost use Rattle.gql_keep_sql.specs.Machinery.Merge.{stands_under};
@@ -71,14 +71,15 @@ impl<'a> Keeper for SqlKeeper<'a> {
         ensures failed { result ≡ Err KeepFault.Failed → Rose self.old.faults self.new.faults }
         ensures risen { self.new.faults ≡ count_after result self.old.faults }
         ensures under { OnOk result (IsUnder (option_copied name.entry) self.new.reader.place) }
+        ensures listed { OnOk result (AreAllKeys self.new.keys self.new.reader.place ⊎ ((self.new.keys ≡ self.old.keys) × (self.new.reader.place ≡ self.old.reader.place))) }
         ensures kept { OnErr result ((self.new.keys ≡ self.old.keys) × (self.new.reader.place ≡ self.old.reader.place)) }
     {
         if self.reader.is_open_as(name) {
             return Ok(());
         }
-        let opened = Place::open(self.rt, self.alloc, name);
-        let (place, keys) = counted(&mut self.faults, opened)?;
-        self.reader = Reader::new(self.alloc, place);
+        let opened = Reader::open(self.rt, self.alloc, name);
+        let (reader, keys) = counted(&mut self.faults, opened)?;
+        self.reader = reader;
         self.keys = keys;
         Ok(())
     }

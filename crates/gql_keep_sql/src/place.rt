@@ -1,16 +1,15 @@
 //! Where the records of a store are: in a file, in memory, or nowhere yet.
 
-ghost use Rattle.std.specs.Prelude.{◌≡◌, Some, None, IfOk, IsTrue, is_ok};
+ghost use Rattle.std.specs.Prelude.{◌≡◌, Some, None, IfOk, IfSome, IsTrue, is_ok};
 ghost use Rattle.std.specs.Option.{option_copied};
-ghost use Rattle.gql_keep_sql.specs.Fetched.{IsSelected, Each};
+ghost use Rattle.gql_keep_sql.specs.Fetched.{IsSelected, Each, AreSelected, IsHeld};
 ghost use Rattle.gql_keep_sql.specs.Places.{IsUnder};
 ghost use Rattle.gql_keep_sql.specs.Written.{Writes};
 
 use crate::fault::CLOSED;
-use crate::keys::Keys;
-use crate::{store, transaction};
+use crate::{memory, store, transaction};
 use gql_ports::{Key, Record};
-use sqlite::{Connection, Error, FileFrom, FileStore, MemStore, Row, Wary};
+use sqlite::{Connection, Error, FileFrom, FileStore, Row, Wary};
 use std::alloc::Global;
 
 /// A database file, whose commits survive a power cut whatever a torn write leaves.
@@ -21,18 +20,24 @@ type FileConnection = Connection<FileStore<FileFrom<Wary>>>;
 pub enum Place {
     /// Nothing was opened.
     Nowhere,
-    Memory(Connection<MemStore>),
+    /// In memory, in ascending order of their keys.
+    Memory(Vec<Record>),
     File(String, FileConnection),
 }
 
 impl Place {
-    /// Opens the named file, or memory where there is no name, and lists its keys.
-    pub fn open(rt: &HostRuntime, alloc: Global, name: Option<&str>) -> Result<(Place, Keys), Error>
-        ensures { IfOk result (λ opened. IsUnder (option_copied name.entry) opened.0) }
+    /// Opens the named file, or memory where there is no name, and reads all records, in ascending order of their keys.
+    pub fn open(
+        rt: &HostRuntime,
+        alloc: Global,
+        name: Option<&str>,
+    ) -> Result<(Place, Vec<Row>), Error>
+        ensures under { IfOk result (λ opened. IsUnder (option_copied name.entry) opened.0) }
+        ensures selected { IfOk result (λ opened. (before : Place) × AreSelected opened.1.items before opened.0) }
     {
         match name {
             Some(name) => open_file(rt, alloc, name),
-            None => open_memory(alloc),
+            None => Ok(open_memory(alloc)),
         }
     }
 
@@ -47,13 +52,23 @@ impl Place {
         }
     }
 
+    /// The record of that place in ascending order of the keys, where they are in memory.
+    pub fn record(&self, index: u64) -> Option<&Record>
+        ensures { IfSome (option_copied result) (λ r. IsHeld r self.now) }
+    {
+        match self {
+            Place::Memory(records) => memory::at(records.as_slice(), index),
+            _ => None,
+        }
+    }
+
     /// The rows of a run of records, from that key on.
     pub fn select(&mut self, from: &Key) -> Result<Vec<Row>, Error>
         ensures { IfOk result (λ rows. Each rows.items (λ row. IsSelected row self.old self.new)) }
     {
         match self {
             Place::Nowhere => Err(CLOSED),
-            Place::Memory(conn) => Ok(store::select(conn, from)?),
+            Place::Memory(_) => Err(CLOSED),
             Place::File(_, conn) => Ok(store::select(conn, from)?),
         }
     }
@@ -64,7 +79,7 @@ impl Place {
     {
         match self {
             Place::Nowhere => Err(CLOSED),
-            Place::Memory(conn) => transaction::write(conn, puts, drops),
+            Place::Memory(records) => memory::write(records, puts, drops),
             Place::File(_, conn) => transaction::write(conn, puts, drops),
         }
     }
@@ -79,14 +94,15 @@ impl Place {
     }
 }
 
-fn open_file(rt: &HostRuntime, alloc: Global, name: &str) -> Result<(Place, Keys), Error>
-    ensures { IfOk result (λ opened. IsUnder (Some name.now) opened.0) }
+fn open_file(rt: &HostRuntime, alloc: Global, name: &str) -> Result<(Place, Vec<Row>), Error>
+    ensures under { IfOk result (λ opened. IsUnder (Some name.now) opened.0) }
+    ensures selected { IfOk result (λ opened. (before : Place) × AreSelected opened.1.items before opened.0) }
 {
     let own = String::from_str(alloc, name)?;
     let mut conn = connect(rt, name)?;
     store::establish(&mut conn)?;
-    let keys = store::list(alloc, &mut conn)?;
-    Ok((Place::File(own, conn), keys))
+    let rows = store::select_all(&mut conn)?;
+    Ok((Place::File(own, conn), rows))
 }
 
 fn connect(rt: &HostRuntime, path: &str) -> Result<FileConnection, Error> {
@@ -96,11 +112,9 @@ fn connect(rt: &HostRuntime, path: &str) -> Result<FileConnection, Error> {
     }
 }
 
-fn open_memory(alloc: Global) -> Result<(Place, Keys), Error>
-    ensures { IfOk result (λ opened. IsUnder None opened.0) }
+fn open_memory(alloc: Global) -> (Place, Vec<Row>)
+    ensures under { IsUnder None result.0 }
+    ensures selected { (before : Place) × AreSelected result.1.items before result.0 }
 {
-    let mut conn = Connection::open_in_memory(alloc)?;
-    store::establish(&mut conn)?;
-    let keys = store::list(alloc, &mut conn)?;
-    Ok((Place::Memory(conn), keys))
+    (Place::Memory(Vec::new(alloc)), Vec::new(alloc))
 }

@@ -1,11 +1,11 @@
 //! A store: a database with one table, and what is read there.
 
-ghost use Rattle.std.specs.Prelude.{◌≡◌, IfOk, IsTrue};
+ghost use Rattle.std.specs.Prelude.{◌≡◌, map, IfOk, IsTrue, IsPermutation};
 ghost use Rattle.sqlite.specs.declared.types.Value.TheVariants.{Blob};
 ghost use Rattle.sqlite.specs.Order.{column};
 ghost use Rattle.sqlite.specs.State.{HasCleanDisk};
 ghost use Rattle.sqlite.specs.Held.{state};
-ghost use Rattle.gql_keep_sql.specs.Fetched.{SelectsRun};
+ghost use Rattle.gql_keep_sql.specs.Fetched.{SelectsAll, SelectsEach, SelectsRun, first_column};
 
 use crate::changes::copy_key;
 use crate::fault::NOT_A_STORE;
@@ -14,7 +14,7 @@ use gql_ports::{Key, Record};
 use gql_values3::Bytes;
 use sqlite::types::ValueRef;
 use sqlite::{Alter, Connection, Error, Row, params};
-use std::alloc::Global;
+use std::alloc::{AllocError, Global};
 
 /// The table, by the very text that SQLite keeps of it.
 const TABLE: &str = "CREATE TABLE record (key BLOB PRIMARY KEY, value BLOB NOT NULL) STRICT";
@@ -22,7 +22,8 @@ const TABLE: &str = "CREATE TABLE record (key BLOB PRIMARY KEY, value BLOB NOT N
 /// What else a database has: all but the indexes that SQLite makes by itself.
 const OBJECTS: &str = "SELECT sql FROM sqlite_schema WHERE sql IS NOT NULL";
 
-const KEYS: &str = "SELECT key FROM record ORDER BY key";
+/// All records, in the order in which they lie in the table: neither the index nor a search by key is asked for.
+const ALL: &str = "SELECT key, value FROM record";
 
 /// A run of records. More of them take more memory, and save little.
 const RUN: &str = "SELECT key, value FROM record WHERE key >= ?1 ORDER BY key LIMIT 64";
@@ -47,15 +48,43 @@ fn is_table(object: &Row) -> Result<bool, Error> {
     Ok(text.as_str() == TABLE)
 }
 
-/// All keys, in ascending order.
-pub fn list<S: Alter>(alloc: Global, conn: &mut Connection<S>) -> Result<Keys, Error> {
-    let mut keys = Vec::new(alloc);
-    let mut rows = conn.query(KEYS, &[])?;
-    for _ in 0..u64::MAX {
-        rows.advance()?;
-        let Some(row) = rows.get() else {
-            break;
-        };
+/// The rows of all records, in ascending order of their keys.
+pub fn select_all<S: Alter>(conn: &mut Connection<S>) -> Result<Vec<Row>, Error>
+    ensures { IfOk result (λ rows. HasCleanDisk (state S.Store conn.new) → SelectsEach S.Store rows.items conn.old conn.new) }
+{
+    let rows = scan(conn)?;
+    Ok(sorted(rows)?)
+}
+
+fn scan<S: Alter>(conn: &mut Connection<S>) -> Result<Vec<Row>, Error>
+    ensures { IfOk result (λ rows. HasCleanDisk (state S.Store conn.new) → SelectsAll S.Store rows.items conn.old conn.new) }
+{
+    Ok(conn.query_all(ALL, &[])?)
+}
+
+/// Rows in ascending order of their keys: in one go where they stand in it already.
+fn sorted(rows: Vec<Row>) -> Result<Vec<Row>, AllocError>
+    ensures { IfOk result (λ sorted. IsPermutation rows.items sorted.items) }
+{
+    let mut sorted = rows;
+    sorted.sort_by(|a, b| key_of(a).cmp(key_of(b)))?;
+    Ok(sorted)
+}
+
+/// The bytes of a row's key, or none where it is no bytes.
+fn key_of(row: &Row) -> &[u8] {
+    match row.get_ref(0) {
+        Ok(ValueRef::Blob(key)) => key,
+        _ => &[],
+    }
+}
+
+/// The keys of rows. Where they do not strictly ascend, this is no store.
+pub fn keys_of(alloc: Global, rows: &[Row]) -> Result<Keys, Error>
+    ensures { IfOk result (λ keys. map Blob keys ≡ map first_column rows.now) }
+{
+    let mut keys = Vec::with_capacity(alloc, rows.len())?;
+    for row in rows {
         keys.push(blob(row, 0)?)?;
     }
     match Keys::from_vec(keys) {

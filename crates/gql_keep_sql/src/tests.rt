@@ -11,6 +11,8 @@ use std::test::Fail;
 
 const STORE: &str = "gql_keep_sql_test.db";
 
+const RUNS: &str = "gql_keep_sql_runs_test.db";
+
 fn bytes_of(alloc: Global, text: &[u8]) -> Result<Bytes, OutOfMemory>
     ensures { IfOk result (λ bytes. bytes ≡ text.now) }
 {
@@ -82,6 +84,11 @@ fn remove_store(rt: &HostRuntime) {
     let _ = fs::remove_file(rt, "gql_keep_sql_test.db-wal");
 }
 
+fn remove_runs(rt: &HostRuntime) {
+    let _ = fs::remove_file(rt, RUNS);
+    let _ = fs::remove_file(rt, "gql_keep_sql_runs_test.db-wal");
+}
+
 #[test]
 fn a_second_keeper_finds_what_the_first_one_kept(rt: HostRuntime) -> Result<(), Fail> {
     remove_store(&rt);
@@ -96,8 +103,9 @@ fn a_second_keeper_finds_what_the_first_one_kept(rt: HostRuntime) -> Result<(), 
     drop(first);
     assert_eq!(rt; second.open(Some(STORE)), Ok(()));
     assert_eq!(rt; second.len(), 2);
-    assert!(rt; is_at(rt.alloc(), &mut second, 1, b"b", b"two"));
+    assert!(rt; is_at(rt.alloc(), &mut second, 0, b"a", b"one"));
     assert_eq!(rt; drop_one(rt.alloc(), &mut second), Ok(()));
+    assert!(rt; is_at(rt.alloc(), &mut second, 0, b"b", b""));
     assert_eq!(rt; second.close(), Ok(()));
 
     let mut third = SqlKeeper::new(&rt, rt.alloc());
@@ -123,5 +131,25 @@ fn records_are_read_in_any_order_and_after_a_write(rt: HostRuntime) -> Result<()
     assert_eq!(rt; put_one(rt.alloc(), &mut keeper, 71, 0), Ok(()));
     assert!(rt; is_at(rt.alloc(), &mut keeper, 71, &[71], &[0]));
     assert!(rt; is_as_put(rt.alloc(), &mut keeper, 72));
+    Ok(())
+}
+
+#[test]
+fn records_of_a_file_are_read_in_any_order_and_after_a_write(rt: HostRuntime) -> Result<(), Fail> {
+    remove_runs(&rt);
+    let mut keeper = SqlKeeper::new(&rt, rt.alloc());
+    assert_eq!(rt; keeper.open(Some(RUNS)), Ok(()));
+    assert_eq!(rt; put_many(rt.alloc(), &mut keeper), Ok(()));
+    assert!(rt; are_as_put(rt.alloc(), &mut keeper));
+    assert!(rt; are_as_put(rt.alloc(), &mut keeper));
+    assert!(rt; is_as_put(rt.alloc(), &mut keeper, 149));
+    assert!(rt; is_as_put(rt.alloc(), &mut keeper, 70));
+    assert!(rt; is_as_put(rt.alloc(), &mut keeper, 69));
+    assert!(rt; is_as_put(rt.alloc(), &mut keeper, 70));
+    assert_eq!(rt; put_one(rt.alloc(), &mut keeper, 71, 0), Ok(()));
+    assert!(rt; is_at(rt.alloc(), &mut keeper, 71, &[71], &[0]));
+    assert!(rt; is_as_put(rt.alloc(), &mut keeper, 72));
+    drop(keeper);
+    remove_runs(&rt);
     Ok(())
 }

@@ -1,28 +1,17 @@
 -- Refusals by whether a name stands, and what is seen of a graph under its name.
-use Rattle.std.proofs.Common.{◌≡◌, ℕ, Bool, true, false, not, ◌&&◌, ◌||◌, cond, List, [], ◌∷◌, map, Option, Some, None, refl, ap}
+use Rattle.std.proofs.Common.{◌≡◌, ℕ, Bool, true, false, not, cond, List, [], ◌∷◌, map, Option, Some, None, refl, ap}
 use Rattle.std.specs.Prelude.{is_some, if◌then◌else◌, option_map, find}
 use Rattle.gql_values3.specs.Texts.{same_text}
 use Rattle.gql_ast.specs.declared.refusal.Refusal.TheVariants as refusal
 use Rattle.gql_graph.specs.Bare.{bare, bare_held}
 use Rattle.gql_graph.specs.Catalog.{CatalogGraph, CatalogData, named, held_in, type_in, without_named, without_graph, without_type}
 use Rattle.gql_graph.specs.declared.held.Held.{Held}
-use Rattle.gql_machine.specs.StateRefusals.{missing_if, taken_if, unless, has_type}
+use Rattle.gql_machine.specs.StateRefusals.{missing_if, has_type}
 
 -- what is missing under this name
 pub missing : {X : Type 0} (name : List ℕ) (o : Option X) → (if is_some o then None else Some (refusal.NoSuch name)) ≡ missing_if name o
 missing name None = refl
 missing name (Some x) = refl
-
-pub missing_unless : {X : Type 0} (lenient : Bool) (name : List ℕ) (o : Option X) → (if (lenient || is_some o) then None else Some (refusal.NoSuch name)) ≡ unless lenient (missing_if name o)
-missing_unless true name o = refl
-missing_unless false name o = missing name o
-
--- what stands under it already
-pub taken_unless : {X : Type 0} (lenient : Bool) (name : List ℕ) (o : Option X) → (if (not lenient && is_some o) then Some (refusal.Exists name) else None) ≡ taken_if lenient name o
-taken_unless true name None = refl
-taken_unless true name (Some x) = refl
-taken_unless false name None = refl
-taken_unless false name (Some x) = refl
 
 -- where none is missing, there is one
 pub is_there : {X : Type 0} (name : List ℕ) (o : Option X) → missing_if name o ≡ None → is_some o ≡ true

@@ -1,6 +1,6 @@
 -- One piece: from what its statement came to, over its commit point, to one step of the session machine.
 use Rattle.std.proofs.Common.{◌≡◌, ◌≢◌, ℕ, ◌-◌, Bool, true, false, ◌||◌, List, [], ◌∷◌, Option, Some, None, Result, Ok, Err, refl, ap, sym, ◌∙◌, inl, inr, append-nil, arith, subst}
-use Rattle.std.specs.Prelude.{◌+◌, ◌^◌, min, not, ◌&&◌, is_some, unwrap_or, IfOk, OnOk, if◌then◌else◌}
+use Rattle.std.specs.Prelude.{◌+◌, ◌^◌, min, not, ◌&&◌, is_some, unwrap_or, IfOk, if◌then◌else◌}
 use Rattle.gql_ast.specs.declared.refusal.Outcome.{Outcome}
 use Rattle.gql_ast.specs.declared.refusal.Outcome.TheVariants as outcome
 use Rattle.gql_ast.specs.declared.refusal.Refusal.{Refusal}
@@ -21,12 +21,6 @@ use Rattle.gql_machine.specs.declared.ended.Ended.{Ended}
 use Rattle.gql_machine.proofs.NotStoreLemmas.{not_by_store}
 
 -- Ends
-
--- both are those of the end
-pub whole_end : {E : Type 0} (end : StatementEnd) (after : SessionState) (r : Result Outcome E) → IfOk r (λ made. made ≡ end.outcome) → OnOk r (after ≡ end.after)
-    → IfOk r (λ made. statement_end made after ≡ end)
-whole_end end after (Ok made) p q = λ i. statement_end (p i) (q i)
-whole_end end after (Err e) p q = tt
 
 -- where no transaction is open, that it has ended changes nothing
 open_none : (commits : Bool) (refused : Bool) (after : SessionState) → commits ≡ (not refused && not (is_some after.access)) → before_commit commits after ≡ after
@@ -86,23 +80,6 @@ one_outcome before after piece o text refused faults now step written is_refused
 }
 
 -- a blank piece
-module _ (before after : SessionState) (piece : List ℕ) where
-  blank_leaves : (r : Reading) → MayLeave before r None after → MayAnswer before r [] after
-  blank_leaves blank h = (refl, h.1)
-  blank_leaves bad h = absurd (let no = h.0 in cc)
-  blank_leaves deep h = absurd (let no = h.0 in cc)
-  blank_leaves unread h = absurd (let no = h.0 in cc)
-  blank_leaves (read s) h = absurd (let no = h.1 in cc)
-
-  pub ran_blank : (faults : ℕ) → Answers before piece None after → RanPiece before piece false [] faults faults after
-  ran_blank faults a = record {
-    made = [];
-    step = record { goes_on = a.goes_on; reading = a.reading; reads = a.reads; answers = blank_leaves a.reading a.leaves };
-    written = refl;
-    is_refused = refl;
-    store = rose_none faults faults refl;
-  }
-
 -- what a piece came to without a commit point
 pub record Plain (before : SessionState) (piece : List ℕ) (o : Outcome) (after : SessionState) : Type 0 where
   pub step : Step before piece (o ∷ []) after

@@ -10,7 +10,6 @@ use Rattle.std.specs.Ordering.{is_lt, is_eq, nat_cmp}
 use Rattle.std.specs.Cmp.Lexicographic.{slice_cmp, texts_ties, same_text as is_same}
 use Rattle.std.proofs.lemmas.Bool.{and_from, and_parts}
 use Rattle.std.proofs.lemmas.Bool.Decides.{nat_tests}
-use Rattle.std.proofs.lemmas.Cmp.{nat_list_cmp_total}
 use Rattle.gql_values3.specs.PropertyGraph.{PropertyGraph, is_graph}
 use Rattle.gql_values3.specs.Texts.{same_text, ascend_above, texts_ascend}
 use Rattle.gql_values3.specs.declared.element.Elem.TheVariants as elem
@@ -24,6 +23,7 @@ use Rattle.gql_type.specs.SoundCatalog.{conforms_to, fits_kind, is_sound}
 use Rattle.gql_type.specs.GraphTypes.{is_graph_type}
 use Rattle.gql_txn.specs.Edits.{is_named, is_unused}
 use Rattle.gql_txn.specs.TxnData.{type_named, type_of_held, misfit_under, misfit_in, new_graph}
+use Rattle.gql_change.proofs.StoringLemmas.{lower, above_ascends}
 use Rattle.gql_machine.specs.StateRefusals.{has_type, graph_of_type}
 use Rattle.gql_machine.specs.TypedGraphs.{is_typed}
 
@@ -253,12 +253,6 @@ replacement_fits ts old new (Some name) e h = go (named name ts) refl e h
 
 -- names that ascend
 
-lower : (low k : List ℕ) (ks : List (List ℕ)) → is_before low k ≡ true → ascend_above k ks ≡ true → ascend_above low ks ≡ true
-lower low k [] p h = refl
-lower low k (j ∷ js) p h =
-    let parts = and_parts (is_before k j) (ascend_above j js) h in
-    and_from (is_before low j) (ascend_above j js) (ap is_lt (nat_list_cmp_total.trans low k j (less_if (slice_cmp nat_cmp low k) p) (less_if (slice_cmp nat_cmp k j) parts.0))) parts.1
-
 less_apart : (a b : List ℕ) → is_before a b ≡ true → same_text a b ≡ false
 less_apart a b h = texts_ties a b ∙ ap is_eq (less_if (slice_cmp nat_cmp a b) h)
 
@@ -267,11 +261,7 @@ absent_above : (low : List ℕ) (gs : Graphs) → ascend_above low (names gs) �
 absent_above low [] h = refl
 absent_above low (g ∷ gs) h =
     let parts = and_parts (is_before low g.0) (ascend_above g.0 (names gs)) h in
-    rw (less_apart low g.0 parts.0) (absent_above low gs (lower low g.0 (names gs) parts.0 parts.1))
-
-above_ascends : (low : List ℕ) (ks : List (List ℕ)) → ascend_above low ks ≡ true → texts_ascend ks ≡ true
-above_ascends low [] h = refl
-above_ascends low (k ∷ ks) h = (and_parts (is_before low k) (ascend_above k ks) h).1
+    rw (less_apart low g.0 parts.0) (absent_above low gs (lower low g.0 (names gs) (less_if (slice_cmp nat_cmp low g.0) parts.0) parts.1))
 
 module _ (ts : Types) (name : List ℕ) (new : PropertyGraph) where
   abbrev put : List ℕ × CatalogGraph → List ℕ × CatalogGraph

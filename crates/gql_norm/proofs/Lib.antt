@@ -2,9 +2,9 @@ pub mod NormalFormLemmas
 pub mod NormalPartLemmas
 pub mod DegreeLemmas
 pub mod ColumnLemmas
+pub mod DeclaredLemmas
 pub mod HeightLemmas
 pub mod Measures
-pub mod Listing
 pub mod MatchTableLemmas
 pub mod AmongLemmas
 pub mod ExpansionLemmas
@@ -36,7 +36,10 @@ pub mod RowLengths
 pub mod EachLemmas
 pub mod PositionKinds
 pub mod NameKinds
+pub mod KnownDegrees
 pub mod GroupNames
 pub mod RowProperties
 pub mod CellKinds
 pub mod OneTable
+pub mod NothingRefused
+pub mod LoopLemmas

@@ -17,10 +17,11 @@ use Rattle.gql_norm.specs.Termination.{least_length, has_empty_loop, unprotected
 use Rattle.gql_norm.specs.Bounds.{bounds_at_fault}
 use Rattle.gql_norm.specs.ReducedBinding.{Reduced, reduced_cmp, IsBindingOf}
 use Rattle.gql_norm.specs.Selection.{Among}
-use Rattle.gql_norm.proofs.Listing.{expansions, layings, bindings}
+use Rattle.gql_norm.specs.Machinery.Listing.{expansions, layings, bindings}
 use Rattle.gql_norm.proofs.ExpansionLemmas.{IsBounded}
 use Rattle.gql_norm.proofs.ListedBindings.{binding_is_listed}
-use Rattle.gql_norm.proofs.Finiteness.{most_edges, finitely_many}
+use Rattle.gql_norm.specs.MostEdges.{most_edges}
+use Rattle.gql_norm.proofs.Finiteness.{finitely_many}
 use Rattle.gql_norm.proofs.OneTable.{differs_from_all, no_binding_of}
 use Rattle.gql_norm.proofs.ExampleGraph.{g0, bare, t_right}
 use Rattle.gql_norm.proofs.BindingExamples.{binding, trail_within, stays, there_and_back, round, nested, long_way, short_way, nested_quantifiers, nested_quantifiers_under_trail}

@@ -15,9 +15,10 @@ use Rattle.gql_norm.specs.Declaration.{visible}
 use Rattle.gql_norm.specs.Termination.{least_length, has_empty_loop, unprotected}
 use Rattle.gql_norm.specs.Selection.{Each, Among}
 use Rattle.gql_norm.specs.MatchTable.{IsMatchTable}
-use Rattle.gql_norm.proofs.Listing.{expansions, layings, listed_rows}
+use Rattle.gql_norm.specs.Machinery.Listing.{expansions, layings, listed_rows}
 use Rattle.gql_norm.proofs.ExpansionLemmas.{IsBounded}
-use Rattle.gql_norm.proofs.Finiteness.{most_edges, finitely_many}
+use Rattle.gql_norm.specs.MostEdges.{most_edges}
+use Rattle.gql_norm.proofs.Finiteness.{finitely_many}
 use Rattle.gql_norm.proofs.ExampleGraph.{g0}
 use Rattle.gql_norm.proofs.BindingExamples.{trail_within, nested}
 use Rattle.gql_norm.proofs.MoreBindingExamples.{one_of_two, one_of_two_told, loop, over_the_loop, from_two}

@@ -29,7 +29,7 @@ use Rattle.gql_norm.specs.Termination.{least_length, has_empty_loop, unprotected
 use Rattle.gql_norm.specs.NewColumns.{columns_after}
 use Rattle.gql_norm.specs.Bounds.{bounds_at_fault}
 use Rattle.gql_norm.specs.PatternRefusal.{pattern_refusal}
-use Rattle.gql_norm.proofs.Listing.{expansions, layings, listed_rows}
+use Rattle.gql_norm.specs.Machinery.Listing.{expansions, layings, listed_rows}
 use Rattle.gql_norm.proofs.ExampleGraph.{g0, n_is, blank, bare, node_where, node_with_n, t_right}
 use Rattle.gql_norm.proofs.BindingExamples.{from_one_to_one, nested}
 use Rattle.gql_norm.proofs.MoreBindingExamples.{one_of_two, one_of_two_told}

@@ -11,7 +11,7 @@ use Rattle.gql_norm.specs.Places.{size}
 use Rattle.gql_norm.specs.Declaration.{visible}
 use Rattle.gql_norm.specs.ReducedBinding.{Reduced, IsBindingOf}
 use Rattle.gql_norm.specs.Selection.{Among, IsLegal, IsLengthBelow, FewBelow, AtMostPerPair, KeepsShortest, pair_of, length_of}
-use Rattle.gql_norm.proofs.Listing.{expansions, layings, bindings}
+use Rattle.gql_norm.specs.Machinery.Listing.{expansions, layings, bindings}
 use Rattle.gql_norm.proofs.ExpansionLemmas.{IsBounded}
 use Rattle.gql_norm.proofs.ListedBindings.{listed_is_binding, binding_is_listed}
 use Rattle.gql_norm.proofs.ExampleGraph.{g0, n_is, node_where, t_right}

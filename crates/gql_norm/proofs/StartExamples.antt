@@ -11,7 +11,7 @@ use Rattle.gql_norm.specs.Declaration.{visible}
 use Rattle.gql_norm.specs.ReducedBinding.{Reduced, reduced_cmp, IsBindingFrom}
 use Rattle.gql_norm.specs.Selection.{Among}
 use Rattle.gql_norm.proofs.AmongLemmas.{among_filter, of_filter}
-use Rattle.gql_norm.proofs.Listing.{expansions, layings, bindings}
+use Rattle.gql_norm.specs.Machinery.Listing.{expansions, layings, bindings}
 use Rattle.gql_norm.proofs.ExpansionLemmas.{IsBounded}
 use Rattle.gql_norm.proofs.ListedBindings.{listed_is_binding, binding_is_listed}
 use Rattle.gql_norm.proofs.OneTable.{differs_from_all, no_binding_of}

@@ -63,10 +63,6 @@ abbrev pub is_singleton : Option Degree → Bool
 is_singleton (Some Singleton) = true
 is_singleton _ = false
 
-abbrev pub is_conditional : Option Degree → Bool
-is_conditional (Some Conditional) = true
-is_conditional _ = false
-
 abbrev pub is_group : Option Degree → Bool
 is_group (Some Group) = true
 is_group _ = false

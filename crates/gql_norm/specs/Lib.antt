@@ -23,6 +23,7 @@ pub mod UnknownNames
 pub mod WrongKinds
 pub mod JoinDefects
 pub mod Termination
+pub mod MostEdges
 pub mod Finite
 pub mod Laws
 pub mod OtherDefects

@@ -7,6 +7,7 @@
 
 mod copies;
 mod declaration;
+mod declared;
 mod degree;
 mod element;
 mod element_forms;
@@ -24,9 +25,10 @@ mod selectors;
 mod sizes;
 mod starts;
 
-pub use copies::{copied_condition, copied_element, copied_labels, copied_name};
+pub use copies::{copied_condition, copied_element, copied_name};
 pub use declaration::{Declarations, Declared, visible};
-pub use degree::Degree;
+pub use declared::{add_declared, declared_in};
+pub use degree::{Degree, wider};
 pub use element::{ElementPattern, Predicate, Predicates};
 pub use item::Item;
 pub use laws::{

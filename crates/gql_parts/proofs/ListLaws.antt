@@ -7,7 +7,7 @@ use Rattle.gql_front.specs.Reading.{◌>>=◌, Reader, is_sign, op_at, step, man
 use Rattle.gql_front.proofs.Found.{Sound, StepIs, step_sound, no_operator, one_step}
 use Rattle.gql_front.proofs.Chains.{Many, sequence_read}
 use Rattle.gql_front.proofs.LexemeTests.{cond_some_is}
-use Rattle.gql_exprs.specs.Machinery.Readers.{comma_op}
+use Rattle.gql_exprs.specs.Machinery.LeafReaders.{comma_op}
 use Rattle.gql_parts.specs.Parts.{Passes, AreOthers, IsListOf}
 use Rattle.gql_parts.specs.Machinery.PartReaders.{taken, listed}
 use Rattle.gql_parts.proofs.PartLaws.{Stops, sign_apart, passes_stops}

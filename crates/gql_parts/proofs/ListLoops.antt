@@ -6,7 +6,7 @@ use Rattle.gql_lexer.specs.SymbolPlaces.{comma}
 use Rattle.gql_front.specs.Reading.{◌>>=◌, Reader, is_sign, before, after, op_at, step, many, sequence}
 use Rattle.gql_front.proofs.Found.{no_operator, no_operand, one_step}
 use Rattle.gql_front.proofs.Loops.{with_front}
-use Rattle.gql_exprs.specs.Machinery.Readers.{comma_op}
+use Rattle.gql_exprs.specs.Machinery.LeafReaders.{comma_op}
 use Rattle.gql_parts.specs.Machinery.PartReaders.{taken, listed}
 use Rattle.gql_parts.proofs.ManyLaws.{many_none, many_next}
 

@@ -1,89 +1,16 @@
 -- A name has a degree where it is declared, and is a group where it is declared under a quantifier.
 use Rattle.std.proofs.Common.{◌≡◌, ℕ, Bool, true, false, ◌||◌, ◌&&◌, List, [], ◌∷◌, ◌++◌, Option, Some, None, is_some, flat_map, refl, sym, ◌∙◌}
-use Rattle.std.specs.Prelude.{option_map, if◌then◌else◌}
+use Rattle.std.specs.Prelude.{if◌then◌else◌}
 use Rattle.std.proofs.lemmas.List.Folds.{list_any-append}
 use Rattle.gql_values3.specs.Texts.{same_text}
 use Rattle.gql_norm.specs.NormalPattern.{Part, Node, Edge, Concat, Union, Alt, Quant, Opt, Scope, Sides, NoSide, Side, NormalPath}
 use Rattle.gql_norm.specs.declared.degree.Degree.{Degree}
-use Rattle.gql_norm.specs.declared.degree.Degree.TheVariants.{Singleton, Conditional, Group}
-use Rattle.gql_norm.specs.Degree.{degree_of, degrees_of, element_degree, joint, beside, beside_all, under_optional, is_group}
+use Rattle.gql_norm.specs.declared.degree.Degree.TheVariants.{Singleton, Group}
+use Rattle.gql_norm.specs.Degree.{degree_of, degrees_of, element_degree, beside_all, under_optional, is_group}
 use Rattle.gql_norm.specs.NewColumns.{degree_in_paths}
+use Rattle.gql_norm.proofs.KnownDegrees.{joint_known, beside_known, or_none, mapped_known, joint_group, beside_group, optional_group, repeated_group}
 use Rattle.gql_pattern_checks.proofs.HoldLemmas.{has, has_group}
 use Rattle.gql_pattern_checks.proofs.PlaceLemmas.{Entries, entry_of, entries_of, entries_of_sides}
-
-joint_some : (a b : Option Degree) → is_some (joint a b) ≡ (is_some a || is_some b)
-joint_some None b = refl
-joint_some (Some a) None = refl
-joint_some (Some a) (Some b) = refl
-
-joint_group : (a b : Option Degree) → is_group (joint a b) ≡ (is_group a || is_group b)
-joint_group None b = refl
-joint_group (Some Singleton) None = refl
-joint_group (Some Conditional) None = refl
-joint_group (Some Group) None = refl
-joint_group (Some Singleton) (Some Singleton) = refl
-joint_group (Some Singleton) (Some Conditional) = refl
-joint_group (Some Singleton) (Some Group) = refl
-joint_group (Some Conditional) (Some Singleton) = refl
-joint_group (Some Conditional) (Some Conditional) = refl
-joint_group (Some Conditional) (Some Group) = refl
-joint_group (Some Group) (Some Singleton) = refl
-joint_group (Some Group) (Some Conditional) = refl
-joint_group (Some Group) (Some Group) = refl
-
-beside_some : (a b : Option Degree) → is_some (beside a b) ≡ (is_some a || is_some b)
-beside_some None None = refl
-beside_some None (Some Singleton) = refl
-beside_some None (Some Conditional) = refl
-beside_some None (Some Group) = refl
-beside_some (Some Singleton) None = refl
-beside_some (Some Conditional) None = refl
-beside_some (Some Group) None = refl
-beside_some (Some Singleton) (Some Singleton) = refl
-beside_some (Some Singleton) (Some Conditional) = refl
-beside_some (Some Singleton) (Some Group) = refl
-beside_some (Some Conditional) (Some Singleton) = refl
-beside_some (Some Conditional) (Some Conditional) = refl
-beside_some (Some Conditional) (Some Group) = refl
-beside_some (Some Group) (Some Singleton) = refl
-beside_some (Some Group) (Some Conditional) = refl
-beside_some (Some Group) (Some Group) = refl
-
-beside_group : (a b : Option Degree) → is_group (beside a b) ≡ (is_group a || is_group b)
-beside_group None None = refl
-beside_group None (Some Singleton) = refl
-beside_group None (Some Conditional) = refl
-beside_group None (Some Group) = refl
-beside_group (Some Singleton) None = refl
-beside_group (Some Conditional) None = refl
-beside_group (Some Group) None = refl
-beside_group (Some Singleton) (Some Singleton) = refl
-beside_group (Some Singleton) (Some Conditional) = refl
-beside_group (Some Singleton) (Some Group) = refl
-beside_group (Some Conditional) (Some Singleton) = refl
-beside_group (Some Conditional) (Some Conditional) = refl
-beside_group (Some Conditional) (Some Group) = refl
-beside_group (Some Group) (Some Singleton) = refl
-beside_group (Some Group) (Some Conditional) = refl
-beside_group (Some Group) (Some Group) = refl
-
-quant_some : (a : Option Degree) → is_some (option_map (λ (d : Degree). Group) a) ≡ is_some a
-quant_some None = refl
-quant_some (Some d) = refl
-
-quant_group : (a : Option Degree) → is_group (option_map (λ (d : Degree). Group) a) ≡ is_some a
-quant_group None = refl
-quant_group (Some d) = refl
-
-optional_some : (a : Option Degree) → is_some (option_map under_optional a) ≡ is_some a
-optional_some None = refl
-optional_some (Some d) = refl
-
-optional_group : (a : Option Degree) → is_group (option_map under_optional a) ≡ is_group a
-optional_group None = refl
-optional_group (Some Singleton) = refl
-optional_group (Some Conditional) = refl
-optional_group (Some Group) = refl
 
 one_has : (g : Bool) (v : Option (List ℕ)) (x : List ℕ) → is_some (element_degree v x) ≡ has (entry_of g v) x
 one_has g None x = refl
@@ -115,10 +42,6 @@ has_two xs ys x = list_any-append (λ (e : List ℕ × Bool). same_text x e.0) x
 pub has_group_two : (xs ys : Entries) (x : List ℕ) → has_group (xs ++ ys) x ≡ (has_group xs x || has_group ys x)
 has_group_two xs ys x = list_any-append (λ (e : List ℕ × Bool). same_text x e.0 && e.1) xs ys
 
-or_false : (b : Bool) → b ≡ (b || false)
-or_false true = refl
-or_false false = refl
-
 -- under a quantifier all are groups
 mutual
   all_groups : (p : Part) (x : List ℕ) → has_group (entries_of true p) x ≡ has (entries_of true p) x
@@ -139,18 +62,18 @@ mutual
   declares : (g : Bool) (p : Part) (x : List ℕ) → is_some (degree_of p x) ≡ has (entries_of g p) x
   declares g (Node w) x = one_has g w.variable x
   declares g (Edge d w) x = one_has g w.variable x
-  declares g (Concat p r) x = joint_some (degree_of p x) (degree_of r x) ∙ (λ i. declares g p x i || declares g r x i) ∙ sym (has_two (entries_of g p) (entries_of g r) x)
-  declares g (Union p r) x = beside_some (degree_of p x) (degree_of r x) ∙ (λ i. declares g p x i || declares g r x i) ∙ sym (has_two (entries_of g p) (entries_of g r) x)
+  declares g (Concat p r) x = joint_known (degree_of p x) (degree_of r x) ∙ (λ i. declares g p x i || declares g r x i) ∙ sym (has_two (entries_of g p) (entries_of g r) x)
+  declares g (Union p r) x = beside_known (degree_of p x) (degree_of r x) ∙ (λ i. declares g p x i || declares g r x i) ∙ sym (has_two (entries_of g p) (entries_of g r) x)
   declares g (Alt ss) x = side_declares g ss x
-  declares g (Quant b l n) x = quant_some (degree_of b x) ∙ declares true b x
-  declares g (Opt b) x = optional_some (degree_of b x) ∙ declares g b x
+  declares g (Quant b l n) x = mapped_known (λ (d : Degree). Group) (degree_of b x) ∙ declares true b x
+  declares g (Opt b) x = mapped_known under_optional (degree_of b x) ∙ declares g b x
   declares g (Scope m b c) x = declares g b x
 
   side_declares : (g : Bool) (ss : Sides) (x : List ℕ) → is_some (beside_all (degrees_of ss x)) ≡ has (entries_of_sides g ss) x
   side_declares g NoSide x = refl
-  side_declares g (Side p NoSide) x = declares g p x ∙ or_false (has (entries_of g p) x) ∙ sym (has_two (entries_of g p) [] x)
+  side_declares g (Side p NoSide) x = declares g p x ∙ or_none (has (entries_of g p) x) ∙ sym (has_two (entries_of g p) [] x)
   side_declares g (Side p (Side r ss)) x =
-      beside_some (degree_of p x) (beside_all (degrees_of (Side r ss) x)) ∙ (λ i. declares g p x i || side_declares g (Side r ss) x i)
+      beside_known (degree_of p x) (beside_all (degrees_of (Side r ss) x)) ∙ (λ i. declares g p x i || side_declares g (Side r ss) x i)
       ∙ sym (has_two (entries_of g p) (entries_of_sides g (Side r ss)) x)
 
 mutual
@@ -160,13 +83,13 @@ mutual
   groups (Concat p r) x = joint_group (degree_of p x) (degree_of r x) ∙ (λ i. groups p x i || groups r x i) ∙ sym (has_group_two (entries_of false p) (entries_of false r) x)
   groups (Union p r) x = beside_group (degree_of p x) (degree_of r x) ∙ (λ i. groups p x i || groups r x i) ∙ sym (has_group_two (entries_of false p) (entries_of false r) x)
   groups (Alt ss) x = side_groups ss x
-  groups (Quant b l n) x = quant_group (degree_of b x) ∙ declares true b x ∙ sym (all_groups b x)
+  groups (Quant b l n) x = repeated_group (degree_of b x) ∙ declares true b x ∙ sym (all_groups b x)
   groups (Opt b) x = optional_group (degree_of b x) ∙ groups b x
   groups (Scope m b c) x = groups b x
 
   side_groups : (ss : Sides) (x : List ℕ) → is_group (beside_all (degrees_of ss x)) ≡ has_group (entries_of_sides false ss) x
   side_groups NoSide x = refl
-  side_groups (Side p NoSide) x = groups p x ∙ or_false (has_group (entries_of false p) x) ∙ sym (has_group_two (entries_of false p) [] x)
+  side_groups (Side p NoSide) x = groups p x ∙ or_none (has_group (entries_of false p) x) ∙ sym (has_group_two (entries_of false p) [] x)
   side_groups (Side p (Side r ss)) x =
       beside_group (degree_of p x) (beside_all (degrees_of (Side r ss) x)) ∙ (λ i. groups p x i || side_groups (Side r ss) x i)
       ∙ sym (has_group_two (entries_of false p) (entries_of_sides false (Side r ss)) x)

@@ -1,5 +1,6 @@
 -- What the final WHERE sees: the columns behind the clause, and the names that the walk gathers, are alike.
 use Rattle.std.proofs.Common.{◌≡◌, ℕ, Bool, true, false, ◌||◌, ◌&&◌, cond, List, [], ◌∷◌, ◌++◌, flat_map, Option, Some, None, is_some, refl, sym, ap, subst, ◌∙◌, append_assoc, true≢false}
+use Rattle.std.proofs.lemmas.Bool.{and_right}
 use Rattle.std.specs.Prelude.{option_map, unwrap_or, if◌then◌else◌}
 use Rattle.std.specs.Option.{option_or}
 use Rattle.std.proofs.lemmas.List.{map-append}
@@ -80,14 +81,10 @@ path_new false true false = refl
 path_new false false true = refl
 path_new false false false = refl
 
-and_false : (s : Bool) → (s && false) ≡ false
-and_false true = refl
-and_false false = refl
-
 path_known_group : (p v g s : Bool) → (if p || v then (if p then false else (v && g)) else (s && false)) ≡ (if p then false else (v && g))
 path_known_group true v g s = refl
 path_known_group false true g s = refl
-path_known_group false false g s = and_false s
+path_known_group false false g s = and_right s false refl
 
 path_new_group : (p v g s : Bool) → (s ≡ true → v ≡ false) → (if p || v then (if p then false else (v && g)) else (s && false)) ≡ (if p || s then false else (v && g))
 path_new_group true v g s h = refl

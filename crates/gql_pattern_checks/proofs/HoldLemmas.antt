@@ -1,5 +1,6 @@
 -- Names as the code keeps them, each once, against entries as the definitions have them.
 use Rattle.std.proofs.Common.{◌≡◌, ℕ, Bool, true, false, ◌||◌, ◌&&◌, List, [], ◌∷◌, ◌++◌, Option, Some, None, refl, sym, ap, subst, ◌∙◌, append_assoc}
+use Rattle.std.proofs.lemmas.Bool.{and_right}
 use Rattle.std.specs.Prelude.{if◌then◌else◌}
 use Rattle.std.specs.List.{list_any}
 use Rattle.std.proofs.lemmas.List.Folds.{list_any-append}
@@ -53,10 +54,6 @@ and_true : (b : Bool) → (b && true) ≡ b
 and_true true = refl
 and_true false = refl
 
-and_false : (b : Bool) → (b && false) ≡ false
-and_false true = refl
-and_false false = refl
-
 or_false : (b : Bool) → (b || false) ≡ b
 or_false true = refl
 or_false false = refl
@@ -78,7 +75,7 @@ holds_variable true ps s es (Some x) h = record {
 holds_variable false ps s es (Some x) h = record {
   paths = h.paths;
   variables = λ y. among_with s.variables x y ∙ ap (λ b. b || same_text y x) (h.variables y) ∙ sym (has_more es x false y);
-  groups = λ y. h.groups y ∙ sym (or_false (has_group es y)) ∙ sym (ap (λ b. has_group es y || b) (and_false (same_text y x))) ∙ sym (has_group_more es x false y);
+  groups = λ y. h.groups y ∙ sym (or_false (has_group es y)) ∙ sym (ap (λ b. has_group es y || b) (and_right (same_text y x) false refl)) ∙ sym (has_group_more es x false y);
 }
 
 mutual

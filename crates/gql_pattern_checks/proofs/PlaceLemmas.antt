@@ -203,10 +203,5 @@ pub seen_behind : (p : Part) (a : ℕ) (qs : List ℕ) (x : ℕ) (around : List 
 seen_behind p a qs x around h ag bl =
     all_seen_by false p a qs x around h (not_crossed around qs a (agree_below around qs a (a + size p) (omega arith) ag) bl) (opens_here around qs a (a + size p) ag bl)
 
-pub seen_behind_sides : (ss : Sides) (b : ℕ) (qs : List ℕ) (x : ℕ) (around : List ℕ) → b + size_all ss ≤ x → Agree around qs (b + size_all ss) → Below qs b
-    → seen_by around (visible_sides ss b qs x) ≡ entries_of_sides false ss
-seen_behind_sides ss b qs x around h ag bl =
-    all_seen_by_sides false ss b qs x around h (not_crossed around qs b (agree_below around qs b (b + size_all ss) (omega arith) ag) bl) (opens_here around qs b (b + size_all ss) ag bl)
-
 pub seen_here : (k : ColumnKind) (a : ℕ) (qs : List ℕ) (v : Option (List ℕ)) → Below qs a → seen_by qs (declaration k a qs v (nat_le a a)) ≡ entry_of false v
 seen_here k a qs v bl = one_seen qs false k a qs v (nat_le a a) (at_or_before a a (omega arith)) (not_crossed qs qs a (agree_itself qs a) bl)

@@ -11,7 +11,7 @@ use Rattle.gql_norm.specs.declared.part.Part.TheVariants as part
 use Rattle.gql_norm.specs.Machinery.PartHeight.{part_height_of, highest_part}
 use Rattle.gql_norm.proofs.HeightLemmas.{row_falls, union_falls}
 use Rattle.gql_pattern_checks.specs.Machinery.Scopes.{with_part, with_parts}
-use Rattle.gql_pattern_checks.specs.Machinery.ScopeWalk.{refused_in, refused_in_row, refused_beside}
+use Rattle.gql_pattern_checks.specs.Machinery.ScopeWalk.{refused_in, refused_in_row}
 use Rattle.gql_pattern_checks.specs.declared.scope.Names.{Names}
 use Rattle.gql_pattern_checks.specs.declared.scoped.ScopeQuestion.{ScopeQuestion}
 
@@ -19,11 +19,6 @@ pub row_cut : (q : ScopeQuestion) (columns : ColumnList) (s : Names) (whole : Op
     → refused_in_row q columns s (map part_data (drop i parts)) ≡ whole
     → whole ≡ option_or (refused_in q columns s (part_data p)) (refused_in_row q columns (with_part false s (part_data p)) (map part_data (drop (i + 1) parts)))
 row_cut q columns s whole parts i p below is h = sym h ∙ ap (λ ps. refused_in_row q columns s (map part_data ps)) (drop_step parts i p below is)
-
-pub sides_cut : (q : ScopeQuestion) (columns : ColumnList) (s : Names) (whole : Option Refusal) (parts : List CodePart) (i : ℕ) (p : CodePart) → i < length parts → p ≡ get_or parts i p
-    → refused_beside q columns s (map part_data (drop i parts)) ≡ whole
-    → whole ≡ option_or (refused_in q columns s (part_data p)) (refused_beside q columns s (map part_data (drop (i + 1) parts)))
-sides_cut q columns s whole parts i p below is h = sym h ∙ ap (λ ps. refused_beside q columns s (map part_data ps)) (drop_step parts i p below is)
 
 pub added_cut : (s t : Names) (parts : List CodePart) (i : ℕ) (p : CodePart) → i < length parts → p ≡ get_or parts i p → t ≡ with_part false s (part_data p)
     → with_parts false t (map part_data (drop (i + 1) parts)) ≡ with_parts false s (map part_data (drop i parts))

@@ -5,7 +5,6 @@
 //! is asked of `gql_expr_checks`; here stand the walks over a pattern that ask it.
 #![tactic(auto)]
 
-mod expr_names;
 mod misuses;
 mod name_list;
 mod names;

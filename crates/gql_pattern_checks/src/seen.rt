@@ -7,10 +7,9 @@ ghost use Rattle.gql_expr_checks.specs.Machinery.Knowing.{first_kind};
 ghost use Rattle.gql_pattern_checks.specs.Machinery.Scopes.{known_columns};
 ghost use Rattle.gql_pattern_checks.specs.Machinery.SeenColumns.{column_if, seen_columns};
 
-use crate::expr_names::names_in;
 use crate::scope::Names;
 use gql_ast::Expr;
-use gql_expr_checks::KnownColumns;
+use gql_expr_checks::{KnownColumns, names_in};
 use gql_values3::{OutOfMemory, Text};
 use std::alloc::Global;
 

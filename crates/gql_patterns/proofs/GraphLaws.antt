@@ -13,7 +13,8 @@ use Rattle.gql_front.proofs.Agree.{is_longest}
 use Rattle.gql_front.proofs.Found.{Goes, Goes-left, Goes-right, Found, exact, longer, Sound, Shrinks, exact_at, some_is, is_there, StepIs, step_goes, step_sound, step_complete}
 use Rattle.gql_front.proofs.LexemeTests.{cond_some_is, sign_is}
 use Rattle.gql_front.proofs.Chains.{Many, operators_apart, sequence_found}
-use Rattle.gql_exprs.specs.Machinery.Readers.{comma_op, read_expr}
+use Rattle.gql_exprs.specs.Machinery.LeafReaders.{comma_op}
+use Rattle.gql_exprs.specs.Machinery.Readers.{read_expr}
 use Rattle.gql_exprs.proofs.ExprLists.{goes_or}
 use Rattle.gql_exprs.proofs.ExprRead.{expr_complete}
 use Rattle.gql_parts.specs.Parts.{IsOptional, AreOthers, IsListOf}

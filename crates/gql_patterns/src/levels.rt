@@ -1,7 +1,6 @@
 //! The recursion over path pattern expressions: a function a production, where the functions of the loops read any length.
 
-ghost use Rattle.std.specs.Prelude.{◌≡◌, ◌<◌, ◌≤◌, length, IfOk};
-ghost use Rattle.gql_front.specs.Reads.{ReadsAs};
+ghost use Rattle.gql_front.specs.Reads.{ReadsAs, AlwaysReadsInMemory};
 ghost use Rattle.gql_ast.specs.PatternMeaning.{pattern_of};
 ghost use Rattle.gql_patterns.specs.Machinery.PathReaders.{node_pattern_of, closed_part_of, part_of, in_parentheses_of, primary_of, factor_of, factors_of, term_of, sides_of, read_path};
 
@@ -38,8 +37,7 @@ fn sides<'a>(
     chain: PathChain,
     start: &'a [Lexeme],
 ) -> Result<(PathList, &'a [Lexeme]), OutOfMemory>
-    ensures given { IfOk result (λ x. (x.0, x.1.now) ≡ sides_of read_path chain start.now) }
-    ensures shorter { IfOk result (λ x. length x.1.now ≤ length start.now) }
+    ensures { AlwaysReadsInMemory result start.now (sides_of read_path chain start.now) }
 {
     let mut others = PathList::new(alloc);
     let mut rest = start;
@@ -71,8 +69,7 @@ fn term<'a>(alloc: Global, rest: &'a [Lexeme]) -> ParseResult<'a, PathExpr>
 /// The further parts of a row, as many as there are.
 #[cycle(path)]
 fn factors<'a>(alloc: Global, start: &'a [Lexeme]) -> Result<(PathList, &'a [Lexeme]), OutOfMemory>
-    ensures given { IfOk result (λ x. (x.0, x.1.now) ≡ factors_of read_path start.now) }
-    ensures shorter { IfOk result (λ x. length x.1.now ≤ length start.now) }
+    ensures { AlwaysReadsInMemory result start.now (factors_of read_path start.now) }
 {
     let mut others = PathList::new(alloc);
     let mut rest = start;

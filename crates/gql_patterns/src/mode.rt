@@ -1,9 +1,9 @@
 //! Path modes, and the words PATH and PATHS behind them.
 
-ghost use Rattle.std.specs.Prelude.{◌≡◌, ◌<◌, ◌≤◌, length, IfOk};
+ghost use Rattle.std.specs.Prelude.{◌≡◌};
 ghost use Rattle.gql_front.specs.Tables.{entry};
 ghost use Rattle.gql_front.specs.Reading.{op_at};
-ghost use Rattle.gql_front.specs.Reads.{Takes};
+ghost use Rattle.gql_front.specs.Reads.{Takes, AlwaysReads, LeftBehind};
 ghost use Rattle.gql_patterns.specs.PatternWords.{mode_words, mode_word};
 ghost use Rattle.gql_patterns.specs.Machinery.PrefixReaders.{past_path_word, mode_of, part_mode_of, mode_behind};
 
@@ -39,8 +39,7 @@ fn mode_word_at(rest: &[Lexeme]) -> Result<(Mode, &[Lexeme]), NoFront>
 
 /// What is behind PATH or PATHS, or all where neither stands.
 pub fn past_path_word(rest: &[Lexeme]) -> &[Lexeme]
-    ensures given { result.now ≡ past_path_word rest.now }
-    ensures shorter { length result.now ≤ length rest.now }
+    ensures { LeftBehind result rest.now (past_path_word rest.now) }
 {
     match rest {
         [Lexeme::Word { place: PATH, .. }, rest @ ..] => rest,
@@ -61,8 +60,7 @@ fn mode(rest: &[Lexeme]) -> Result<(Mode, &[Lexeme]), NoFront>
 /// The mode of a part in parentheses, or nothing.
 #[tactic(auto, unfolding(crate::specs::Machinery::PrefixReaders::part_mode_of))]
 pub fn part_mode(rest: &[Lexeme]) -> (Option<Mode>, &[Lexeme])
-    ensures given { (result.0, result.1.now) ≡ part_mode_of rest.now }
-    ensures shorter { length result.1.now ≤ length rest.now }
+    ensures { AlwaysReads result rest.now (part_mode_of rest.now) }
 {
     match mode(rest) {
         Ok((mode, behind)) => (Some(mode), behind),
@@ -73,8 +71,7 @@ pub fn part_mode(rest: &[Lexeme]) -> (Option<Mode>, &[Lexeme])
 /// The mode behind the words of a selector, or nothing, and PATH or PATHS where one of them is there.
 #[tactic(auto, unfolding(crate::specs::Machinery::PrefixReaders::mode_behind))]
 pub fn mode_behind(rest: &[Lexeme]) -> (Option<Mode>, &[Lexeme])
-    ensures given { (result.0, result.1.now) ≡ mode_behind rest.now }
-    ensures shorter { length result.1.now ≤ length rest.now }
+    ensures { AlwaysReads result rest.now (mode_behind rest.now) }
 {
     match mode_word_at(rest) {
         Ok((mode, behind)) => (Some(mode), past_path_word(behind)),

@@ -1,7 +1,6 @@
 //! The prefix of a path pattern: its mode, or which of the paths are kept.
 
-ghost use Rattle.std.specs.Prelude.{◌≡◌, ◌<◌, ◌≤◌, length, IfOk};
-ghost use Rattle.gql_front.specs.Reads.{Reads, MayRead, GoesPast};
+ghost use Rattle.gql_front.specs.Reads.{Reads, MayRead, GoesPast, AlwaysReads};
 ghost use Rattle.gql_patterns.specs.PatternWords.{is_group_word};
 ghost use Rattle.gql_patterns.specs.Machinery.PrefixReaders.{all_of, any_of, shortest_of, prefix_behind, prefix_of};
 
@@ -36,8 +35,7 @@ fn prefix_behind<'a>(alloc: Global, word: PrefixWord, rest: &'a [Lexeme]) -> Par
 }
 
 fn behind_all(rest: &[Lexeme]) -> (Prefix, &[Lexeme])
-    ensures given { (result.0, result.1.now) ≡ all_of rest.now }
-    ensures shorter { length result.1.now ≤ length rest.now }
+    ensures { AlwaysReads result rest.now (all_of rest.now) }
 {
     match after_word(SHORTEST, rest) {
         Ok(behind) => {

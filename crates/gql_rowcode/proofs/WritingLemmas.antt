@@ -9,8 +9,7 @@ use Rattle.std.proofs.lemmas.List.Concat.{flat_map-append, flat_map-cons}
 use Rattle.std.proofs.lemmas.List.Sorted.{Contains-permutation, IsPermutation-sym, length_permutation}
 use Rattle.gql_values3.specs.Datum.{Datum}
 use Rattle.gql_values3.specs.Texts.{texts_ascend}
-use Rattle.gql_values3.specs.PropertyGraph.{PropertyGraph, are_numbers, are_nodes, are_edges, are_ends, are_properties, is_node_record, is_edge_record, is_graph}
-use Rattle.gql_values3.specs.declared.records.NodeRecord.{NodeRecord}
+use Rattle.gql_values3.specs.PropertyGraph.{PropertyGraph, are_numbers, are_nodes, are_edges, are_ends, are_properties, is_edge_record, is_graph}
 use Rattle.gql_values3.specs.declared.records.EdgeRecord.{EdgeRecord}
 use Rattle.gql_ports.specs.Held.{keys_ascend}
 use Rattle.gql_ports.specs.declared.stored.Record.{Record}
@@ -30,9 +29,6 @@ use Rattle.gql_rowcode.proofs.OrderingKeys.{catalog_apart}
 use Rattle.gql_rowcode.proofs.OrderingSort.{KeysDiffer, sorted_ascends}
 
 -- ---- records one after the other
-
-pub say_none : (before : List Record) → SayAlso [] before before
-say_none before = (tt, sym (append-nil before))
 
 -- those that say these, and behind them those that say more
 pub say_then : (fs gs : List Form) (a b c : List Record) → SayAlso fs a b → SayAlso gs b c → SayAlso (fs ++ gs) a c
@@ -76,9 +72,6 @@ module _ {Y : Type 0} (say : Y → Form) where
       let more : map say (take (i + 1) ys) ≡ map say (take i ys) ++ say y ∷ [] = ap (map say) (taken_more ys i y lt is) ∙ map_push say (take i ys) y in
       subst (λ fs. SayAlso fs a (b ++ r ∷ [])) (sym more) (say_push (map say (take i ys)) (say y) r a b so_far says)
 
-  pub say_all : (ys : List Y) (i : ℕ) (a b : List Record) → length ys ≤ i → SayAlso (map say (take i ys)) a b → SayAlso (map say ys) a b
-  say_all ys i a b le so_far = subst (λ zs. SayAlso (map say zs) a b) (take_all i ys le) so_far
-
 module _ {Y : Type 0} (say : Y → List Form) where
   pub say_more_each : (ys : List Y) (i : ℕ) (y : Y) (a b c : List Record) → i < length ys → y ≡ get_or ys i y → SayAlso (flat_map say (take i ys)) a b → SayAlso (say y) b c → SayAlso (flat_map say (take (i + 1) ys)) a c
   say_more_each ys i y a b c lt is so_far says =
@@ -103,13 +96,6 @@ passes_at test (x ∷ xs) (suc i) d all lt = passes_at test xs i d (and_parts (t
 -- the labels and the properties are in order
 abbrev pub IsContent : List (List ℕ) → List (List ℕ × Datum) → Type 0
 IsContent labels properties = (texts_ascend labels ≡ true) × (are_properties properties ≡ true)
-
-pub node_content : (g : PropertyGraph) (i : ℕ) (r : NodeRecord) → is_graph g ≡ true → i < length g.nodes → r ≡ get_or g.nodes i r → IsContent r.labels r.properties
-node_content g i r h lt is =
-    let nodes = (and_parts (are_nodes g.nodes g.next_node) (are_edges g.nodes g.edges g.next_edge) h).0 in
-    let all = (and_parts (are_numbers (map (λ (s : NodeRecord). s.number.0) g.nodes) g.next_node) (list_all is_node_record g.nodes) nodes).1 in
-    let one : is_node_record r ≡ true = ap is_node_record is ∙ passes_at is_node_record g.nodes i r all lt in
-    and_parts (texts_ascend r.labels) (are_properties r.properties) one
 
 pub edge_content : (g : PropertyGraph) (i : ℕ) (r : EdgeRecord) → is_graph g ≡ true → i < length g.edges → r ≡ get_or g.edges i r → IsContent r.labels r.properties
 edge_content g i r h lt is =
@@ -147,11 +133,6 @@ pub sound_catalog : (c : CatalogData) → is_sound c ≡ true → is_catalog c �
 sound_catalog c h =
     (and_parts (is_catalog c) (list_all (λ (t : List ℕ × GraphType). is_graph_type t.1) c.types)
     (and_parts (is_catalog c && list_all (λ (t : List ℕ × GraphType). is_graph_type t.1) c.types) (list_all (λ (g : List ℕ × CatalogGraph). fits_kind c.types g.1.graph g.1.kind) c.graphs) h).0).0
-
-pub sound_types : (c : CatalogData) → is_sound c ≡ true → list_all (λ (t : List ℕ × GraphType). is_graph_type t.1) c.types ≡ true
-sound_types c h =
-    (and_parts (is_catalog c) (list_all (λ (t : List ℕ × GraphType). is_graph_type t.1) c.types)
-    (and_parts (is_catalog c && list_all (λ (t : List ℕ × GraphType). is_graph_type t.1) c.types) (list_all (λ (g : List ℕ × CatalogGraph). fits_kind c.types g.1.graph g.1.kind) c.graphs) h).0).1
 
 pub all_ascend : (c : CatalogData) (all sorted : List Record) → is_catalog c ≡ true → SayAlso (catalog_forms c) [] all → sorted ≡ stably_sorted key_before all → keys_ascend sorted ≡ true
 all_ascend c all sorted h say order =

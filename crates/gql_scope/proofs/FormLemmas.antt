@@ -1,5 +1,5 @@
 -- What is said of a clause, by the normal form of its pattern.
-use Rattle.std.proofs.Common.{◌≡◌, List, [], ◌∷◌, map, Some, None, refl, sym, ap, ◌∙◌}
+use Rattle.std.proofs.Common.{◌≡◌, List, [], ◌∷◌, map, refl}
 use Rattle.gql_ast.specs.declared.clause.Clause.{Clause}
 use Rattle.gql_ast.specs.declared.clause.Clause.TheVariants as clause
 use Rattle.gql_ast.specs.declared.refusal.Refusal.{Refusal}
@@ -16,13 +16,6 @@ by_form-from_form f g (clause.For x) = refl
 by_form-from_form f g (clause.Page p) = refl
 by_form-from_form f g (clause.Change x) = refl
 by_form-from_form f g (clause.Return r) = refl
-
--- of a MATCH, and of another clause
-pub when_match : {A : Type 0} (f : NormalPattern → A) (g : Clause → A) (c : Clause) (p : NormalPattern) → Some p ≡ form_of c → f p ≡ by_form f g c
-when_match f g c p e = ap (from_form f (g c)) e ∙ sym (by_form-from_form f g c)
-
-pub when_other : {A : Type 0} (f : NormalPattern → A) (g : Clause → A) (c : Clause) → None ≡ form_of c → g c ≡ by_form f g c
-when_other f g c e = ap (from_form f (g c)) e ∙ sym (by_form-from_form f g c)
 
 -- the first of what is told of a list
 pub refusal_of_first-map : {A B : Type 0} (f : B → Refusal) (g : A → B) (xs : List A) → refusal_of_first f (map g xs) ≡ refusal_of_first (λ x. f (g x)) xs

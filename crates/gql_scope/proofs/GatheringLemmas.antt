@@ -1,9 +1,7 @@
 -- The names of path patterns gathered by a walk are the columns of the definition. Key idea: a name is a group over all path
 -- patterns just where one of its declarations stands under a quantifier.
-use Rattle.std.proofs.Common.{◌≡◌, ℕ, Bool, true, false, cond, ◌||◌, is_some, List, [], ◌∷◌, ◌++◌, flat_map, Option, Some, None, refl, ap, sym, ◌∙◌, append_assoc}
-use Rattle.std.specs.Prelude.{option_map}
+use Rattle.std.proofs.Common.{◌≡◌, ℕ, Bool, true, false, cond, ◌||◌, List, [], ◌∷◌, ◌++◌, flat_map, Option, Some, None, refl, ap, sym, ◌∙◌, append_assoc}
 use Rattle.std.proofs.lemmas.List.{map-append}
-use Rattle.std.proofs.lemmas.List.Folds.{list_any-append}
 use Rattle.gql_values3.specs.Texts.{same_text}
 use Rattle.gql_values3.specs.declared.table.ColumnKind.{ColumnKind}
 use Rattle.gql_values3.specs.declared.table.ColumnKind.TheVariants as kind
@@ -11,10 +9,11 @@ use Rattle.gql_ast.specs.ClauseColumns.{ColumnList, is_column}
 use Rattle.gql_norm.specs.NormalPattern.{Part, Node, Edge, Concat, Union, Alt, Quant, Opt, Scope, Sides, NoSide, Side, in_a_row, side_by_side, sides_of, NormalPath}
 use Rattle.gql_norm.specs.declared.degree.Degree.{Degree}
 use Rattle.gql_norm.specs.declared.degree.Degree.TheVariants.{Singleton, Conditional, Group}
-use Rattle.gql_norm.specs.Degree.{joint, beside, beside_all, under_optional, element_degree, degree_of, degrees_of, is_group}
+use Rattle.gql_norm.specs.Degree.{beside_all, element_degree, degree_of, degrees_of, is_group}
 use Rattle.gql_norm.specs.NewColumns.{of_degree, path_name_column, degree_in_paths, columns_by, new_among}
 use Rattle.gql_norm.specs.Machinery.ColumnGrowth.{with_columns, declared_variable, declared_in, declared_in_sides, by_degrees}
 use Rattle.gql_norm.proofs.ColumnLemmas.{columns_of_path, with_columns_new}
+use Rattle.gql_norm.proofs.KnownDegrees.{or_none, known_in_both, degree_known, joint_group, beside_group, optional_group, repeated_group}
 use Rattle.gql_scope.specs.Machinery.Gathering.{Gathered, none_yet, with_variable, with_part, with_sides, with_parts, with_path_name, with_path, with_paths, as_group, columns_of}
 
 -- parts in a row, beside each other, and told
@@ -132,111 +131,10 @@ paths_added [] g = added_none g
 paths_added (p ∷ ps) g =
     both_added g (λ s. with_path s p) (λ s. with_paths s ps) (named_in p) (grouped_in p) (flat_map named_in ps) (flat_map grouped_in ps) (path_added p) (paths_added ps)
 
--- A name has a degree where it is declared.
-joint_known : (a b : Option Degree) → is_some (joint a b) ≡ (is_some a || is_some b)
-joint_known None b = refl
-joint_known (Some a) None = refl
-joint_known (Some a) (Some b) = refl
-
-beside_known : (a b : Option Degree) → is_some (beside a b) ≡ (is_some a || is_some b)
-beside_known None None = refl
-beside_known None (Some Singleton) = refl
-beside_known None (Some Conditional) = refl
-beside_known None (Some Group) = refl
-beside_known (Some Singleton) None = refl
-beside_known (Some Singleton) (Some Singleton) = refl
-beside_known (Some Singleton) (Some Conditional) = refl
-beside_known (Some Singleton) (Some Group) = refl
-beside_known (Some Conditional) None = refl
-beside_known (Some Conditional) (Some Singleton) = refl
-beside_known (Some Conditional) (Some Conditional) = refl
-beside_known (Some Conditional) (Some Group) = refl
-beside_known (Some Group) b = refl
-
-or_none : (b : Bool) → b ≡ (b || false)
-or_none true = refl
-or_none false = refl
-
-beside_all_known : (o : Option Degree) (os : List (Option Degree)) → is_some (beside_all (o ∷ os)) ≡ (is_some o || is_some (beside_all os))
-beside_all_known o [] = or_none (is_some o)
-beside_all_known o (p ∷ os) = beside_known o (beside_all (p ∷ os))
-
-mapped_known : (f : Degree → Degree) (o : Option Degree) → is_some (option_map f o) ≡ is_some o
-mapped_known f None = refl
-mapped_known f (Some d) = refl
-
-variable_known : (k : ColumnKind) (o : Option (List ℕ)) (x : List ℕ) → is_some (element_degree o x) ≡ is_column (declared_variable k o) x
-variable_known k None x = refl
-variable_known k (Some y) x = by (same_text x y)
-  where
-    by : (b : Bool) → is_some (cond b (Some Singleton) None) ≡ (b || false)
-    by true = refl
-    by false = refl
-
-in_both : (cs ds : ColumnList) (x : List ℕ) (a b : Bool) → a ≡ is_column cs x → b ≡ is_column ds x → (a || b) ≡ is_column (cs ++ ds) x
-in_both cs ds x a b h k = (λ i. h i || k i) ∙ sym (list_any-append (λ (c : List ℕ × ColumnKind). same_text x c.0) cs ds)
-
-mutual
-  degree_known : (p : Part) (x : List ℕ) → is_some (degree_of p x) ≡ is_column (declared_in p) x
-  degree_known (Node w) x = variable_known kind.Node w.variable x
-  degree_known (Edge d w) x = variable_known kind.Edge w.variable x
-  degree_known (Concat p r) x =
-      joint_known (degree_of p x) (degree_of r x) ∙ in_both (declared_in p) (declared_in r) x (is_some (degree_of p x)) (is_some (degree_of r x)) (degree_known p x) (degree_known r x)
-  degree_known (Union p r) x =
-      beside_known (degree_of p x) (degree_of r x) ∙ in_both (declared_in p) (declared_in r) x (is_some (degree_of p x)) (is_some (degree_of r x)) (degree_known p x) (degree_known r x)
-  degree_known (Alt ss) x = degrees_known ss x
-  degree_known (Quant b l n) x = mapped_known (λ (d : Degree). Group) (degree_of b x) ∙ degree_known b x
-  degree_known (Opt b) x = mapped_known under_optional (degree_of b x) ∙ degree_known b x
-  degree_known (Scope m b c) x = degree_known b x
-
-  degrees_known : (ss : Sides) (x : List ℕ) → is_some (beside_all (degrees_of ss x)) ≡ is_column (declared_in_sides ss) x
-  degrees_known NoSide x = refl
-  degrees_known (Side p ss) x =
-      beside_all_known (degree_of p x) (degrees_of ss x)
-      ∙ in_both (declared_in p) (declared_in_sides ss) x (is_some (degree_of p x)) (is_some (beside_all (degrees_of ss x))) (degree_known p x) (degrees_known ss x)
-
 -- It is a group where it stands under a quantifier.
-joint_group : (a b : Option Degree) → is_group (joint a b) ≡ (is_group a || is_group b)
-joint_group None b = refl
-joint_group (Some Singleton) None = refl
-joint_group (Some Conditional) None = refl
-joint_group (Some Group) None = refl
-joint_group (Some Singleton) (Some Singleton) = refl
-joint_group (Some Singleton) (Some Conditional) = refl
-joint_group (Some Singleton) (Some Group) = refl
-joint_group (Some Conditional) (Some Singleton) = refl
-joint_group (Some Conditional) (Some Conditional) = refl
-joint_group (Some Conditional) (Some Group) = refl
-joint_group (Some Group) (Some b) = refl
-
-beside_group : (a b : Option Degree) → is_group (beside a b) ≡ (is_group a || is_group b)
-beside_group None None = refl
-beside_group None (Some Singleton) = refl
-beside_group None (Some Conditional) = refl
-beside_group None (Some Group) = refl
-beside_group (Some Singleton) None = refl
-beside_group (Some Singleton) (Some Singleton) = refl
-beside_group (Some Singleton) (Some Conditional) = refl
-beside_group (Some Singleton) (Some Group) = refl
-beside_group (Some Conditional) None = refl
-beside_group (Some Conditional) (Some Singleton) = refl
-beside_group (Some Conditional) (Some Conditional) = refl
-beside_group (Some Conditional) (Some Group) = refl
-beside_group (Some Group) b = refl
-
 beside_all_group : (o : Option Degree) (os : List (Option Degree)) → is_group (beside_all (o ∷ os)) ≡ (is_group o || is_group (beside_all os))
 beside_all_group o [] = or_none (is_group o)
 beside_all_group o (p ∷ os) = beside_group o (beside_all (p ∷ os))
-
-optional_group : (o : Option Degree) → is_group (option_map under_optional o) ≡ is_group o
-optional_group None = refl
-optional_group (Some Singleton) = refl
-optional_group (Some Conditional) = refl
-optional_group (Some Group) = refl
-
-repeated_group : (o : Option Degree) → is_group (option_map (λ (d : Degree). Group) o) ≡ is_some o
-repeated_group None = refl
-repeated_group (Some d) = refl
 
 element_no_group : (o : Option (List ℕ)) (x : List ℕ) → is_group (element_degree o x) ≡ false
 element_no_group None x = refl
@@ -252,10 +150,10 @@ mutual
   group_known (Edge d w) x = element_no_group w.variable x
   group_known (Concat p r) x =
       joint_group (degree_of p x) (degree_of r x)
-      ∙ in_both (grouped false p) (grouped false r) x (is_group (degree_of p x)) (is_group (degree_of r x)) (group_known p x) (group_known r x)
+      ∙ known_in_both (grouped false p) (grouped false r) x (is_group (degree_of p x)) (is_group (degree_of r x)) (group_known p x) (group_known r x)
   group_known (Union p r) x =
       beside_group (degree_of p x) (degree_of r x)
-      ∙ in_both (grouped false p) (grouped false r) x (is_group (degree_of p x)) (is_group (degree_of r x)) (group_known p x) (group_known r x)
+      ∙ known_in_both (grouped false p) (grouped false r) x (is_group (degree_of p x)) (is_group (degree_of r x)) (group_known p x) (group_known r x)
   group_known (Alt ss) x = groups_known ss x
   group_known (Quant b l n) x = repeated_group (degree_of b x) ∙ degree_known b x ∙ ap (λ cs. is_column cs x) (sym (grouped_all b))
   group_known (Opt b) x = optional_group (degree_of b x) ∙ group_known b x
@@ -265,13 +163,13 @@ mutual
   groups_known NoSide x = refl
   groups_known (Side p ss) x =
       beside_all_group (degree_of p x) (degrees_of ss x)
-      ∙ in_both (grouped false p) (grouped_sides false ss) x (is_group (degree_of p x)) (is_group (beside_all (degrees_of ss x))) (group_known p x) (groups_known ss x)
+      ∙ known_in_both (grouped false p) (grouped_sides false ss) x (is_group (degree_of p x)) (is_group (beside_all (degrees_of ss x))) (group_known p x) (groups_known ss x)
 
 group_in_paths : (ps : List NormalPath) (x : List ℕ) → is_group (degree_in_paths ps x) ≡ is_column (flat_map grouped_in ps) x
 group_in_paths [] x = refl
 group_in_paths (p ∷ ps) x =
     joint_group (degree_of p.body x) (degree_in_paths ps x)
-    ∙ in_both (grouped_in p) (flat_map grouped_in ps) x (is_group (degree_of p.body x)) (is_group (degree_in_paths ps x)) (group_known p.body x) (group_in_paths ps x)
+    ∙ known_in_both (grouped_in p) (flat_map grouped_in ps) x (is_group (degree_of p.body x)) (is_group (degree_in_paths ps x)) (group_known p.body x) (group_in_paths ps x)
 
 -- So what a name holds is told by whether it is among the groups.
 of_degree_group : (d : Option Degree) (k : ColumnKind) → of_degree d k ≡ as_group (is_group d) k

@@ -1,5 +1,5 @@
 -- Where nothing of a query is refused, each of its patterns is sound: the codes of a pattern are those of its clause.
-use Rattle.std.proofs.Common.{◌≡◌, ℕ, Bool, true, false, ◌||◌, List, [], ◌∷◌, ◌++◌, map, flat_map, Option, Some, None, refl, ap}
+use Rattle.std.proofs.Common.{◌≡◌, ℕ, Bool, true, false, List, [], ◌∷◌, map, flat_map, Option, Some, None, refl, ap}
 use Rattle.std.specs.Prelude.{option_map}
 use Rattle.std.specs.List.{list_any}
 use Rattle.std.specs.Option.{option_or}
@@ -20,39 +20,20 @@ use Rattle.gql_norm.specs.WrongKinds.{wrong_in_match}
 use Rattle.gql_norm.specs.JoinDefects.{joined_group, joined_conditional}
 use Rattle.gql_norm.specs.Termination.{empty_loop, unbounded, group_references}
 use Rattle.gql_norm.specs.OtherDefects.{misused_in_match, repeated_properties, unset_parameters}
-use Rattle.gql_norm.specs.PatternRefusal.{first_of, refused_if}
+use Rattle.gql_norm.specs.PatternRefusal.{refused_if}
 use Rattle.gql_norm.specs.RowMatch.{IsSound}
+use Rattle.gql_norm.proofs.NothingRefused.{neither, none_first, not_refused, neither_holds, both_empty}
 use Rattle.gql_scope.specs.StatementBounds.{bounds_in_clause, first_bound}
 use Rattle.gql_scope.specs.WholePatterns.{columns_past, over_clauses, unknown_names, wrong_kinds, at_most_one, joined_groups, joined_conditionals, of_pattern, open_references, is_misused, misused_over, column_faults, unset_in_clause, name_refusal, repetition_refusal, use_refusal, clauses_refusal}
 use Rattle.gql_scope.specs.SoundMatches.{MatchesAreSound, AcceptedMatchesAreSound}
-
-neither : (r s : Option Refusal) → option_or r s ≡ None → (r ≡ None) × (s ≡ None)
-neither None s e = (refl, e)
-neither (Some r) s e = absurd (cc)
-
-none_first : {A : Type 0} (refuse : A → Refusal) (xs : List A) → refusal_of_first refuse xs ≡ None → xs ≡ []
-none_first refuse [] e = refl
-none_first refuse (x ∷ xs) e = absurd (cc)
 
 no_number : (ns : List ℕ) → option_map told_number (first ns) ≡ None → ns ≡ []
 no_number [] e = refl
 no_number (n ∷ ns) e = absurd (cc)
 
-not_refused : (r : Refusal) (b : Bool) → refused_if r b ≡ None → b ≡ false
-not_refused r false e = refl
-not_refused r true e = absurd (cc)
-
 no_misuse : (b : Bool) → misuse_if b ≡ None → b ≡ false
 no_misuse false e = refl
 no_misuse true e = absurd (cc)
-
-neither_holds : (a b : Bool) → (a || b) ≡ false → (a ≡ false) × (b ≡ false)
-neither_holds false b e = (refl, e)
-neither_holds true b e = absurd (cc)
-
-both_empty : {A : Type 0} (xs ys : List A) → xs ++ ys ≡ [] → (xs ≡ []) × (ys ≡ [])
-both_empty [] ys e = (refl, e)
-both_empty (x ∷ xs) ys e = absurd (cc)
 
 -- that no code finds anything in clauses
 record Clean (params : List (List ℕ × Datum)) (columns : ColumnList) (cs : List Clause) : Type 0 where
@@ -105,16 +86,16 @@ sound_pattern params columns m cs clean =
     record {
       bounds = (both_empty (bounds_in_clause (clause.Match m)) (flat_map bounds_in_clause cs) clean.bounds).0;
       accepted =
-          none_or _ _ (ap (first_of refusal.Variable) (both_empty (unknown_in_match columns p) (over_clauses unknown_names past cs) clean.names).0)
-          (none_or _ _ (ap (first_of refusal.Kind) (both_empty (wrong_in_match columns p) (over_clauses wrong_kinds past cs) clean.kinds).0)
+          none_or _ _ (ap (refusal_of_first refusal.Variable) (both_empty (unknown_in_match columns p) (over_clauses unknown_names past cs) clean.names).0)
+          (none_or _ _ (ap (refusal_of_first refusal.Kind) (both_empty (wrong_in_match columns p) (over_clauses wrong_kinds past cs) clean.kinds).0)
           (none_or _ _ (not_joined refusal.GroupJoin (joined_group columns p) (both_empty (at_most_one (joined_group columns p)) (over_clauses joined_groups past cs) clean.groups).0)
           (none_or _ _ (not_joined refusal.CondJoin (joined_conditional columns p) (both_empty (at_most_one (joined_conditional columns p)) (over_clauses joined_conditionals past cs) clean.conditionals).0)
           (none_or _ _ (ap (refused_if refusal.EmptyLoop) (neither_holds (empty_loop p) (list_any (of_pattern empty_loop) cs) clean.loops).0)
           (none_or _ _ (ap (refused_if refusal.Unbounded) (neither_holds (unbounded p) (list_any (of_pattern unbounded) cs) clean.ends).0)
-          (none_or _ _ (ap (first_of refusal.GroupRef) (both_empty (group_references p) (flat_map open_references cs) clean.references).0)
+          (none_or _ _ (ap (refusal_of_first refusal.GroupRef) (both_empty (group_references p) (flat_map open_references cs) clean.references).0)
           (none_or _ _ (ap (refused_if refusal.Misuse) (neither_holds (misused_in_match columns p) (misused_over past cs) clean.misuses).0)
-          (none_or _ _ (ap (first_of (λ x. refusal.Column (column.Property x))) (unmapped column.Property (repeated_properties p) properties.0))
-          (ap (first_of refusal.Parameter) (both_empty (unset_parameters params p) (flat_map (unset_in_clause params) cs) clean.parameters).0)))))))));
+          (none_or _ _ (ap (refusal_of_first (λ x. refusal.Column (column.Property x))) (unmapped column.Property (repeated_properties p) properties.0))
+          (ap (refusal_of_first refusal.Parameter) (both_empty (unset_parameters params p) (flat_map (unset_in_clause params) cs) clean.parameters).0)))))))));
     }
 
 clean_is_sound : (params : List (List ℕ × Datum)) (columns : ColumnList) (cs : List Clause) → Clean params columns cs → MatchesAreSound params columns cs

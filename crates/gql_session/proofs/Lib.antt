@@ -1,6 +1,5 @@
 pub mod LengthLemmas
 pub mod ReadingLemmas
-pub mod DigitLemmas
 pub mod WordLemmas
 pub mod CommandLemmas
 pub mod ListingLemmas

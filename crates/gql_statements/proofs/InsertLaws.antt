@@ -15,8 +15,8 @@ use Rattle.gql_front.proofs.Chains.{Many}
 use Rattle.gql_front.proofs.LexemeTests.{sign_is}
 use Rattle.gql_front.proofs.TableLemmas.{begins_read, read_begins, sign_row}
 use Rattle.gql_parts.specs.Parts.{Passes, IsListOf}
-use Rattle.gql_statements.specs.ChangeGrammar.{opening_of, closing_of, IsInsertStep, AreInsertSteps, IsInsertPath}
-use Rattle.gql_statements.specs.ChangeWords.{arrow_signs, arrow_in}
+use Rattle.gql_statements.specs.ChangeGrammar.{opening_of, IsInsertStep, AreInsertSteps, IsInsertPath}
+use Rattle.gql_type.specs.TypeWords.{arrow_signs, arrow_sign, closing_of}
 use Rattle.gql_statements.specs.Machinery.ChangeReaders.{insert_node_of, bracketed_of, insert_edge_of, insert_step_of, insert_steps_of, insert_path_of, insert_paths_of}
 use Rattle.gql_parts.proofs.PartLaws.{Stops, bind_then, finish, passes_after, after_passes, passes_shorter, stops_op}
 use Rattle.gql_parts.proofs.ListLaws.{listed_sound, listed_exact, list_shorter}
@@ -25,16 +25,16 @@ use Rattle.gql_statements.proofs.FillLaws.{Between, between_sound, between_exact
 
 -- The symbol before an edge's brackets
 
-arrow_passes : (w : Arrow) (ts r : List Lexeme) → Begins arrow_in w ts r → Passes (is_sign (opening_of w)) ts r
+arrow_passes : (w : Arrow) (ts r : List Lexeme) → Begins arrow_sign w ts r → Passes (is_sign (opening_of w)) ts r
 arrow_passes w ts r h = (h.0, sign_row (λ t w. is_sign (opening_of w) t ≡ true) arrow_signs (refl, (refl, (refl, tt))) h.0 w h.1, h.2)
 
-arrow_says : (w : Arrow) → arrow_in (lex.Sign (opening_of w)) ≡ Some w
+arrow_says : (w : Arrow) → arrow_sign (lex.Sign (opening_of w)) ≡ Some w
 arrow_says arrow.Right = refl
 arrow_says arrow.Left = refl
 arrow_says arrow.Undirected = refl
 
-passes_arrow : (w : Arrow) (ts r : List Lexeme) → Passes (is_sign (opening_of w)) ts r → Begins arrow_in w ts r
-passes_arrow w ts r h = (h.0, ap arrow_in (sign_is (opening_of w) h.0 h.1) ∙ arrow_says w, h.2)
+passes_arrow : (w : Arrow) (ts r : List Lexeme) → Passes (is_sign (opening_of w)) ts r → Begins arrow_sign w ts r
+passes_arrow w ts r h = (h.0, ap arrow_sign (sign_is (opening_of w) h.0 h.1) ∙ arrow_says w, h.2)
 
 -- Edges
 
@@ -45,12 +45,12 @@ IsEdge e ts r =
 edge_sound : Sound IsEdge insert_edge_of
 unfolding insert_edge_of
 edge_sound ts x r e =
-    bind_then (op_at arrow_in ts) _ (x, r) e (λ w p e.
+    bind_then (op_at arrow_sign ts) _ (x, r) e (λ w p e.
     bind_then (bracketed_of w.1) _ (x, r) e (λ f q e.
     bind_then (after (is_sign (closing_of w.0)) f.1) _ (x, r) e (λ b k e.
     finish (λ x r. IsEdge x ts r) (w.0, f.0) b x r e (
       w.1,
-      arrow_passes w.0 ts w.1 (read_begins arrow_in ts w.0 w.1 p),
+      arrow_passes w.0 ts w.1 (read_begins arrow_sign ts w.0 w.1 p),
       f.1,
       between_sound opening_bracket closing_bracket w.1 f.0 f.1 q,
       after_passes (is_sign (closing_of w.0)) f.1 b k,
@@ -60,7 +60,7 @@ edge_exact : (x : Arrow × Fill) (ts s : List Lexeme) → IsEdge x ts s → inse
 unfolding insert_edge_of
 edge_exact x ts s h =
     rw (
-      begins_read arrow_in x.0 ts h.0 (passes_arrow x.0 ts h.0 h.1),
+      begins_read arrow_sign x.0 ts h.0 (passes_arrow x.0 ts h.0 h.1),
       between_exact opening_bracket closing_bracket refl x.1 h.0 h.2 h.3,
       passes_after (is_sign (closing_of x.0)) h.2 s h.4,
     ) refl
@@ -97,11 +97,11 @@ step_shorter s ts r h =
 
 -- a path may go on with these
 abbrev pub goes_path : Lexeme → Bool
-goes_path t = is_there (arrow_in t)
+goes_path t = is_there (arrow_sign t)
 
 no_edge : (ts : List Lexeme) → Stops goes_path ts → insert_edge_of ts ≡ None
 unfolding insert_edge_of
-no_edge ts stop = rw (stops_op arrow_in ts stop) refl
+no_edge ts stop = rw (stops_op arrow_sign ts stop) refl
 
 no_step : (ts : List Lexeme) → Stops goes_path ts → insert_step_of ts ≡ None
 unfolding insert_step_of

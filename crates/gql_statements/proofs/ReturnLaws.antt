@@ -17,7 +17,7 @@ use Rattle.gql_front.proofs.Found.{Sound}
 use Rattle.gql_front.proofs.TableLemmas.{begins_read, read_begins, begins_shorter, word_row}
 use Rattle.gql_exprs.specs.ExprWords.{quantifier_words, quantifier_op}
 use Rattle.gql_exprs.specs.Grammar.{IsQuantifier}
-use Rattle.gql_exprs.specs.Machinery.Readers.{quantifier_or_all, quantifier_of}
+use Rattle.gql_exprs.specs.Machinery.LeafReaders.{quantifier_or_all, quantifier_of}
 use Rattle.gql_exprs.proofs.ExprLists.{goes_or}
 use Rattle.gql_parts.specs.Parts.{Passes, IsOptional, IsListOf}
 use Rattle.gql_statements.specs.PartWords.{is_skip}

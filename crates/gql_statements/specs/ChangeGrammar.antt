@@ -22,7 +22,7 @@ use Rattle.gql_ast.specs.declared.change.RemoveItem.{RemoveItem}
 use Rattle.gql_ast.specs.declared.change.RemoveItem.TheVariants as remove_item
 use Rattle.gql_ast.specs.declared.change.SetItem.{SetItem}
 use Rattle.gql_ast.specs.declared.change.SetItem.TheVariants as set_item
-use Rattle.gql_lexer.specs.SymbolPlaces.{opening, closing, opening_bracket, closing_bracket, minus, tilde, left_arrow, right_arrow, ampersand, dot, equal}
+use Rattle.gql_lexer.specs.SymbolPlaces.{opening, closing, opening_bracket, closing_bracket, minus, tilde, left_arrow, ampersand, dot, equal}
 use Rattle.gql_lexer.specs.WordPlaces as word
 use Rattle.gql_front.specs.Tables.{Begins}
 use Rattle.gql_front.specs.Reading.{is_sign, is_word, name_in, any_name_in}
@@ -30,6 +30,7 @@ use Rattle.gql_parts.specs.Parts.{Passes, MayPass, IsOptional, IsListOf}
 use Rattle.gql_parts.specs.Values.{IsValue}
 use Rattle.gql_parts.specs.PartWords.{is_colon}
 use Rattle.gql_parts.specs.FillerGrammar.{IsMap}
+use Rattle.gql_type.specs.TypeWords.{closing_of}
 
 -- {"&" Any}*
 abbrev pub AreMoreLabels : List (List ℕ) → List Lexeme → List Lexeme → Type 0
@@ -56,16 +57,11 @@ IsFill f ts r =
 abbrev pub IsInsertNode : Fill → List Lexeme → List Lexeme → Type 0
 IsInsertNode f ts r = (a : List Lexeme) × Passes (is_sign opening) ts a × (b : List Lexeme) × IsFill f a b × Passes (is_sign closing) b r
 
--- the symbol before an edge's brackets, and the one behind them
+-- the symbol before an edge's brackets
 abbrev pub opening_of : Arrow → ℕ
 opening_of arrow.Right = minus
 opening_of arrow.Left = left_arrow
 opening_of arrow.Undirected = tilde
-
-abbrev pub closing_of : Arrow → ℕ
-closing_of arrow.Right = right_arrow
-closing_of arrow.Left = minus
-closing_of arrow.Undirected = tilde
 
 -- an edge, which is its fill in brackets between the two symbols of its arrow, and the node behind it
 abbrev pub IsInsertStep : InsertStep → List Lexeme → List Lexeme → Type 0

@@ -13,7 +13,6 @@ pub mod SessionGrammar
 pub mod TransactionGrammar
 pub mod CatalogGrammar
 pub mod StatementGrammar
-pub mod ChangeWords
 pub mod ClauseWords
 pub mod SessionWords
 pub mod TransactionWords

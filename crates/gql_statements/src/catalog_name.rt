@@ -1,8 +1,6 @@
 //! The name of a graph or graph type that is created or dropped, with IF NOT EXISTS or IF EXISTS before it.
 
-ghost use Rattle.std.specs.Prelude.{◌≡◌, ◌<◌, ◌≤◌, length, IfOk};
-ghost use Rattle.gql_front.specs.Gives.{Finds};
-ghost use Rattle.gql_front.specs.Reads.{Reads};
+ghost use Rattle.gql_front.specs.Reads.{Reads, AlwaysReads, GoesBehind};
 ghost use Rattle.gql_statements.specs.Machinery.CatalogReaders.{after_if_not_exists, if_not_exists_of, after_if_exists, if_exists_of, created_name_of, dropped_name_of};
 
 use gql_front::{NoFront, ParseResult, after_word, plain_name};
@@ -34,8 +32,7 @@ pub fn dropped_name<'a>(alloc: Global, rest: &'a [Lexeme]) -> ParseResult<'a, (b
 /// Whether IF NOT EXISTS stands at the front, and what is behind it, or all lexemes.
 #[tactic(auto, unfolding(crate::specs::Machinery::CatalogReaders::if_not_exists_of))]
 fn if_not_exists(rest: &[Lexeme]) -> (bool, &[Lexeme])
-    ensures given { (result.0, result.1.now) ≡ if_not_exists_of rest.now }
-    ensures shorter { length result.1.now ≤ length rest.now }
+    ensures { AlwaysReads result rest.now (if_not_exists_of rest.now) }
 {
     match after_if_not_exists(rest) {
         Ok(behind) => (true, behind),
@@ -45,8 +42,7 @@ fn if_not_exists(rest: &[Lexeme]) -> (bool, &[Lexeme])
 
 #[tactic(auto, unfolding(crate::specs::Machinery::CatalogReaders::after_if_not_exists))]
 fn after_if_not_exists(rest: &[Lexeme]) -> Result<&[Lexeme], NoFront>
-    ensures given { Finds (λ x. x.now) result (after_if_not_exists rest.now) }
-    ensures shorter { IfOk result (λ x. length x.now < length rest.now) }
+    ensures { GoesBehind result rest.now (after_if_not_exists rest.now) }
 {
     let rest = after_word(IF, rest)?;
     let rest = after_word(NOT, rest)?;
@@ -56,8 +52,7 @@ fn after_if_not_exists(rest: &[Lexeme]) -> Result<&[Lexeme], NoFront>
 /// Whether IF EXISTS stands at the front, and what is behind it, or all lexemes.
 #[tactic(auto, unfolding(crate::specs::Machinery::CatalogReaders::if_exists_of))]
 fn if_exists(rest: &[Lexeme]) -> (bool, &[Lexeme])
-    ensures given { (result.0, result.1.now) ≡ if_exists_of rest.now }
-    ensures shorter { length result.1.now ≤ length rest.now }
+    ensures { AlwaysReads result rest.now (if_exists_of rest.now) }
 {
     match after_if_exists(rest) {
         Ok(behind) => (true, behind),
@@ -67,8 +62,7 @@ fn if_exists(rest: &[Lexeme]) -> (bool, &[Lexeme])
 
 #[tactic(auto, unfolding(crate::specs::Machinery::CatalogReaders::after_if_exists))]
 fn after_if_exists(rest: &[Lexeme]) -> Result<&[Lexeme], NoFront>
-    ensures given { Finds (λ x. x.now) result (after_if_exists rest.now) }
-    ensures shorter { IfOk result (λ x. length x.now < length rest.now) }
+    ensures { GoesBehind result rest.now (after_if_exists rest.now) }
 {
     let rest = after_word(IF, rest)?;
     after_word(EXISTS, rest)

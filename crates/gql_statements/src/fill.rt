@@ -1,7 +1,6 @@
 //! What stands between the brackets of an element to be inserted.
 
-ghost use Rattle.std.specs.Prelude.{◌≡◌, ◌<◌, ◌≤◌, length, IfOk};
-ghost use Rattle.gql_front.specs.Reads.{MayRead, TakesAs};
+ghost use Rattle.gql_front.specs.Reads.{MayRead, TakesAs, AlwaysReadsInMemory};
 ghost use Rattle.gql_statements.specs.Machinery.ChangeReaders.{other_label_of, labels_from, fill_labels_of, fill_map_of, fill_of};
 
 use gql_ast::{Fill, Map};
@@ -76,8 +75,7 @@ fn labels_from<'a>(
     first: &Text,
     start: &'a [Lexeme],
 ) -> Result<(Names, &'a [Lexeme]), OutOfMemory>
-    ensures given { IfOk result (λ x. (x.0, x.1.now) ≡ labels_from first.now start.now) }
-    ensures shorter { IfOk result (λ x. length x.1.now ≤ length start.now) }
+    ensures { AlwaysReadsInMemory result start.now (labels_from first.now start.now) }
 {
     let mut labels = Sequence::new(alloc);
     let copy = first.try_copy(alloc)?;

@@ -1,8 +1,7 @@
 //! The words that announce a graph.
 
-ghost use Rattle.std.specs.Prelude.{◌≡◌, ◌<◌, ◌≤◌, length, IfOk};
-ghost use Rattle.gql_front.specs.Gives.{Finds};
 ghost use Rattle.gql_statements.specs.Machinery.GraphReaders.{after_graph, past_graph};
+ghost use Rattle.gql_front.specs.Reads.{GoesBehind, LeftBehind};
 
 use crate::past_word::past_word;
 use gql_front::{NoFront, after_word};
@@ -12,8 +11,7 @@ use gql_lexer::words::{GRAPH, PROPERTY};
 /// What is behind GRAPH, or behind PROPERTY GRAPH.
 #[tactic(auto, unfolding(crate::specs::Machinery::GraphReaders::after_graph))]
 pub fn after_graph(rest: &[Lexeme]) -> Result<&[Lexeme], NoFront>
-    ensures given { Finds (λ x. x.now) result (after_graph rest.now) }
-    ensures shorter { IfOk result (λ x. length x.now < length rest.now) }
+    ensures { GoesBehind result rest.now (after_graph rest.now) }
 {
     after_word(GRAPH, past_word(PROPERTY, rest))
 }
@@ -21,8 +19,7 @@ pub fn after_graph(rest: &[Lexeme]) -> Result<&[Lexeme], NoFront>
 /// The same, or all lexemes. A PROPERTY that no GRAPH follows is left.
 #[tactic(auto, unfolding(crate::specs::Machinery::GraphReaders::past_graph))]
 pub fn past_graph(rest: &[Lexeme]) -> &[Lexeme]
-    ensures given { result.now ≡ past_graph rest.now }
-    ensures shorter { length result.now ≤ length rest.now }
+    ensures { LeftBehind result rest.now (past_graph rest.now) }
 {
     match after_graph(rest) {
         Ok(behind) => behind,

@@ -1,21 +1,17 @@
 //! INSERT and its paths: nodes, and edges with their symbols between them.
 
 ghost use Rattle.std.specs.Prelude.{◌≡◌, ◌<◌, ◌≤◌, length, IfOk};
-ghost use Rattle.gql_front.specs.Reads.{Reads, Takes};
-ghost use Rattle.gql_front.specs.Reading.{op_at};
-ghost use Rattle.gql_statements.specs.ChangeGrammar.{closing_of};
-ghost use Rattle.gql_statements.specs.ChangeWords.{arrow_in};
+ghost use Rattle.gql_front.specs.Reads.{Reads};
 ghost use Rattle.gql_statements.specs.Machinery.ChangeReaders.{between_of, insert_edge_of, insert_paths_of};
 
 use crate::clause::Clauses;
 use crate::fill::fill;
 use gql_ast::{Arrow, Fill, InsertPath, InsertStep};
-use gql_front::{NoFront, ParseResult, after_sign};
+use gql_front::{ParseResult, after_sign};
 use gql_lexer::Lexeme;
-use gql_lexer::symbols::{
-    CLOSING, CLOSING_BRACKET, LEFT_ARROW, MINUS, OPENING, OPENING_BRACKET, RIGHT_ARROW, TILDE,
-};
+use gql_lexer::symbols::{CLOSING, CLOSING_BRACKET, OPENING, OPENING_BRACKET};
 use gql_parts::{Item, list, many};
+use gql_type::{arrow_at, closing_of};
 use gql_values3::Sequence;
 use std::alloc::Global;
 
@@ -64,29 +60,6 @@ fn insert_edge<'a>(alloc: Global, rest: &'a [Lexeme]) -> ParseResult<'a, (Arrow,
     let (edge, rest) = between(alloc, OPENING_BRACKET, CLOSING_BRACKET, rest)?;
     let rest = after_sign(closing_of(arrow), rest)?;
     Ok(((arrow, edge), rest))
-}
-
-/// The direction, by the symbol before the brackets.
-fn arrow_at(rest: &[Lexeme]) -> Result<(Arrow, &[Lexeme]), NoFront>
-    ensures { Takes result rest.now (op_at arrow_in) }
-{
-    match rest {
-        [Lexeme::Sign(MINUS), rest @ ..] => Ok((Arrow::Right, rest)),
-        [Lexeme::Sign(LEFT_ARROW), rest @ ..] => Ok((Arrow::Left, rest)),
-        [Lexeme::Sign(TILDE), rest @ ..] => Ok((Arrow::Undirected, rest)),
-        _ => Err(NoFront),
-    }
-}
-
-/// The symbol behind the brackets.
-fn closing_of(arrow: Arrow) -> u32
-    ensures { result ≡ closing_of arrow }
-{
-    match arrow {
-        Arrow::Right => RIGHT_ARROW,
-        Arrow::Left => MINUS,
-        Arrow::Undirected => TILDE,
-    }
 }
 
 /// What stands between two symbols.

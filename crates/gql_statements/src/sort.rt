@@ -1,8 +1,7 @@
 //! ORDER BY: sort keys with their directions, and where nulls stand.
 
-ghost use Rattle.std.specs.Prelude.{◌≡◌, ◌<◌, ◌≤◌, length, IfOk};
-ghost use Rattle.gql_front.specs.Gives.{Finds};
-ghost use Rattle.gql_front.specs.Reads.{Takes};
+ghost use Rattle.std.specs.Prelude.{◌≡◌, ◌≤◌, length};
+ghost use Rattle.gql_front.specs.Reads.{Takes, AlwaysReads};
 ghost use Rattle.gql_front.specs.Reading.{op_at, is_word};
 ghost use Rattle.gql_lexer.specs.WordPlaces.{NULLS as nulls_word};
 ghost use Rattle.gql_statements.specs.PartWords.{direction_word, null_word};
@@ -54,8 +53,7 @@ impl Item<Clauses> for SortItems {
 /// The direction at the front; no word means ascending.
 #[tactic(auto, unfolding(crate::specs::Machinery::PageReaders::direction_of))]
 fn direction_of(rest: &[Lexeme]) -> (SortDirection, &[Lexeme])
-    ensures given { (result.0, result.1.now) ≡ direction_of rest.now }
-    ensures shorter { length result.1.now ≤ length rest.now }
+    ensures { AlwaysReads result rest.now (direction_of rest.now) }
 {
     match direction_at(rest) {
         Ok(found) => found,

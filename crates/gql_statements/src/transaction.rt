@@ -1,8 +1,6 @@
 //! Statements about transactions.
 
-ghost use Rattle.std.specs.Prelude.{◌≡◌, ◌<◌, ◌≤◌, length, IfOk};
-ghost use Rattle.gql_front.specs.Gives.{Finds};
-ghost use Rattle.gql_front.specs.Reads.{Takes};
+ghost use Rattle.gql_front.specs.Reads.{Takes, AlwaysReads};
 ghost use Rattle.gql_front.specs.Reading.{op_at};
 ghost use Rattle.gql_statements.specs.TransactionWords.{access_word};
 ghost use Rattle.gql_statements.specs.Machinery.TransactionReaders.{stated_access_of, access_of, start_of};
@@ -25,8 +23,7 @@ pub fn start(rest: &[Lexeme]) -> Result<(TransactionStatement, &[Lexeme]), NoFro
 /// What a transaction may do; no word means READ WRITE. A READ that neither word follows is left.
 #[tactic(auto, unfolding(crate::specs::Machinery::TransactionReaders::access_of))]
 fn access(rest: &[Lexeme]) -> (AccessMode, &[Lexeme])
-    ensures given { (result.0, result.1.now) ≡ access_of rest.now }
-    ensures shorter { length result.1.now ≤ length rest.now }
+    ensures { AlwaysReads result rest.now (access_of rest.now) }
 {
     match stated_access(rest) {
         Ok(found) => found,

@@ -1,15 +1,13 @@
 -- FOR, item by item.
-use Rattle.std.proofs.Common.{◌≡◌, ℕ, suc, List, [], ◌∷◌, ◌++◌, map, refl, ap, ◌∙◌, append-nil, Some, None, Result, Ok}
+use Rattle.std.proofs.Common.{◌≡◌, ℕ, suc, List, [], ◌∷◌, ◌++◌, map, refl, ap, ◌∙◌, Some, None, Result, Ok}
 use Rattle.gql_values3.specs.Datum.{Datum, data_of, items_of}
 use Rattle.gql_ast.specs.declared.fault.DataFault.{DataFault}
 use Rattle.gql_ast.specs.declared.clause.Counting.{Counting}
 use Rattle.gql_ast.specs.Operators.{counted}
-use Rattle.gql_eval.specs.Gives.{Fails}
 use Rattle.gql_eval.specs.Machinery.Next.{next}
-use Rattle.gql_eval.specs.declared.error.EvalError.{EvalError}
 use Rattle.gql_eval.specs.RowLists.{RowList}
 use Rattle.gql_table.specs.For.{item_rows}
-use Rattle.gql_eval.proofs.EachSteps.{fails_first, each_cons}
+use Rattle.gql_eval.proofs.EachSteps.{each_cons}
 
 pub items_back : (ds : List Datum) → items_of (data_of ds) ≡ ds
 items_back [] = refl
@@ -26,10 +24,3 @@ module _ (c : Counting × List ℕ) (row : List Datum) where
       ap (λ (l : List Datum). next (item_rows (Some c) n row l) (λ rows. Ok (done ++ rows))) p
       ∙ ap (λ (r : Result Datum DataFault). next (next r (λ j. next (item_rows (Some c) (suc n) row rest) (λ rows. Ok ((row ++ d ∷ j ∷ []) ∷ rows)))) (λ rows. Ok (done ++ rows))) q
       ∙ each_cons (λ (x : List Datum). Ok x) (item_rows (Some c) (suc n) row rest) done (row ++ d ∷ k ∷ [])
-
-  pub counted_fails : (n : ℕ) (ds rest : List Datum) (d : Datum) (e : EvalError) (then : RowList → Result RowList DataFault) → ds ≡ d ∷ rest → Fails e (counted n)
-      → Fails e (next (item_rows (Some c) n row ds) then)
-  counted_fails n ds rest d e then p q = rw p (fails_first e _ then (fails_first e (counted n) _ q))
-
-  pub counted_end : (n : ℕ) (ds : List Datum) (done : RowList) → ds ≡ [] → next (item_rows (Some c) n row ds) (λ rows. Ok (done ++ rows)) ≡ Ok done
-  counted_end n ds done p = ap (λ (l : List Datum). next (item_rows (Some c) n row l) (λ rows. Ok (done ++ rows))) p ∙ ap Ok (append-nil done)

@@ -16,7 +16,7 @@ use Rattle.gql_eval.specs.declared.error.EvalError.TheVariants as error
 use Rattle.gql_table.specs.Sorting.{first_key, later_keys}
 use Rattle.gql_table.specs.Grouping.{results}
 use Rattle.gql_table.specs.Machinery.Preparations.{prepared_value}
-use Rattle.gql_table.specs.Machinery.GroupPlan.{PreparedPlan, Kept, names_from, note_in, kept_behind, values_in_group}
+use Rattle.gql_table.specs.Machinery.GroupPlan.{PreparedPlan, names_from, note_in, kept_behind, values_in_group}
 use Rattle.gql_eval.proofs.EachSteps.{fails_first, each_cons}
 use Rattle.gql_table.proofs.KeyLemmas.{later_drop}
 
@@ -41,11 +41,6 @@ joined_by (Ok ds) before after p = (ds, refl, inside p)
     inside : {x y : List Datum} → ◌≡◌ {A = Result (List Datum) DataFault} (Ok x) (Ok y) → x ≡ y
     inside q = cc
 
-fails_joined : {B : Type 0} (e : EvalError) (r : Result (List Datum) DataFault) (before : List Datum) (then : List Datum → Result B DataFault) → Fails e (next r (λ ds. Ok (before ++ ds))) → Fails e (next r then)
-fails_joined error.OutOfMemory r before then p = tt
-fails_joined (error.Fault f) (Ok ds) before then p = absurd (cc)
-fails_joined (error.Fault f) (Err x) before then p = let same : x ≡ f = cc in ap Err same
-
 module _ (g : PropertyGraph) (row : List Datum) where
   -- a key more is kept
   pub key_step : (keys after arguments : List Datum) (left more : List PreparedPlan) (p : PreparedPlan) → left ≡ p ∷ more → has_none p.aggregates ≡ true
@@ -66,11 +61,6 @@ module _ (g : PropertyGraph) (row : List Datum) where
       ∙ ap (λ b. next (note_in g p row) (λ note. kept_behind g (cond b (keys ++ note, before) (keys, before ++ note)) more row)) k
       ∙ ap (λ (r : Result (List Datum) DataFault). next r (λ note. kept_behind g (keys, before ++ note) more row)) by.1
       ∙ ap (λ ds. kept_behind g (keys, ds) more row) by.2
-
-  -- an item whose key or arguments fail
-  pub note_fails : (kept : Kept) (before : List Datum) (left more : List PreparedPlan) (p : PreparedPlan) (e : EvalError) → left ≡ p ∷ more
-      → Fails e (next (note_in g p row) (λ ds. Ok (before ++ ds))) → Fails e (kept_behind g kept left row)
-  note_fails kept before left more p e q given = rw q (fails_joined e (note_in g p row) before _ given)
 
 module _ (g : PropertyGraph) (keys done : List Datum) where
   -- the value of a key more

@@ -106,15 +106,3 @@ keys_step items i item xs ys h here tie =
     let rest = drop (i + 1) items in
     sym (ap (λ (is : List SortItem). keys_cmp is (drop i xs) (drop i ys)) left ∙ ap (λ (o : Ordering). ordering_then o (keys_cmp rest (later_keys (drop i xs)) (later_keys (drop i ys)))) tie
     ∙ rw (later_drop i xs, later_drop i ys, add-one) refl)
-
--- one that does decides
-pub keys_told : (items : List SortItem) (i : ℕ) (item : SortItem) (xs ys : List Datum) → i < length items → item ≡ get_or items i item
-    → (key_cmp item (first_key (drop i xs)) (first_key (drop i ys)) ≡ Equal → ⊥)
-    → keys_cmp (drop i items) (drop i xs) (drop i ys) ≡ key_cmp item (first_key (drop i xs)) (first_key (drop i ys))
-keys_told items i item xs ys h here other =
-    ap (λ (is : List SortItem). keys_cmp is (drop i xs) (drop i ys)) (drop_here items i item h here) ∙ told _ _ other
-  where
-    told : (o next : Ordering) → (o ≡ Equal → ⊥) → ordering_then o next ≡ o
-    told Less next n = refl
-    told Equal next n = absurd (n refl)
-    told Greater next n = refl

@@ -1,16 +1,9 @@
 -- LET, item by item.
-use Rattle.std.proofs.Common.{◌≡◌, ℕ, ◌+◌, ◌≤◌, List, [], ◌∷◌, ◌++◌, length, take, refl, sym, ap, ◌∙◌, arith, length-append, length-take, append-nil, append_assoc, Result, Ok}
-use Rattle.gql_values3.specs.Datum.{Datum}
-use Rattle.gql_values3.specs.PropertyGraph.{PropertyGraph}
-use Rattle.gql_ast.specs.declared.fault.DataFault.{DataFault}
+use Rattle.std.proofs.Common.{◌≡◌, ℕ, ◌+◌, ◌≤◌, List, [], ◌∷◌, ◌++◌, length, take, refl, sym, ap, ◌∙◌, arith, length-append, length-take, append-nil, append_assoc}
 use Rattle.gql_ast.specs.declared.clause.LetItem.{LetItem}
 use Rattle.gql_ast.specs.Meaning.{tree_of}
-use Rattle.gql_ast.specs.Scope.{row_scope}
 use Rattle.gql_ast.specs.Outputs.{kind_of}
-use Rattle.gql_ast.specs.Evaluation.{value_of}
-use Rattle.gql_eval.specs.Machinery.Next.{next}
 use Rattle.gql_ast.specs.ClauseColumns.{ColumnList, let_columns}
-use Rattle.gql_table.specs.Let.{let_row}
 
 -- the columns with that of one item
 abbrev pub grown : ColumnList → LetItem → ColumnList
@@ -42,9 +35,3 @@ let_next all k i left is h p q =
     let whole : let_columns (grown (take k all) i) is ≡ all = sym (ap (let_columns (take k all)) p) ∙ q in
     let long : length (grown (take k all) i) ≡ k + 1 = omega (arith, length-append (take k all) ((i.name, kind_of (take k all) (tree_of i.value)) ∷ []), length-take k all) in
     ap (λ n. take n all) (sym long) ∙ ap (take (length (grown (take k all) i))) (sym whole) ∙ let_before (grown (take k all) i) is
-
-module _ (g : PropertyGraph) (params : List (List ℕ × Datum)) where
-  pub let_row_step : (columns : ColumnList) (i : LetItem) (left is : List LetItem) (row : List Datum) (d : Datum) → left ≡ i ∷ is
-      → value_of g params (row_scope columns row) (tree_of i.value) ≡ Ok d → let_row g params columns left row ≡ let_row g params (grown columns i) is (row ++ d ∷ [])
-  let_row_step columns i left is row d p q =
-      ap (λ (l : List LetItem). let_row g params columns l row) p ∙ ap (λ (r : Result Datum DataFault). next r (λ x. let_row g params (grown columns i) is (row ++ x ∷ []))) q

@@ -7,7 +7,6 @@ ghost use Rattle.gql_table.specs.Clauses.{table_after, page_rows};
 ghost use Rattle.gql_eval.specs.RowLists.{rows_fit};
 ghost use Rattle.gql_table.specs.Fitting.{names_serve};
 
-use crate::columns::copy_columns;
 use crate::filter::filter_table;
 use crate::for_clause::{columns_after_for, for_table};
 use crate::let_clause::{columns_after_let, let_table};
@@ -15,7 +14,7 @@ use crate::ordering::{Paging, page_table};
 use crate::projection::return_table;
 use crate::return_columns::columns_after_return;
 use gql_ast::{Clause, Expr, For, LetItems, Page, Return};
-use gql_eval::EvalError;
+use gql_eval::{EvalError, copied_columns};
 use gql_values3::{Columns, Params, Rows, View};
 use std::alloc::Global;
 
@@ -54,7 +53,10 @@ fn apply_clause<V: View>(
         Clause::For(clause) => apply_for(alloc, view, columns, rows, params, clause),
         Clause::Page(page) => apply_page(alloc, view, columns, rows, params, page),
         Clause::Return(clause) => apply_return(alloc, view, columns, rows, params, clause),
-        Clause::Match(_) | Clause::Change(_) => Ok((copy_columns(alloc, columns)?, rows)),
+        Clause::Match(_) | Clause::Change(_) => Ok((
+            copied_columns(alloc, columns.as_slice())?,
+            rows,
+        )),
     }
 }
 
@@ -83,7 +85,7 @@ fn apply_filter<V: View>(
     ensures { Gives (λ t. (t.0, t.1)) result (table_after (V.graph view.now) params.now columns.now (Filter condition.now) rows) }
 {
     let done = filter_table(alloc, view, columns, rows, params, condition)?;
-    Ok((copy_columns(alloc, columns)?, done))
+    Ok((copied_columns(alloc, columns.as_slice())?, done))
 }
 
 fn apply_for<V: View>(
@@ -111,7 +113,7 @@ fn apply_page<V: View>(
     ensures { Gives (λ t. (t.0, t.1)) result (table_after (V.graph view.now) params.now columns.now (page_clause page.now) rows) }
 {
     let done = paged_table(alloc, view, columns, rows, params, page)?;
-    Ok((copy_columns(alloc, columns)?, done))
+    Ok((copied_columns(alloc, columns.as_slice())?, done))
 }
 
 fn apply_return<V: View>(

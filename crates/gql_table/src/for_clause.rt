@@ -10,11 +10,11 @@ ghost use Rattle.gql_table.specs.For.{first_count, for_rows, item_rows, rows_ove
 ghost use Rattle.gql_table.specs.Machinery.Preparations.{prepared_value};
 ghost use Rattle.gql_ast.specs.ClauseColumns.{for_columns};
 
-use crate::columns::{copy_columns, expr_kind};
+use crate::columns::expr_kind;
 use crate::prepared::{prepare, prepared_cell};
 use crate::room::{copy_with_room, empty_rows};
 use gql_ast::{Counting, DataFault, For};
-use gql_eval::{EvalError, Prepared, count_value};
+use gql_eval::{EvalError, Prepared, copied_columns, count_value};
 use gql_values3::{ColumnKind, Columns, List, OutOfMemory, Params, Row, Rows, Text, Value, View};
 use std::alloc::Global;
 
@@ -27,7 +27,7 @@ pub fn columns_after_for(
     ensures { IfOk result (λ all. all ≡ for_columns columns.now clause.now) }
 {
     let kind = item_kind(expr_kind(columns.as_slice(), &clause.list));
-    let mut all = copy_columns(alloc, columns)?;
+    let mut all = copied_columns(alloc, columns.as_slice())?;
     all.push((clause.name.try_copy(alloc)?, kind))?;
     if let Some((_, name)) = &clause.counter {
         all.push((name.try_copy(alloc)?, ColumnKind::Plain))?;

@@ -7,11 +7,11 @@ ghost use Rattle.gql_table.specs.Machinery.Preparations.{prepared_lets, row_with
 ghost use Rattle.gql_ast.specs.ClauseColumns.{let_columns};
 ghost use Rattle.gql_eval.specs.Gives.{Gives};
 
-use crate::columns::{copy_columns, expr_kind};
+use crate::columns::expr_kind;
 use crate::prepared::{prepare, prepared_cell};
 use crate::room::with_room;
 use gql_ast::LetItem;
-use gql_eval::{EvalError, Prepared};
+use gql_eval::{EvalError, Prepared, copied_columns};
 use gql_values3::{ColumnKind, Columns, OutOfMemory, Params, Row, Rows, Text, View};
 use std::alloc::Global;
 use std::mem;
@@ -24,7 +24,7 @@ pub fn columns_after_let(
 ) -> Result<Columns, OutOfMemory>
     ensures { IfOk result (λ all. all ≡ let_columns columns.now items.now) }
 {
-    let mut all = copy_columns(alloc, columns)?;
+    let mut all = copied_columns(alloc, columns.as_slice())?;
     for i in 0..items.len() {
         let item = &items[i];
         let kind = expr_kind(all.as_slice(), &item.value);

@@ -39,5 +39,3 @@ mod sorting;
 mod sums;
 
 pub use clauses::apply;
-pub use columns::copy_columns;
-pub use filter::filter_table;

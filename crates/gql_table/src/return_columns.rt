@@ -5,8 +5,9 @@ ghost use Rattle.gql_ast.specs.Meaning.{tree_of};
 ghost use Rattle.gql_ast.specs.Outputs.{item_column, item_name, text_name};
 ghost use Rattle.gql_ast.specs.Projections.{output_columns};
 
-use crate::columns::{copy_columns, expr_kind};
+use crate::columns::expr_kind;
 use gql_ast::{Expr, ReturnItem, ReturnItems, expr_text};
+use gql_eval::copied_columns;
 use gql_values3::{ColumnKind, Columns, OutOfMemory, Text};
 use std::alloc::Global;
 
@@ -19,7 +20,7 @@ pub fn columns_after_return(
     ensures { IfOk result (λ all. all ≡ output_columns columns.now items.now) }
 {
     match items {
-        ReturnItems::All => copy_columns(alloc, columns),
+        ReturnItems::All => copied_columns(alloc, columns.as_slice()),
         ReturnItems::Listed(items) => listed_columns(alloc, columns, items.as_slice()),
     }
 }
@@ -48,7 +49,7 @@ pub fn listed_and_incoming(
     ensures { IfOk result (λ all. all ≡ map (item_column columns.now) items.now ++ columns.now) }
 {
     let mut all = listed_columns(alloc, columns, items)?;
-    all.extend(copy_columns(alloc, columns)?)?;
+    all.extend(copied_columns(alloc, columns.as_slice())?)?;
     Ok(all)
 }
 

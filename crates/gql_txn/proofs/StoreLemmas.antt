@@ -14,7 +14,7 @@ use Rattle.gql_rowcode.specs.Records.{Form, record_of}
 use Rattle.gql_rowcode.specs.StandFor.{catalog_forms, AreRecordsOf, StandFor}
 use Rattle.gql_rowcode.proofs.OrderingLists.{all_weaker}
 use Rattle.gql_rowcode.proofs.ReadLemmas.{stand_for_one}
-use Rattle.gql_txn.specs.Keeps.{Keeps, IsSameStore}
+use Rattle.gql_txn.specs.Keeps.{Keeps}
 use Rattle.gql_txn.specs.Machinery.Changes.{is_value, has_record, has_key, puts_of, gone_of, drops_of}
 use Rattle.gql_txn.specs.Machinery.Storing.{AppliesInOrder, Leads}
 use Rattle.gql_txn.proofs.ValueLemmas.{same_itself, rest_ascends, value_first, value_behind, same_records, one_list, contained_value}
@@ -102,13 +102,6 @@ no_drops xs up =
 
 -- ---- what a store tells before and after
 
--- with what is known of it afterwards
-pub told_both : {A : Type 0} (P : A → A → Type 0) (Q : A → Type 0) (a b : Option A) → MatchTold a b P → IfSome b Q → MatchTold a b (λ x y. P x y × Q y)
-told_both P Q None None p q = tt
-told_both P Q None (Some y) p q = p
-told_both P Q (Some x) None p q = p
-told_both P Q (Some x) (Some y) p q = (p, q)
-
 pub told_weaker : {A : Type 0} (P R : A → A → Type 0) (a b : Option A) → ((x y : A) → a ≡ Some x → P x y → R x y) → MatchTold a b P → MatchTold a b R
 told_weaker P R None None weaker p = tt
 told_weaker P R None (Some y) weaker p = p
@@ -123,10 +116,6 @@ told_itself R (Some x) all = all x
 pub told_as : {E : Type 0} (r : Result (Unit {0}) E) (a b : Option Holding) (ps qs : List Record) (ks ls : List (List ℕ)) → ps ≡ qs → ks ≡ ls → OnOk r (MatchTold a b (AppliesInOrder ps ks)) → OnOk r (MatchTold a b (AppliesInOrder qs ls))
 told_as r a b ps qs ks ls p q told =
     subst (λ (xs : List Record). OnOk r (MatchTold a b (AppliesInOrder xs ls))) p (subst (λ (ys : List (List ℕ)). OnOk r (MatchTold a b (AppliesInOrder ps ys))) q told)
-
--- a store of which nothing changed is the same one
-pub same_store : (a b : Option Holding) → b ≡ a → IsSameStore a b
-same_store a b e = subst (IsSameStore a) (sym e) (told_itself (λ (x y : Holding). y.name ≡ x.name) a (λ x. refl))
 
 -- a store that tells that it has no records
 pub told_empty : (a : Option Holding) (n : ℕ) (h : Holding) → IfSome a (λ (k : Holding). n ≡ length k.records) → n ≡ 0 → a ≡ Some h → h.records ≡ []

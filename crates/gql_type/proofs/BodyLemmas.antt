@@ -19,13 +19,14 @@ use Rattle.gql_ast.specs.declared.graph_type.ElementBody.{ElementBody}
 use Rattle.gql_ast.specs.declared.graph_type.TypeElement.{TypeElement}
 use Rattle.gql_ast.specs.declared.graph_type.TypeElement.TheVariants as element
 use Rattle.gql_ast.specs.declared.graph_type.TypeBody.{TypeBody}
+use Rattle.gql_graph.specs.Catalog.{is_before}
 use Rattle.gql_graph.specs.declared.graph_type.PropType.{PropType}
 use Rattle.gql_eval.specs.StableSort.{inserted_in_order, stably_sorted}
 use Rattle.gql_eval.proofs.StableSort.{Ascends, sorted_ascends, sorted_all}
 use Rattle.gql_type.specs.GraphTypes.{is_content_type, is_node_type, is_edge_type, is_graph_type}
 use Rattle.gql_type.specs.Conformance.{contains_name}
 use Rattle.gql_type.specs.BodyFaults.{repeated, alias_in, aliases_in, unknown, aliases_at_fault, wrong_aliases, names_given, repeated_names}
-use Rattle.gql_type.specs.BodyMeaning.{is_before, labels_meant, property_type, name_before, properties_meant, node_type, node_types, place_of, edge_type, edge_types, graph_type_of}
+use Rattle.gql_type.specs.BodyMeaning.{labels_meant, property_type, name_before, properties_meant, node_type, node_types, place_of, edge_type, edge_types, graph_type_of}
 use Rattle.gql_type.proofs.SetLemmas.{text_cmp, first_above, rest_above, turned, tied}
 use Rattle.gql_type.proofs.MatchingLemmas.{names_of}
 

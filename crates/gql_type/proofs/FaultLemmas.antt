@@ -92,11 +92,6 @@ pub or_false : (b : Bool) → (b || false) ≡ b
 or_false true = refl
 or_false false = refl
 
--- the first of two lists
-pub stops_there : (xs ys : List (List ℕ)) (x : List ℕ) → Some x ≡ first_name xs → Some x ≡ first_name (xs ++ ys)
-stops_there [] ys x h = absurd (cc)
-stops_there (y ∷ xs) ys x h = h
-
 pub goes_on : (xs ys : List (List ℕ)) → None ≡ first_name xs → first_name (xs ++ ys) ≡ first_name ys
 goes_on [] ys h = refl
 goes_on (y ∷ xs) ys h = absurd (cc)

@@ -65,9 +65,6 @@ met true true a b = refl
 met true false a b = refl
 met false n a b = refl
 
-met_or : (k m : Bool) → m ≡ false → k ≡ (k || m)
-met_or k m h = sym (or_none k m h)
-
 walk_case : (o : Ordering) (t : PropType) (ts : List PropType) (p : List ℕ × Datum) (ps : PropertyList) → text_cmp t.name p.0 ≡ o
     → ascend_above t.name (names_of ts) ≡ true → ascend_above p.0 (names_in ps) ≡ true
     → are_matched ts ps ≡ Fits ts ps → are_matched ts (p ∷ ps) ≡ Fits ts (p ∷ ps)

@@ -77,9 +77,6 @@ pub head_apart : (a : List ℕ) (ks js : List (List ℕ)) → ascend_above a js 
 head_apart a ks [] h = refl
 head_apart a ks (j ∷ js) h = λ i. (apart_turned a j (first_above a j js h) i || contains_name ks j) && head_apart a ks js (above_rest a j js h) i
 
-same_heads : (a b p q : Bool) → a ≡ true → b ≡ true → ((a || p) && q) ≡ q
-same_heads a b p q e f = ap (λ (c : Bool). (c || p) && q) e
-
 set_case : (o : Ordering) (x y : List ℕ) (xs ys : List (List ℕ)) → text_cmp x y ≡ o → ascend_above x xs ≡ true → ascend_above y ys ≡ true
     → same_names xs ys ≡ same_set xs ys → same_names (x ∷ xs) (y ∷ ys) ≡ same_set (x ∷ xs) (y ∷ ys)
 set_case Less x y xs ys p h k more =

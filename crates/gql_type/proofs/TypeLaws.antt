@@ -56,10 +56,6 @@ required_shorter : (q : Bool) (ts r : List Lexeme) → IsRequired q ts r → len
 required_shorter false ts r h = omega (arith, ap length h)
 required_shorter true ts r h = omega (arith, passes_shorter (is_word word.NOT) ts h.0 h.1, passes_shorter (is_word word.NULL) h.0 r h.2)
 
-required_stops : (g : Lexeme → Bool) → ((x : List ℕ) → g (lex.Word word.NOT x) ≡ false) → (q : Bool) (m s : List Lexeme) → IsRequired q m s → Stops g s → Stops g m
-required_stops g none false m s h stop = subst (λ z. Stops g z) (sym h) stop
-required_stops g none true m s h stop = passes_stops (is_word word.NOT) g (word_apart word.NOT g none) m h.0 h.1
-
 -- Kinds
 
 list_kind_sound : (ts : List Lexeme) (k : PropKind) (r : List Lexeme) → list_kind_of ts ≡ Some (k, r) → IsKind k ts r

@@ -1,8 +1,6 @@
 -- The graph type that a text means: its node types and its edge types, each in the order of the text.
 use Rattle.std.specs.Prelude.{ℕ, suc, Bool, true, false, List, [], ◌∷◌, map, Option, Some, None, if◌then◌else◌}
 use Rattle.std.specs.List.{dedup}
-use Rattle.std.specs.Ordering.{is_lt, nat_cmp}
-use Rattle.std.specs.Cmp.Lexicographic.{slice_cmp}
 use Rattle.gql_values3.specs.Texts.{same_text}
 use Rattle.gql_ast.specs.declared.change.Arrow.{Arrow}
 use Rattle.gql_ast.specs.declared.change.Arrow.TheVariants as arrow
@@ -12,14 +10,11 @@ use Rattle.gql_ast.specs.declared.graph_type.TypeElement.{TypeElement}
 use Rattle.gql_ast.specs.declared.graph_type.TypeElement.TheVariants as element
 use Rattle.gql_ast.specs.declared.graph_type.TypeBody.{TypeBody}
 use Rattle.gql_eval.specs.StableSort.{stably_sorted}
+use Rattle.gql_graph.specs.Catalog.{is_before}
 use Rattle.gql_graph.specs.declared.graph_type.PropType.{PropType}
 use Rattle.gql_graph.specs.declared.graph_type.NodeType.{NodeType}
 use Rattle.gql_graph.specs.declared.graph_type.EdgeType.{EdgeType}
 use Rattle.gql_graph.specs.declared.graph_type.GraphType.{GraphType}
-
--- by bytes; a beginning is less
-abbrev pub is_before : List ℕ → List ℕ → Bool
-is_before a b = is_lt (slice_cmp nat_cmp a b)
 
 -- the labels as a set: in order, each once
 abbrev pub label_set : List (List ℕ) → List (List ℕ)

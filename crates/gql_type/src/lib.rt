@@ -32,4 +32,5 @@ pub use meaning::graph_type;
 pub use misfit::{Misfit, fits};
 pub use order::is_graph_type;
 pub use repeated::repeated_property;
+pub use segment::{arrow_at, closing_of};
 pub use type_element::parse_type;

@@ -58,7 +58,7 @@ fn edge<'a>(alloc: Global, rest: &'a [Lexeme]) -> ParseResult<'a, (Arrow, Elemen
 }
 
 /// The direction, by the symbol before the brackets.
-fn arrow_at(rest: &[Lexeme]) -> Result<(Arrow, &[Lexeme]), NoFront>
+pub fn arrow_at(rest: &[Lexeme]) -> Result<(Arrow, &[Lexeme]), NoFront>
     ensures { Takes result rest.now (op_at arrow_sign) }
 {
     match rest {
@@ -70,7 +70,7 @@ fn arrow_at(rest: &[Lexeme]) -> Result<(Arrow, &[Lexeme]), NoFront>
 }
 
 /// The symbol behind the brackets.
-fn closing_of(arrow: Arrow) -> u32
+pub fn closing_of(arrow: Arrow) -> u32
     ensures { result ≡ closing_of arrow }
 {
     match arrow {

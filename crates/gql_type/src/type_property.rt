@@ -1,9 +1,8 @@
 //! A property of an element of a graph type: its name, its kind, and whether it is NOT NULL.
 
-ghost use Rattle.std.specs.Prelude.{◌≡◌, ◌<◌, ◌≤◌, length, IfOk};
-ghost use Rattle.gql_front.specs.Gives.{Finds};
+ghost use Rattle.std.specs.Prelude.{◌≡◌};
 ghost use Rattle.gql_front.specs.Reading.{op_at};
-ghost use Rattle.gql_front.specs.Reads.{Takes};
+ghost use Rattle.gql_front.specs.Reads.{Takes, AlwaysReads, GoesBehind, LeftBehind};
 ghost use Rattle.gql_front.specs.Tables.{entry};
 ghost use Rattle.gql_parts.specs.Machinery.PartReaders.{past};
 ghost use Rattle.gql_type.specs.TypeWords.{scalar_words, scalar_word, is_typed};
@@ -43,8 +42,7 @@ impl Item<TypeParts> for TypeProperty {
 
 /// What is behind TYPED or `::`, or all where neither stands.
 fn past_typed(rest: &[Lexeme]) -> &[Lexeme]
-    ensures given { result.now ≡ past is_typed rest.now }
-    ensures shorter { length result.now ≤ length rest.now }
+    ensures { LeftBehind result rest.now (past is_typed rest.now) }
 {
     match rest {
         [Lexeme::Word { place: TYPED, .. }, rest @ ..] => rest,
@@ -79,8 +77,7 @@ fn list_kind(rest: &[Lexeme]) -> Result<(PropKind, &[Lexeme]), NoFront>
 /// Whether NOT NULL stands at the front, and what is behind it. A NOT that no NULL follows is left.
 #[tactic(auto, unfolding(crate::specs::Machinery::TypeReaders::required_of))]
 fn required(rest: &[Lexeme]) -> (bool, &[Lexeme])
-    ensures given { (result.0, result.1.now) ≡ required_of rest.now }
-    ensures shorter { length result.1.now ≤ length rest.now }
+    ensures { AlwaysReads result rest.now (required_of rest.now) }
 {
     match after_not_null(rest) {
         Ok(behind) => (true, behind),
@@ -89,8 +86,7 @@ fn required(rest: &[Lexeme]) -> (bool, &[Lexeme])
 }
 
 fn after_not_null(rest: &[Lexeme]) -> Result<&[Lexeme], NoFront>
-    ensures given { Finds (λ x. x.now) result (not_null_of rest.now) }
-    ensures shorter { IfOk result (λ x. length x.now < length rest.now) }
+    ensures { GoesBehind result rest.now (not_null_of rest.now) }
 {
     let rest = after_word(NOT, rest)?;
     after_word(NULL, rest)

@@ -4,3 +4,4 @@ pub mod FindLemmas
 pub mod OrderLaws
 pub mod WordLemmas
 pub mod RowExamples
+mod DigitLemmas

@@ -29,7 +29,7 @@ mod view;
 
 pub use comparison::{Comparison, NotComparable, compare3};
 pub use element::{EdgeId, Elem, Ends, NodeId};
-pub use integer::int_of;
+pub use integer::{int_of, number_within};
 pub use keyed::{Keyed, keys_ascend};
 pub use memory::OutOfMemory;
 pub use names::{plain_name, reserved_place, spells_name};

@@ -2,7 +2,6 @@
 use Rattle.std.specs.Prelude.{Bool}
 use Rattle.gql_norm.specs.declared.degree.Degree.{Degree}
 use Rattle.gql_norm.specs.JoinDefects.{has_group, has_conditional}
-use Rattle.gql_degrees.specs.DegreeData.{plain}
 use Rattle.gql_degrees.specs.Machinery.JoinWalk.{Before, Walked}
 use Rattle.gql_degrees.specs.declared.before.Before.{Before as CodeBefore}
 use Rattle.gql_degrees.specs.declared.before.Join.{Join}
@@ -13,7 +12,7 @@ abbrev pub before_data : CodeBefore → Before
 before_data b = record { singleton = b.singleton; conditional = b.conditional; group = b.group }
 
 abbrev pub walked_data : CodeWalked → Walked
-walked_data w = record { degree = plain w.degree; first = w.first; fault = w.fault; behind = w.behind }
+walked_data w = record { degree = w.degree; first = w.first; fault = w.fault; behind = w.behind }
 
 -- the two degrees that are at fault
 abbrev pub at_fault : Join → Degree → Degree → Bool

@@ -4,7 +4,8 @@ use Rattle.gql_ast.specs.Meaning.{tree_of}
 use Rattle.gql_front.specs.Gives.{Fails}
 use Rattle.gql_front.proofs.Found.{no_operator, no_operand, one_step}
 use Rattle.gql_front.proofs.Loops.{with_front}
-use Rattle.gql_exprs.specs.Machinery.Readers.{comma_op, operand, operator_in, side_of, steps_of, read_expr}
+use Rattle.gql_exprs.specs.Machinery.LeafReaders.{comma_op, operand}
+use Rattle.gql_exprs.specs.Machinery.Readers.{operator_in, side_of, steps_of, read_expr}
 use Rattle.gql_exprs.proofs.ExprLoops.{steps_from, steps_stop, steps_next, list_from, others_from, others_stop, others_next, comma_none, comma_some}
 use Rattle.gql_exprs.proofs.+expr.Goals as goal
 
@@ -52,18 +53,24 @@ levels::steps-more-preserved t c =
       within = omega (arith, c.in-Ok-side.ensures.shorter, c.in-Ok.ensures.shorter, c.more.invariant.within);
     }
 
-pub levels::steps-returns-in-Err-Syntax-clause-given : goal.levels::steps-returns-in-Err-Syntax-clause-given
+pub levels::steps-returns-in-Err-Syntax : goal.levels::steps-returns-in-Err-Syntax
 unfolding steps_of
-levels::steps-returns-in-Err-Syntax-clause-given t c =
+levels::steps-returns-in-Err-Syntax t c =
     let k = c.args.kind in
     let rest = c.more.rest.now in
     let none = subst (λ e. Fails e (side_of k read_expr c.in-Ok.behind.now)) c.in-Err-Syntax.field-0-is c.in-Err-Syntax.ensures.given in
-    steps_stop k c.more.steps rest (steps_from k c.args.start.now)
-    (no_operand (operator_in k) (side_of k read_expr) link rest c.in-Ok.operator c.in-Ok.behind.now c.in-Ok.ensures.given none) c.more.invariant.so_far
+    record {
+      given = steps_stop k c.more.steps rest (steps_from k c.args.start.now)
+          (no_operand (operator_in k) (side_of k read_expr) link rest c.in-Ok.operator c.in-Ok.behind.now c.in-Ok.ensures.given none) c.more.invariant.so_far;
+      shorter = c.more.invariant.within;
+    }
 
-pub levels::steps-returns-clause-given : goal.levels::steps-returns-clause-given
+pub levels::steps-returns : goal.levels::steps-returns
 unfolding steps_of
-levels::steps-returns-clause-given t c =
+levels::steps-returns t c =
     let k = c.args.kind in
     let rest = c.more.rest.now in
-    steps_stop k c.more.steps rest (steps_from k c.args.start.now) (no_operator (operator_in k) (side_of k read_expr) link rest c.in_default.ensures.given) c.more.invariant.so_far
+    record {
+      given = steps_stop k c.more.steps rest (steps_from k c.args.start.now) (no_operator (operator_in k) (side_of k read_expr) link rest c.in_default.ensures.given) c.more.invariant.so_far;
+      shorter = c.more.invariant.within;
+    }

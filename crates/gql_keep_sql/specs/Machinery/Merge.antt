@@ -1,5 +1,5 @@
 -- Changes of a list of keys, and the list after them, as the code makes it in one go over both.
-use Rattle.std.specs.Prelude.{ℕ, Bool, true, false, ◌&&◌, List, [], ◌∷◌, ◌++◌, map, if◌then◌else◌}
+use Rattle.std.specs.Prelude.{ℕ, Bool, true, false, not, ◌&&◌, List, [], ◌∷◌, ◌++◌, map, if◌then◌else◌}
 use Rattle.std.specs.List.{list_any}
 use Rattle.std.specs.Ordering.{nat_cmp}
 use Rattle.std.specs.Cmp.Lexicographic.{slice_cmp}
@@ -27,6 +27,10 @@ is_put_in changes key = list_any (λ (c : Change). c.is_put && same_text key c.k
 -- the key is put or dropped
 abbrev pub is_changed_in : List Change → List ℕ → Bool
 is_changed_in changes key = list_any (λ (c : Change). same_text key c.key) changes
+
+-- the record stays under the changes, which neither put nor drop its key
+abbrev pub is_kept : List Change → Record → Bool
+is_kept changes r = not (is_changed_in changes r.key)
 
 -- whether a key stands after the changes
 abbrev pub stands_under : List Change → List ℕ → Bool → Bool

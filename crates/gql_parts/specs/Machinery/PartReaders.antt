@@ -7,7 +7,8 @@ use Rattle.gql_ast.specs.declared.expr.Expr.{Expr}
 use Rattle.gql_ast.specs.declared.label.LabelExpr.{LabelExpr}
 use Rattle.gql_front.specs.Reading.{◌>>=◌, Reader, after, opted, step, sequence}
 use Rattle.gql_exprs.specs.Machinery.LabelReaders.{read_label}
-use Rattle.gql_exprs.specs.Machinery.Readers.{comma_op, read_expr}
+use Rattle.gql_exprs.specs.Machinery.LeafReaders.{comma_op}
+use Rattle.gql_exprs.specs.Machinery.Readers.{read_expr}
 
 -- an expression, whose meaning is read
 unfoldable pub read_value : Reader Expr

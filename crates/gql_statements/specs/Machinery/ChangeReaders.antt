@@ -19,8 +19,7 @@ use Rattle.gql_lexer.specs.WordPlaces.{DELETE}
 use Rattle.gql_front.specs.Reading.{◌>>=◌, Reader, is_sign, is_word, name_in, any_name_in, after, op_at, many}
 use Rattle.gql_statements.specs.declared.change_word.ChangeWord.{ChangeWord}
 use Rattle.gql_statements.specs.declared.change_word.ChangeWord.TheVariants as changes
-use Rattle.gql_statements.specs.ChangeGrammar.{closing_of}
-use Rattle.gql_statements.specs.ChangeWords.{arrow_in}
+use Rattle.gql_type.specs.TypeWords.{arrow_sign, closing_of}
 use Rattle.gql_parts.specs.PartWords.{is_colon}
 use Rattle.gql_parts.specs.Machinery.PartReaders.{read_value, led, listed}
 use Rattle.gql_parts.specs.Machinery.FillerReaders.{map_of, variable_of}
@@ -79,7 +78,7 @@ bracketed_of = between_of opening_bracket closing_bracket
 
 unfoldable pub insert_edge_of : Reader (Arrow × Fill)
 insert_edge_of ts = do
-  w ← op_at arrow_in ts
+  w ← op_at arrow_sign ts
   f ← bracketed_of w.1
   r ← after (is_sign (closing_of w.0)) f.1
   Some ((w.0, f.0), r)

@@ -9,7 +9,7 @@ use Rattle.gql_ast.specs.declared.projection.ReturnItems.TheVariants as items
 use Rattle.gql_lexer.specs.SymbolPlaces.{star}
 use Rattle.gql_lexer.specs.WordPlaces.{AS, BY, GROUP, ORDER}
 use Rattle.gql_front.specs.Reading.{◌>>=◌, Reader, is_sign, is_word, name_in, after, op_at}
-use Rattle.gql_exprs.specs.Machinery.Readers.{quantifier_of}
+use Rattle.gql_exprs.specs.Machinery.LeafReaders.{quantifier_of}
 use Rattle.gql_parts.specs.Machinery.PartReaders.{read_value, led, listed}
 use Rattle.gql_statements.specs.Machinery.PageReaders.{order_of, skip_of, limit_of}
 

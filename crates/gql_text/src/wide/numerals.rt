@@ -4,10 +4,10 @@ ghost use Rattle.std.specs.Prelude.{◌≡◌, [], ◌∷◌, find};
 ghost use Rattle.std.specs.Option.{option_copied};
 ghost use Rattle.gql_ast.specs.NumberLiterals.{is_wide, numeral};
 
-use gql_values3::Text;
+use gql_values3::{Text, number_within};
 
 /// The largest integer.
-const LARGEST: u128 = 9_223_372_036_854_775_807;
+const LARGEST: u64 = 9_223_372_036_854_775_807;
 
 /// The number where it is too large.
 pub fn if_wide(digits: &Text) -> Option<&Text>
@@ -30,17 +30,9 @@ pub fn if_there(digits: &Option<Text>) -> Option<&Text>
     }
 }
 
-/// Whether the number that the digits write is too large. A number never falls as digits come behind it, so the first
-/// that is above the largest integer decides.
+/// Whether the number that the digits write is too large.
 fn is_wide(digits: &[u8]) -> bool
     ensures { result ≡ is_wide digits.now }
 {
-    let mut value = 0u128;
-    for digit in digits {
-        value = value * 10 + u128::from(digit.saturating_sub(b'0'));
-        if value > LARGEST {
-            return true;
-        }
-    }
-    false
+    number_within(LARGEST, digits).is_none()
 }

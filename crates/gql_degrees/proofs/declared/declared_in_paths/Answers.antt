@@ -10,6 +10,6 @@ pub loop-i-preserved : goal.loop-i-preserved
 loop-i-preserved c =
     let paths = c.args.paths.now in
     let below : c.loop-i.i < length paths = omega arith in
-    ap (λ names. names ++ declared_in_all_paths (map path_data (drop (c.loop-i.i + 1) paths))) (c.in_ok-add_part.ensures ∙ ap (λ (z : NormalPath). c.loop-i.names ++ declared_in (part_data z.body)) (sym c.index-paths-i.is))
+    ap (λ names. names ++ declared_in_all_paths (map path_data (drop (c.loop-i.i + 1) paths))) (c.in_ok-add_declared.ensures ∙ ap (λ (z : NormalPath). c.loop-i.names ++ declared_in (part_data z.body)) (sym c.index-paths-i.is))
     ∙ path_more c.loop-i.names paths c.loop-i.i c.index-paths-i.result below c.index-paths-i.is
     ∙ c.loop-i.invariant

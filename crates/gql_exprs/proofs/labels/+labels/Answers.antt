@@ -20,18 +20,24 @@ sides-more-preserved t c =
       within = omega (arith, c.in-Ok-side.ensures.shorter, c.in-Ok.ensures.shorter, c.more.invariant.within);
     }
 
-pub sides-returns-in-Err-Syntax-clause-given : goal.sides-returns-in-Err-Syntax-clause-given
+pub sides-returns-in-Err-Syntax : goal.sides-returns-in-Err-Syntax
 unfolding sides_of
-sides-returns-in-Err-Syntax-clause-given t c =
+sides-returns-in-Err-Syntax t c =
     let k = c.args.kind in
     let rest = c.more.rest.now in
     let here = subst (λ n. after (is_sign n) rest ≡ Some c.in-Ok.behind.now) c.symbol_of.ensures c.in-Ok.ensures.given in
-    no_side k c.more.others rest (sides_from k c.args.start.now) c.more.invariant.so_far c.in-Ok.behind.now here
-    (subst (λ e. Fails e (side_of k read_label c.in-Ok.behind.now)) c.in-Err-Syntax.field-0-is c.in-Err-Syntax.ensures.given)
+    record {
+      given = no_side k c.more.others rest (sides_from k c.args.start.now) c.more.invariant.so_far c.in-Ok.behind.now here
+          (subst (λ e. Fails e (side_of k read_label c.in-Ok.behind.now)) c.in-Err-Syntax.field-0-is c.in-Err-Syntax.ensures.given);
+      shorter = c.more.invariant.within;
+    }
 
-pub sides-returns-clause-given : goal.sides-returns-clause-given
+pub sides-returns : goal.sides-returns
 unfolding sides_of
-sides-returns-clause-given t c =
+sides-returns t c =
     let k = c.args.kind in
-    no_symbol k c.more.others c.more.rest.now (sides_from k c.args.start.now) c.more.invariant.so_far
-    (subst (λ n. after (is_sign n) c.more.rest.now ≡ None) c.symbol_of.ensures c.in_default.ensures.given)
+    record {
+      given = no_symbol k c.more.others c.more.rest.now (sides_from k c.args.start.now) c.more.invariant.so_far
+          (subst (λ n. after (is_sign n) c.more.rest.now ≡ None) c.symbol_of.ensures c.in_default.ensures.given);
+      shorter = c.more.invariant.within;
+    }

@@ -1,40 +1,15 @@
-use Rattle.std.proofs.Common.{◌<◌, ◌+◌, ◌∙◌, ap, sym, length, drop, arith}
-use Rattle.std.specs.List.{flat_map}
-use Rattle.gql_expr_checks.specs.Refusals.{refusal_of_first}
-use Rattle.gql_expr_checks.specs.ExprParameters.{unset}
+use Rattle.std.proofs.Common.{◌<◌, length, arith}
+use Rattle.gql_norm.proofs.LoopLemmas.{unset_asked, stops_at, goes_past}
 use Rattle.gql_scope.specs.UnsetParameters.{parameters_of_set}
-use Rattle.gql_ast.specs.declared.refusal.Refusal.TheVariants as refusal
-use Rattle.gql_expr_checks.proofs.RefusalLemmas.{gives_fault, stops, goes_on, unset_of_two}
-use Rattle.gql_expr_checks.proofs.DropLemmas.{drop_step}
 use Rattle.gql_scope.proofs.change_parameters.check_set.Goals as goal
 
 pub returns-in_err-check_set_item : goal.returns-in_err-check_set_item
 returns-in_err-check_set_item c =
-    let f = parameters_of_set in
-    let params = c.args.params.now in
-    let i = c.item-item.result in
-    let rest = drop (c.loop-item.item-index + 1) c.args.items.now in
     let below : c.loop-item.item-index < length c.args.items.now = omega arith in
-    let here = refusal_of_first refusal.Parameter (unset params (f i)) in
-    let behind = refusal_of_first refusal.Parameter (unset params (flat_map f rest)) in
-    let whole = refusal_of_first refusal.Parameter (unset params (flat_map f c.args.items.now)) in
-    let cut = sym c.loop-item.invariant
-    ∙ ap (λ is. refusal_of_first refusal.Parameter (unset params (flat_map f is))) (drop_step c.args.items.now c.loop-item.item-index i below c.item-item.is)
-    ∙ unset_of_two params (f i) (flat_map f rest) in
-    gives_fault c.from_residual.result c.in_err-check_set_item.field-0.0 whole c.from_residual.ensures.0 c.from_residual.ensures.1
-    (stops c.in_err-check_set_item.field-0.0 here behind whole c.in_err-check_set_item.ensures cut)
+    stops_at (unset_asked c.args.params.now parameters_of_set) c.args.items.now c.loop-item.item-index c.item-item.result below c.item-item.is c.loop-item.invariant
+    c.from_residual.result c.in_err-check_set_item.field-0.0 c.from_residual.ensures.0 c.from_residual.ensures.1 c.in_err-check_set_item.ensures
 
 pub loop-item-preserved : goal.loop-item-preserved
 loop-item-preserved c =
-    let f = parameters_of_set in
-    let params = c.args.params.now in
-    let i = c.item-item.result in
-    let rest = drop (c.loop-item.item-index + 1) c.args.items.now in
     let below : c.loop-item.item-index < length c.args.items.now = omega arith in
-    let here = refusal_of_first refusal.Parameter (unset params (f i)) in
-    let behind = refusal_of_first refusal.Parameter (unset params (flat_map f rest)) in
-    let whole = refusal_of_first refusal.Parameter (unset params (flat_map f c.args.items.now)) in
-    let cut = sym c.loop-item.invariant
-    ∙ ap (λ is. refusal_of_first refusal.Parameter (unset params (flat_map f is))) (drop_step c.args.items.now c.loop-item.item-index i below c.item-item.is)
-    ∙ unset_of_two params (f i) (flat_map f rest) in
-    sym (goes_on here behind whole c.in_ok-check_set_item.ensures cut)
+    goes_past (unset_asked c.args.params.now parameters_of_set) c.args.items.now c.loop-item.item-index c.item-item.result below c.item-item.is c.loop-item.invariant c.in_ok-check_set_item.ensures

@@ -25,6 +25,9 @@ more-preserved c =
       within = omega (arith, c.in-Ok.ensures.shorter, c.more.invariant.within);
     }
 
-pub returns-clause-given : goal.returns-clause-given
-returns-clause-given c =
-    steps_end other_label_of (labels_from c.args.first.now c.args.start.now) c.more.labels c.more.rest.now c.more.invariant.so_far c.in_default.ensures.given
+pub returns : goal.returns
+returns c =
+    record {
+      given = steps_end other_label_of (labels_from c.args.first.now c.args.start.now) c.more.labels c.more.rest.now c.more.invariant.so_far c.in_default.ensures.given;
+      shorter = c.more.invariant.within;
+    }

@@ -7,7 +7,7 @@ use Rattle.std.proofs.lemmas.List.Sorted.{ranks_by}
 use Rattle.gql_values3.specs.Texts.{same_text}
 use Rattle.gql_eval.specs.StableSort.{stably_sorted}
 use Rattle.gql_eval.proofs.StableSort.{is_sorted}
-use Rattle.gql_type.specs.BodyMeaning.{is_before}
+use Rattle.gql_graph.specs.Catalog.{is_before}
 use Rattle.gql_type.proofs.sets.label_set.Goals as goal
 
 by_bytes : IsStrictWeakOrder is_before

@@ -8,6 +8,6 @@ use Rattle.gql_eval.proofs.stack.Stack.has_on_top.Goals as goal
 pub returns-in-Some : goal.returns-in-Some
 returns-in-Some c =
     c.is_boolean.ensures ∙ ap (is_boolean c.args.wanted) c.value.ensures
-    ∙ top_is c.args.wanted c.as_slice.result.now c.in-Some.held.now c.in-Some.ensures.value
-    ∙ ap (λ xs. has_on_top c.args.wanted (turned (λ (d : Datum). d) xs)) c.as_slice.ensures
+    ∙ top_is c.args.wanted c.deref.result.now c.in-Some.held.now c.in-Some.ensures.value
+    ∙ ap (λ xs. has_on_top c.args.wanted (turned (λ (d : Datum). d) xs)) c.deref.ensures.value
     ∙ ap (has_on_top c.args.wanted) c.self.view_is

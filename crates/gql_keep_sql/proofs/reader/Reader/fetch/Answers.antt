@@ -1,12 +1,8 @@
--- The row of the run that has the key has the value.
-use Rattle.std.proofs.Math.Logic.{∥∥₁_map}
+-- A record in memory is given out as it is.
+use Rattle.std.proofs.Common.{inr, refl, sym, subst}
+use Rattle.gql_keep_sql.specs.Fetched.{IsHeld}
 use Rattle.gql_keep_sql.proofs.reader.Reader.fetch.Goals as goal
 
-pub returns-in_ok-record_of-in-Some-clause-value : goal.returns-in_ok-record_of-in-Some-clause-value
-returns-in_ok-record_of-in-Some-clause-value c =
-    ∥∥₁_map c.in_ok-read.ensures (λ found. record {
-      row = c.in-Some.row.now;
-      found = found c.in-Some.ensures.0 _ c.in-Some.ensures.1;
-      key_is = c.in_ok-record_of-in-Some.ensures.own;
-      value_is = c.in_ok-record_of-in-Some.ensures.value;
-    })
+pub returns-in_ok-copy_of-in-Some-clause-value : goal.returns-in_ok-copy_of-in-Some-clause-value
+returns-in_ok-copy_of-in-Some-clause-value c =
+    ∣ inr (subst (λ r. IsHeld r c.args.self.now.place) (sym c.in_ok-copy_of-in-Some.ensures.same) c.in-Some.ensures, refl) ∣₁

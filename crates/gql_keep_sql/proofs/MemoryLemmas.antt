@@ -1,0 +1,26 @@
+-- Records in memory behind a change.
+use Rattle.std.proofs.Common.{◌≡◌, ℕ, Bool, true, not, cond, List, [], ◌∷◌, ◌++◌, ◌||◌, IsPermutation, Contains, Option, Some, None, IfSome, refl, sym, ◌∙◌, ap, subst}
+use Rattle.std.specs.Prelude.{slice_get}
+use Rattle.std.specs.List.{filter}
+use Rattle.std.proofs.lemmas.Option.{slice_get_within, get_or_from_slice_get}
+use Rattle.gql_ports.specs.declared.stored.Record.{Record}
+use Rattle.gql_keep_sql.specs.declared.changes.Change.{Change}
+use Rattle.gql_keep_sql.specs.Keys.{has_key, keys_of}
+use Rattle.gql_keep_sql.specs.Machinery.Merge.{is_changed_in, is_kept}
+use Rattle.gql_keep_sql.specs.Written.{Alters, stays}
+
+filter_alike : (p q : Record → Bool) → ((r : Record) → p r ≡ q r) → (xs : List Record) → filter p xs ≡ filter q xs
+filter_alike p q same [] = refl
+filter_alike p q same (x ∷ xs) = ap (λ b. cond b (x ∷ filter p xs) (filter p xs)) (same x) ∙ ap (λ ys. cond (q x) (x ∷ ys) ys) (filter_alike p q same xs)
+
+pub altered : (puts : List Record) (drops : List (List ℕ)) (changes : List Change) (old kept new : List Record)
+    → ((key : List ℕ) → is_changed_in changes key ≡ (has_key (keys_of puts) key || has_key drops key))
+    → kept ≡ puts ++ filter (is_kept changes) old → IsPermutation kept new → Alters puts drops true old new
+altered puts drops changes old kept new named is same = record {
+  all = λ done. subst (λ xs. IsPermutation xs new) (is ∙ ap (λ xs. puts ++ xs) (filter_alike (is_kept changes) (stays puts drops) (λ r. ap not (named r.key)) old)) same;
+  nothing = λ not_done. absurd cc;
+}
+
+pub contains_at : (xs : List Record) (i : ℕ) (o : Option Record) → o ≡ slice_get xs i → IfSome o (Contains xs)
+contains_at xs i None is = tt
+contains_at xs i (Some r) is = (i, slice_get_within xs i r (sym is), get_or_from_slice_get xs i r r (sym is))

@@ -1,9 +1,0 @@
-use Rattle.std.proofs.Common.{◌≡◌, ◌+◌, ◌*◌, ◌^◌, ◌≤◌, length, drop}
-use Rattle.gql_values3.specs.Integers.{value_of_digits}
-use Rattle.gql_session.proofs.size.value_of.Given as goal
-
-abbrev pub invariant-loop-digit : goal.invariant-loop-digit
-invariant-loop-digit l = record {
-  told : l.value * 10 ^ length (drop l.digit-index l.digits) + value_of_digits (drop l.digit-index l.digits) ≡ value_of_digits l.digits;
-  small : l.value ≤ 99999;
-}
