@@ -4,9 +4,7 @@ use Rattle.std.proofs.lemmas.Bool.{and_parts}
 use Rattle.std.specs.Prelude.{◌&&◌, ◌==◌, find, option_map}
 use Rattle.std.specs.List.{list_all}
 use Rattle.std.specs.Option.{option_copied}
-use Rattle.std.specs.declared.cmp.Ordering.TheVariants.{Less, Equal}
-use Rattle.std.specs.Ordering.{is_lt}
-use Rattle.std.proofs.lemmas.Cmp.{nat_list_cmp_total, tied_itself}
+use Rattle.std.specs.declared.cmp.Ordering.TheVariants.{Less}
 use Rattle.std.proofs.lemmas.Slice.Eq.{bytes_eq-Decides}
 use Rattle.gql_values3.specs.Datum.{Datum}
 use Rattle.gql_values3.specs.Texts.{same_text, ascend_above, texts_ascend}
@@ -17,8 +15,9 @@ use Rattle.gql_values3.specs.declared.element.Elem.TheVariants as elem
 use Rattle.gql_values3.specs.declared.records.NodeRecord.{NodeRecord}
 use Rattle.gql_values3.specs.declared.records.EdgeRecord.{EdgeRecord}
 use Rattle.gql_values3.specs.Datum.{or_null}
+use Rattle.gql_graph.proofs.AscendingTexts.{text_cmp, first_above, above_rest, above_ascends, apart_turned}
+use Rattle.gql_graph.proofs.CatalogLemmas.{names}
 use Rattle.gql_change.specs.Storing.{PropertyList}
-use Rattle.gql_change.proofs.StoringLemmas.{text_cmp, first_above, lower, above_ascends, names}
 
 pub taken : {A : Type 0} (xs : List A) (n : ℕ) (x : A) → Some x ≡ slice_get xs n → take (n + 1) xs ≡ take n xs ++ x ∷ []
 taken [] n x h = absurd (cc)
@@ -42,16 +41,7 @@ copied_none (Some x) r h p = absurd (h x refl)
 above_at : (low : List ℕ) (ks : List (List ℕ)) (n : ℕ) (x : List ℕ) → ascend_above low ks ≡ true → Some x ≡ slice_get ks n → text_cmp low x ≡ Less
 above_at low [] n x h p = absurd (cc)
 above_at low (k ∷ ks) zero x h p = let same : x ≡ k = cc in ap (text_cmp low) same ∙ first_above low k ks h
-above_at low (k ∷ ks) (suc n) x h p =
-    above_at low ks n x (lower low k ks (first_above low k ks h) ((and_parts (is_lt (text_cmp low k)) (ascend_above k ks) h).1)) p
-
-other_text : (b : Bool) (x low : List ℕ) → same_text x low ≡ b → text_cmp low x ≡ Less → b ≡ false
-other_text true x low p q =
-    let same : x ≡ low = (bytes_eq-Decides x low).0 p in
-    let tie : text_cmp low low ≡ Equal = tied_itself nat_list_cmp_total low in
-    let below : text_cmp low low ≡ Less = ap (text_cmp low) (sym same) ∙ q in
-    absurd (cc)
-other_text false x low p q = refl
+above_at low (k ∷ ks) (suc n) x h p = above_at low ks n x (above_rest low k ks h) p
 
 -- the value that a name finds
 abbrev pub found_value : List ℕ → PropertyList → Datum
@@ -69,7 +59,7 @@ property_taken (q ∷ qs) zero x h p =
     λ i. (sym same i, value_if (sym here i) q qs x) ∷ []
 property_taken (q ∷ qs) (suc n) x h p =
     let one : suc n + 1 ≡ suc (n + 1) = omega arith in
-    let other : same_text x q.0 ≡ false = other_text (same_text x q.0) x q.0 refl (above_at q.0 (names qs) n x h p) in
+    let other : same_text x q.0 ≡ false = apart_turned q.0 x (above_at q.0 (names qs) n x h p) in
     rw one (ap (λ zs. q ∷ zs) (property_taken qs n x (above_ascends q.0 (names qs) h) p ∙ ap (λ b. take n qs ++ (x, value_if b q qs x) ∷ []) (sym other)))
 
 -- what all have, one that is found has

@@ -1,55 +1,30 @@
 -- What is stored stays in order: names and labels ascend, and the values of properties may be kept.
-use Rattle.std.proofs.Common.{◌≡◌, ℕ, Bool, true, false, cond, not, List, [], ◌∷◌, map, refl, ap, ◌∙◌}
+use Rattle.std.proofs.Common.{◌≡◌, ℕ, Bool, true, not, List, [], ◌∷◌, refl, ap, ◌∙◌}
 use Rattle.std.proofs.lemmas.Bool.{and_from, and_parts}
-use Rattle.std.specs.Prelude.{◌&&◌, filter}
+use Rattle.std.specs.Prelude.{◌&&◌}
 use Rattle.std.specs.List.{list_all}
 use Rattle.std.specs.declared.cmp.Ordering.{Ordering}
 use Rattle.std.specs.declared.cmp.Ordering.TheVariants.{Less, Equal, Greater}
-use Rattle.std.specs.Ordering.{is_lt, nat_cmp, ordering_reverse}
-use Rattle.std.specs.Cmp.Lexicographic.{slice_cmp}
-use Rattle.std.proofs.lemmas.Cmp.{nat_list_cmp_total}
+use Rattle.std.specs.Ordering.{is_lt}
 use Rattle.std.proofs.lemmas.Map.Lookups.{exact_bytes}
 use Rattle.gql_values3.specs.Datum.{Datum, null, boolean, integer, text, list, node, edge, path}
 use Rattle.gql_values3.specs.Texts.{same_text, ascend_above, texts_ascend}
 use Rattle.gql_values3.specs.PropertyGraph.{is_storable, is_property, are_properties}
+use Rattle.gql_graph.proofs.AscendingTexts.{text_cmp, rest_above, turned, texts_ascend-filter}
+use Rattle.gql_graph.proofs.CatalogLemmas.{names}
+use Rattle.gql_graph.proofs.NamedLemmas.{names_ascend-without, list_all-without}
 use Rattle.gql_change.specs.Storing.{PropertyList, by_order, put_property, without_property, with_property, put_label, without_label, label_set, property_set}
-
-less_if : (o : Ordering) → is_lt o ≡ true → o ≡ Less
-less_if Less p = refl
-less_if Equal p = absurd (cc)
-less_if Greater p = absurd (cc)
-
-abbrev pub text_cmp : List ℕ → List ℕ → Ordering
-text_cmp a b = slice_cmp nat_cmp a b
-
--- the first text is above the bound
-pub first_above : (low k : List ℕ) (ks : List (List ℕ)) → ascend_above low (k ∷ ks) ≡ true → text_cmp low k ≡ Less
-first_above low k ks h = less_if (text_cmp low k) ((and_parts (is_lt (text_cmp low k)) (ascend_above k ks) h).0)
-
--- a lower bound serves too
-pub lower : (low k : List ℕ) (ks : List (List ℕ)) → text_cmp low k ≡ Less → ascend_above k ks ≡ true → ascend_above low ks ≡ true
-lower low k [] p h = refl
-lower low k (j ∷ js) p h =
-    and_from (is_lt (text_cmp low j)) (ascend_above j js) (ap is_lt (nat_list_cmp_total.trans low k j p (first_above k j js h)))
-    ((and_parts (is_lt (text_cmp k j)) (ascend_above j js) h).1)
-
-pub above_ascends : (low : List ℕ) (ks : List (List ℕ)) → ascend_above low ks ≡ true → texts_ascend ks ≡ true
-above_ascends low [] h = refl
-above_ascends low (k ∷ ks) h = (and_parts (is_lt (text_cmp low k)) (ascend_above k ks) h).1
-
-turned : (a b : List ℕ) → text_cmp a b ≡ Greater → text_cmp b a ≡ Less
-turned a b p = nat_list_cmp_total.antisymm b a ∙ ap ordering_reverse p
 
 put_above_case : (o : Ordering) (low l k : List ℕ) (ks : List (List ℕ)) → text_cmp l k ≡ o → text_cmp low l ≡ Less → ascend_above low (k ∷ ks) ≡ true
     → (text_cmp k l ≡ Less → ascend_above k ks ≡ true → ascend_above k (put_label l ks) ≡ true)
     → ascend_above low (by_order o (l ∷ k ∷ ks) (k ∷ ks) (k ∷ put_label l ks)) ≡ true
 put_above_case Less low l k ks p q h more =
     and_from (is_lt (text_cmp low l)) (is_lt (text_cmp l k) && ascend_above k ks) (ap is_lt q)
-    (and_from (is_lt (text_cmp l k)) (ascend_above k ks) (ap is_lt p) ((and_parts (is_lt (text_cmp low k)) (ascend_above k ks) h).1))
+    (and_from (is_lt (text_cmp l k)) (ascend_above k ks) (ap is_lt p) (rest_above low k ks h))
 put_above_case Equal low l k ks p q h more = h
 put_above_case Greater low l k ks p q h more =
     and_from (is_lt (text_cmp low k)) (ascend_above k (put_label l ks)) ((and_parts (is_lt (text_cmp low k)) (ascend_above k ks) h).0)
-    (more (turned l k p) ((and_parts (is_lt (text_cmp low k)) (ascend_above k ks) h).1))
+    (more (turned l k p) (rest_above low k ks h))
 
 put_above : (low l : List ℕ) (ks : List (List ℕ)) → text_cmp low l ≡ Less → ascend_above low ks ≡ true → ascend_above low (put_label l ks) ≡ true
 put_above low l [] q h = and_from (is_lt (text_cmp low l)) true (ap is_lt q) refl
@@ -65,27 +40,6 @@ pub texts_ascend-put_label : (l : List ℕ) (ks : List (List ℕ)) → texts_asc
 texts_ascend-put_label l [] h = refl
 texts_ascend-put_label l (k ∷ ks) h = put_case (text_cmp l k) l k ks refl h
 
-kept_above_case : (b : Bool) (low k : List ℕ) (ks rest : List (List ℕ)) → ascend_above low (k ∷ ks) ≡ true
-    → ((bound : List ℕ) → ascend_above bound ks ≡ true → ascend_above bound rest ≡ true)
-    → ascend_above low (cond b (k ∷ rest) rest) ≡ true
-kept_above_case true low k ks rest h more =
-    and_from (is_lt (text_cmp low k)) (ascend_above k rest) ((and_parts (is_lt (text_cmp low k)) (ascend_above k ks) h).0)
-    (more k ((and_parts (is_lt (text_cmp low k)) (ascend_above k ks) h).1))
-kept_above_case false low k ks rest h more =
-    more low (lower low k ks (first_above low k ks h) ((and_parts (is_lt (text_cmp low k)) (ascend_above k ks) h).1))
-
-kept_above : (p : List ℕ → Bool) (low : List ℕ) (ks : List (List ℕ)) → ascend_above low ks ≡ true → ascend_above low (filter p ks) ≡ true
-kept_above p low [] h = refl
-kept_above p low (k ∷ ks) h = kept_above_case (p k) low k ks (filter p ks) h (λ bound m. kept_above p bound ks m)
-
-kept_case : (b : Bool) (p : List ℕ → Bool) (k : List ℕ) (ks : List (List ℕ)) → ascend_above k ks ≡ true → texts_ascend (cond b (k ∷ filter p ks) (filter p ks)) ≡ true
-kept_case true p k ks h = kept_above p k ks h
-kept_case false p k ks h = above_ascends k (filter p ks) (kept_above p k ks h)
-
-pub texts_ascend-filter : (p : List ℕ → Bool) (ks : List (List ℕ)) → texts_ascend ks ≡ true → texts_ascend (filter p ks) ≡ true
-texts_ascend-filter p [] h = refl
-texts_ascend-filter p (k ∷ ks) h = kept_case (p k) p k ks h
-
 pub texts_ascend-without_label : (l : List ℕ) (ks : List (List ℕ)) → texts_ascend ks ≡ true → texts_ascend (without_label l ks) ≡ true
 texts_ascend-without_label l ks h = texts_ascend-filter (λ k. not (same_text l k)) ks h
 
@@ -94,9 +48,6 @@ texts_ascend-label_set [] = refl
 texts_ascend-label_set (l ∷ ls) = texts_ascend-put_label l (label_set ls) (texts_ascend-label_set ls)
 
 -- the names of properties
-abbrev pub names : PropertyList → List (List ℕ)
-names ps = map (λ (p : List ℕ × Datum). p.0) ps
-
 names_put_case : (o : Ordering) (x : List ℕ) (d : Datum) (p : List ℕ × Datum) (ps : PropertyList) → text_cmp x p.0 ≡ o → names (put_property x d ps) ≡ put_label x (names ps)
     → names (by_order o ((x, d) ∷ p ∷ ps) ((x, d) ∷ ps) (p ∷ put_property x d ps)) ≡ by_order o (x ∷ p.0 ∷ names ps) (p.0 ∷ names ps) (p.0 ∷ put_label x (names ps))
 names_put_case Less x d p ps e h = refl
@@ -106,14 +57,6 @@ names_put_case Greater x d p ps e h = ap (λ ks. p.0 ∷ ks) h
 names-put : (x : List ℕ) (d : Datum) (ps : PropertyList) → names (put_property x d ps) ≡ put_label x (names ps)
 names-put x d [] = refl
 names-put x d (p ∷ ps) = names_put_case (text_cmp x p.0) x d p ps refl (names-put x d ps)
-
-names_kept : (b : Bool) (p : List ℕ × Datum) (ps : PropertyList) (ks : List (List ℕ)) → names ps ≡ ks → names (cond b (p ∷ ps) ps) ≡ cond b (p.0 ∷ ks) ks
-names_kept true p ps ks h = ap (λ js. p.0 ∷ js) h
-names_kept false p ps ks h = h
-
-names-without : (x : List ℕ) (ps : PropertyList) → names (without_property x ps) ≡ without_label x (names ps)
-names-without x [] = refl
-names-without x (p ∷ ps) = names_kept (not (same_text x p.0)) p (without_property x ps) (without_label x (names ps)) (names-without x ps)
 
 -- the values of properties
 abbrev values_fit : PropertyList → Bool
@@ -130,16 +73,6 @@ values_put x d [] k h = and_from (is_property d) true k refl
 values_put x d (p ∷ ps) k h =
     values_put_case (text_cmp x p.0) x d p ps (put_property x d ps) k h (values_put x d ps k ((and_parts (is_property p.1) (values_fit ps) h).1))
 
-pub list_all_kept : {A : Type 0} (q : A → Bool) (b : Bool) (x : A) (xs : List A) → q x ≡ true → list_all q xs ≡ true → list_all q (cond b (x ∷ xs) xs) ≡ true
-list_all_kept q true x xs h k = and_from (q x) (list_all q xs) h k
-list_all_kept q false x xs h k = k
-
--- what all have, all have that are kept
-pub list_all-filter : {A : Type 0} (q p : A → Bool) (xs : List A) → list_all q xs ≡ true → list_all q (filter p xs) ≡ true
-list_all-filter q p [] h = refl
-list_all-filter q p (x ∷ xs) h =
-    list_all_kept q (p x) x (filter p xs) ((and_parts (q x) (list_all q xs) h).0) (list_all-filter q p xs ((and_parts (q x) (list_all q xs) h).1))
-
 pub are_properties-put : (x : List ℕ) (d : Datum) (ps : PropertyList) → is_property d ≡ true → are_properties ps ≡ true → are_properties (put_property x d ps) ≡ true
 are_properties-put x d ps k h =
     and_from (texts_ascend (names (put_property x d ps))) (values_fit (put_property x d ps))
@@ -148,9 +81,9 @@ are_properties-put x d ps k h =
 
 pub are_properties-without : (x : List ℕ) (ps : PropertyList) → are_properties ps ≡ true → are_properties (without_property x ps) ≡ true
 are_properties-without x ps h =
+    let parts = and_parts (texts_ascend (names ps)) (values_fit ps) h in
     and_from (texts_ascend (names (without_property x ps))) (values_fit (without_property x ps))
-    (ap texts_ascend (names-without x ps) ∙ texts_ascend-without_label x (names ps) ((and_parts (texts_ascend (names ps)) (values_fit ps) h).0))
-    (list_all-filter (λ (p : List ℕ × Datum). is_property p.1) (λ (p : List ℕ × Datum). not (same_text x p.0)) ps ((and_parts (texts_ascend (names ps)) (values_fit ps) h).1))
+    (names_ascend-without x ps parts.0) (list_all-without x (λ (p : List ℕ × Datum). is_property p.1) ps parts.1)
 
 pub are_properties-with : (x : List ℕ) (d : Datum) (ps : PropertyList) → is_storable d 64 ≡ true → are_properties ps ≡ true → are_properties (with_property x d ps) ≡ true
 are_properties-with x null ps k h = are_properties-without x ps h

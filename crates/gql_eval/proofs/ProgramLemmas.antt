@@ -22,10 +22,10 @@ use Rattle.gql_ast.specs.ElementTests.{property_value}
 use Rattle.gql_ast.specs.Scope.{Entry, entry_of, row_scope, datum_in, datum_of_name, holds_group}
 use Rattle.gql_ast.specs.Tree.{Tree, Links, constant, unknown, number, parameter, name, property, paren, listing, count_all, aggregate, call, modulo, coalesce, signed, product, sum, comparing, test, label_test, end_test, negation, conjunction, disjunction, link, no_links, more_links}
 use Rattle.gql_ast.specs.Evaluation.{value_of, chained, all_of, any_of, and_then, or_then, parameter_value}
-use Rattle.gql_eval.specs.Bound.{bound_scope}
+use Rattle.gql_eval.specs.Bound.{match_scope}
 use Rattle.gql_eval.specs.Machinery.JoinedTruth.{joined_truth}
 use Rattle.gql_eval.specs.Machinery.Operations.{of_operand, of_operands}
-use Rattle.gql_eval.specs.Machinery.Places.{place_among}
+use Rattle.gql_eval.specs.Machinery.Places.{place_among, places_among}
 use Rattle.gql_eval.specs.Machinery.ScopeMeaning.{item_entry, scope_of, rest_of, columns_of}
 use Rattle.gql_eval.specs.Machinery.Program.{Op, fixed, held_name, held_property, of_one, of_two, join_side, as_truth, join_all, join_any, skip_if, whole, held_at, value_there, first_held, pushed, join_by, skipped, acted, ran, ran_past, top_of, all_side, any_side, compiled, compiled_chain, compiled_all, compiled_any}
 use Rattle.gql_eval.specs.declared.scope.Scope.{Scope}
@@ -37,7 +37,7 @@ use Rattle.gql_eval.specs.declared.cow.CowValue.{CowValue}
 use Rattle.gql_eval.specs.declared.error.EvalError.{EvalError}
 use Rattle.gql_eval.specs.declared.instruction.Instruction.{Instruction}
 use Rattle.gql_eval.proofs.EvaluationLemmas.{fails_next, all_of_false}
-use Rattle.gql_eval.proofs.ScopeLemmas.{entry_append, first, append_none}
+use Rattle.gql_eval.proofs.ScopeLemmas.{entry_append, first, append_none, bound_placed}
 use Rattle.gql_eval.proofs.TurnedLemmas.{turned_more}
 
 -- one step after another
@@ -88,13 +88,14 @@ held_first (Some e) b c = refl
 held_first None (Some e) c = refl
 held_first None None c = refl
 
-pub held_is : (s : Scope) (x : List ℕ) → held_at s (place_among (columns_of s.header) x) x ≡ datum_of_name (scope_of s) x
+pub held_is : (s : Scope) (x : List ℕ) → held_at s (places_among (columns_of s.header) s.names.now x) x ≡ datum_of_name (scope_of s) x
 unfolding scope_of rest_of
 held_is s x =
     let front = map item_entry s.front.now in
     let row = row_scope (columns_of s.header) (map datum_of s.row.now) in
-    let behind = bound_scope s.bound.now in
-    ap (λ o. first_held (entry_of front x) o (datum_of_name behind x)) (value_placed (columns_of s.header) (map datum_of s.row.now) x)
+    let behind = match_scope s.names.now s.bound.now in
+    ap (λ d. first_held (entry_of front x) (value_there (map datum_of s.row.now) (place_among (columns_of s.header) x)) d) (bound_placed s.names.now s.bound.now x)
+    ∙ ap (λ o. first_held (entry_of front x) o (datum_of_name behind x)) (value_placed (columns_of s.header) (map datum_of s.row.now) x)
     ∙ held_first (entry_of front x) (entry_of row x) (entry_of behind x)
     ∙ ap datum_in (ap (first (entry_of front x)) (sym (entry_append row behind x)) ∙ sym (entry_append front (row ++ behind) x))
 
@@ -117,7 +118,7 @@ module _ (g : PropertyGraph) (params : List (List ℕ × Datum)) (s : Scope) whe
   value e = value_of g params (scope_of s) e
 
   abbrev code : Tree → List Op
-  code e = compiled (columns_of s.header) params e
+  code e = compiled (columns_of s.header) s.names.now params e
 
   -- the steps put what is given
   abbrev Runs : List Op → Result Datum DataFault → Type 0
@@ -271,8 +272,8 @@ module _ (g : PropertyGraph) (params : List (List ℕ × Datum)) (s : Scope) whe
     runs unknown = lone (fixed null) (Ok null) (λ st. refl) (λ st. refl)
     runs (number n) = lone (fixed (integer (pos (value_of_digits n)))) (Ok (integer (pos (value_of_digits n)))) (λ st. refl) (λ st. refl)
     runs (parameter p) = lone (fixed (parameter_value params p)) (Ok (parameter_value params p)) (λ st. refl) (λ st. refl)
-    runs (name x) = lone (held_name (place_among (columns_of s.header) x) x) (Ok (datum_of_name (scope_of s) x)) (λ st. refl) (λ st. ap (λ d. pushed st (Ok d)) (held_is s x))
-    runs (property x p) = lone (held_property (place_among (columns_of s.header) x) x p) (property_value g (datum_of_name (scope_of s) x) p) (λ st. refl) (λ st. ap (λ d. pushed st (property_value g d p)) (held_is s x))
+    runs (name x) = lone (held_name (places_among (columns_of s.header) s.names.now x) x) (Ok (datum_of_name (scope_of s) x)) (λ st. refl) (λ st. ap (λ d. pushed st (Ok d)) (held_is s x))
+    runs (property x p) = lone (held_property (places_among (columns_of s.header) s.names.now x) x p) (property_value g (datum_of_name (scope_of s) x) p) (λ st. refl) (λ st. ap (λ d. pushed st (property_value g d p)) (held_is s x))
     runs (paren e) = runs e
     runs (listing es) = lone (whole (listing es)) (value (listing es)) (λ st. refl) (λ st. refl)
     runs count_all = lone (fixed null) (Ok null) (λ st. refl) (λ st. refl)
@@ -281,8 +282,8 @@ module _ (g : PropertyGraph) (params : List (List ℕ × Datum)) (s : Scope) whe
     runs (modulo a b) = two (modulo a b) a b (runs a) (runs b)
     runs (coalesce e es) = lone (whole (coalesce e es)) (value (coalesce e es)) (λ st. refl) (λ st. refl)
     runs (signed n e) = one_then (code e) (of_one (signed n e)) (value e) (of_operand g (scope_of s) (signed n e)) (runs e) (λ st. refl) (λ d st. refl)
-    runs (product e ls) = then_on (code e) (compiled_chain (columns_of s.header) params ls) (value e) (λ d. chained g params (scope_of s) d ls) (runs e) (chain_runs ls)
-    runs (sum e ls) = then_on (code e) (compiled_chain (columns_of s.header) params ls) (value e) (λ d. chained g params (scope_of s) d ls) (runs e) (chain_runs ls)
+    runs (product e ls) = then_on (code e) (compiled_chain (columns_of s.header) s.names.now params ls) (value e) (λ d. chained g params (scope_of s) d ls) (runs e) (chain_runs ls)
+    runs (sum e ls) = then_on (code e) (compiled_chain (columns_of s.header) s.names.now params ls) (value e) (λ d. chained g params (scope_of s) d ls) (runs e) (chain_runs ls)
     runs (comparing op a b) = two (comparing op a b) a b (runs a) (runs b)
     runs (test e n q) = one_then (code e) (of_one (test e n q)) (value e) (of_operand g (scope_of s) (test e n q)) (runs e) (λ st. refl) (λ d st. refl)
     runs (label_test e n l) = one_then (code e) (of_one (label_test e n l)) (value e) (of_operand g (scope_of s) (label_test e n l)) (runs e) (λ st. refl) (λ d st. refl)
@@ -291,31 +292,31 @@ module _ (g : PropertyGraph) (params : List (List ℕ × Datum)) (s : Scope) whe
         one_then (code e) (of_one (negation e)) (value e) (of_operand g (scope_of s) (negation e)) (runs e) (λ st. refl) (λ d st. refl) os st
         ∙ ap (λ r. r >>= λ d. run os (d ∷ st)) (sym (bind_assoc (value e) truth_in (λ t. Ok (datum_of_truth (negated t)))))
     runs (conjunction e ls) = λ os st.
-        then_on (code e) (as_truth ∷ compiled_all (columns_of s.header) params ls) (value e) (λ d. truth_in d >>= λ t. all_of g params (scope_of s) t ls >>= λ u. Ok (datum_of_truth u)) (runs e)
-        (read_on (compiled_all (columns_of s.header) params ls) (λ t. all_of g params (scope_of s) t ls) (all_runs ls)) os st
+        then_on (code e) (as_truth ∷ compiled_all (columns_of s.header) s.names.now params ls) (value e) (λ d. truth_in d >>= λ t. all_of g params (scope_of s) t ls >>= λ u. Ok (datum_of_truth u)) (runs e)
+        (read_on (compiled_all (columns_of s.header) s.names.now params ls) (λ t. all_of g params (scope_of s) t ls) (all_runs ls)) os st
         ∙ ap (λ r. r >>= λ d. run os (d ∷ st)) (sym (bind_assoc (value e) truth_in (λ t. all_of g params (scope_of s) t ls >>= λ u. Ok (datum_of_truth u))))
     runs (disjunction e ls) = λ os st.
-        then_on (code e) (as_truth ∷ compiled_any (columns_of s.header) params ls) (value e) (λ d. truth_in d >>= λ t. any_of g params (scope_of s) t ls >>= λ u. Ok (datum_of_truth u)) (runs e)
-        (read_on (compiled_any (columns_of s.header) params ls) (λ t. any_of g params (scope_of s) t ls) (any_runs ls)) os st
+        then_on (code e) (as_truth ∷ compiled_any (columns_of s.header) s.names.now params ls) (value e) (λ d. truth_in d >>= λ t. any_of g params (scope_of s) t ls >>= λ u. Ok (datum_of_truth u)) (runs e)
+        (read_on (compiled_any (columns_of s.header) s.names.now params ls) (λ t. any_of g params (scope_of s) t ls) (any_runs ls)) os st
         ∙ ap (λ r. r >>= λ d. run os (d ∷ st)) (sym (bind_assoc (value e) truth_in (λ t. any_of g params (scope_of s) t ls >>= λ u. Ok (datum_of_truth u))))
 
     -- the sides of a chain
-    pub chain_runs : (ls : Links) → RunsOn (compiled_chain (columns_of s.header) params ls) (λ d. chained g params (scope_of s) d ls)
+    pub chain_runs : (ls : Links) → RunsOn (compiled_chain (columns_of s.header) s.names.now params ls) (λ d. chained g params (scope_of s) d ls)
     chain_runs no_links = λ os st d. refl
     chain_runs (more_links (link op e) ls) =
-        side_then (code e) (compiled_chain (columns_of s.header) params ls) op (value e) (λ y. chained g params (scope_of s) y ls) (runs e) (chain_runs ls)
+        side_then (code e) (compiled_chain (columns_of s.header) s.names.now params ls) op (value e) (λ y. chained g params (scope_of s) y ls) (runs e) (chain_runs ls)
 
     -- the sides of AND
-    pub all_runs : (ls : Links) → RunsOnTruth (compiled_all (columns_of s.header) params ls) (λ t. all_of g params (scope_of s) t ls)
+    pub all_runs : (ls : Links) → RunsOnTruth (compiled_all (columns_of s.header) s.names.now params ls) (λ t. all_of g params (scope_of s) t ls)
     all_runs no_links = λ os st t. refl
     all_runs (more_links (link op e) ls) =
-        all_step (code e) (compiled_all (columns_of s.header) params ls) (value e) (λ u. all_of g params (scope_of s) u ls) (runs e) (all_runs ls) (all_of_false g params (scope_of s) ls)
+        all_step (code e) (compiled_all (columns_of s.header) s.names.now params ls) (value e) (λ u. all_of g params (scope_of s) u ls) (runs e) (all_runs ls) (all_of_false g params (scope_of s) ls)
 
     -- the sides of OR and XOR
-    pub any_runs : (ls : Links) → RunsOnTruth (compiled_any (columns_of s.header) params ls) (λ t. any_of g params (scope_of s) t ls)
+    pub any_runs : (ls : Links) → RunsOnTruth (compiled_any (columns_of s.header) s.names.now params ls) (λ t. any_of g params (scope_of s) t ls)
     any_runs no_links = λ os st t. refl
     any_runs (more_links (link op e) ls) =
-        any_step op (code e) (compiled_any (columns_of s.header) params ls) (value e) (λ u. any_of g params (scope_of s) u ls) (runs e) (any_runs ls)
+        any_step op (code e) (compiled_any (columns_of s.header) s.names.now params ls) (value e) (λ u. any_of g params (scope_of s) u ls) (runs e) (any_runs ls)
 
   -- in the end the value stands on top
   pub ends : (e : Tree) → (run (code e) [] >>= top_of) ≡ value e
@@ -347,7 +348,7 @@ ran_past_first g params s is (suc n) (suc count) st h =
 
 -- what a prepared program puts
 pub prepared_value : (g : PropertyGraph) (params : List (List ℕ × Datum)) (s : Scope) (steps : List Op) (e : Tree) (answer : Result CowValue EvalError)
-    → Gives cow_datum answer (next (ran g params s steps []) top_of) → steps ≡ compiled (columns_of s.header) params e → Gives cow_datum answer (value_of g params (scope_of s) e)
+    → Gives cow_datum answer (next (ran g params s steps []) top_of) → steps ≡ compiled (columns_of s.header) s.names.now params e → Gives cow_datum answer (value_of g params (scope_of s) e)
 prepared_value g params s steps e answer given same = rw (← ends g params s e) (rw (← same) given)
 
 -- a program of one step

@@ -1,5 +1,5 @@
 -- Entries by name.
-use Rattle.std.proofs.Common.{◌≡◌, ℕ, zero, suc, ◌+◌, ◌<◌, ◌≤◌, Bool, true, false, cond, List, [], ◌∷◌, ◌++◌, length, map, drop, get_or, min, Option, Some, None, refl, ap, ◌∙◌, arith}
+use Rattle.std.proofs.Common.{◌≡◌, ℕ, zero, suc, ◌+◌, ◌<◌, ◌≤◌, Bool, true, false, cond, List, [], ◌∷◌, ◌++◌, length, map, drop, get_or, min, Option, Some, None, refl, ap, sym, ◌∙◌, arith}
 use Rattle.std.specs.Prelude.{find, option_map, unwrap_or}
 use Rattle.std.proofs.lemmas.Grind.{common_steps}
 use Rattle.gql_values3.specs.Datum.{Datum, null}
@@ -7,12 +7,13 @@ use Rattle.gql_values3.specs.Texts.{same_text}
 use Rattle.gql_values3.specs.Meaning.{datum_of}
 use Rattle.gql_values3.specs.declared.value.Value.{Value}
 use Rattle.gql_values3.specs.declared.table.ColumnKind.{ColumnKind}
-use Rattle.gql_ast.specs.Scope.{Scope, Entry, entry_of, datum_in, group_in, row_scope, holds_group}
+use Rattle.gql_ast.specs.Scope.{Scope, Entry, entry_of, datum_in, datum_of_name, group_in, is_group_name, row_scope, holds_group}
 use Rattle.gql_values3.specs.declared.table.Binding.{Binding}
 use Rattle.gql_eval.specs.declared.scope.Item.{Item}
-use Rattle.gql_eval.specs.Machinery.Places.{place_among}
+use Rattle.gql_eval.specs.Machinery.Places.{place_among, name_among}
+use Rattle.gql_eval.specs.Machinery.Program.{binding_there, bound_there}
 use Rattle.gql_eval.specs.Machinery.ScopeMeaning.{item_entry, column_entry}
-use Rattle.gql_eval.specs.Bound.{bound_scope, bound_entry, bound_datum, is_bound_group}
+use Rattle.gql_eval.specs.Bound.{bound_scope, match_scope, bound_entry, bound_datum, is_bound_group}
 
 -- the first that is there
 abbrev pub first : {A : Type 0} → Option A → Option A → Option A
@@ -48,31 +49,67 @@ column_end (n ∷ ns) [] x (suc i) p = absurd (omega arith)
 column_end (n ∷ ns) (v ∷ vs) x zero p = absurd (omega arith)
 column_end (n ∷ ns) (v ∷ vs) x (suc i) p = column_end ns vs x i (omega arith)
 
--- what the first of a name stands for in a match
-seen : {A B : Type 0} (f : A → B) (b : Bool) (x : A) (r : Option B) (s : Option A) → r ≡ option_map f s → cond b (Some (f x)) r ≡ option_map f (cond b (Some x) s)
-seen f true x r s h = refl
-seen f false x r s h = h
+-- what the names of a match stand for, by their places
+no_binding : (o : Option ℕ) → binding_there [] o ≡ None
+no_binding None = refl
+no_binding (Some i) = refl
 
-abbrev bound_found : List (List ℕ × Binding) → List ℕ → Option (List ℕ × Binding)
-bound_found bs x = find (λ (b : List ℕ × Binding). same_text x b.0) bs
+binding_later : (b : Binding) (bs : List Binding) (o : Option ℕ) → binding_there (b ∷ bs) (option_map suc o) ≡ binding_there bs o
+binding_later b bs None = refl
+binding_later b bs (Some i) = refl
 
-entry_bound : (bs : List (List ℕ × Binding)) (x : List ℕ) → entry_of (bound_scope bs) x ≡ option_map bound_entry (bound_found bs x)
-entry_bound [] x = refl
-entry_bound (b ∷ bs) x = seen bound_entry (same_text x b.0) b (entry_of (bound_scope bs) x) (bound_found bs x) (entry_bound bs x)
+-- over any reading of a binding and of an entry that agree
+module _ {X : Type 0} (of_binding : Binding → X) (of_entry : Entry → X) (default : X) (agree : (n : List ℕ) (b : Binding) → of_entry (bound_entry (n, b)) ≡ of_binding b) where
+  abbrev read_entry : Option Entry → X
+  read_entry o = unwrap_or (option_map of_entry o) default
 
-datum_there : (o : Option (List ℕ × Binding)) → datum_in (option_map bound_entry o) ≡ unwrap_or (option_map bound_datum (option_map (λ (b : List ℕ × Binding). b.1) o)) null
-datum_there None = refl
-datum_there (Some b) = refl
+  abbrev read_binding : Option Binding → X
+  read_binding o = unwrap_or (option_map of_binding o) default
 
-group_there : (o : Option (List ℕ × Binding)) → group_in (option_map bound_entry o) ≡ unwrap_or (option_map is_bound_group (option_map (λ (b : List ℕ × Binding). b.1) o)) false
-group_there None = refl
-group_there (Some b) = refl
+  either : (t : Bool) (n : List ℕ) (b : Binding) (bs : List Binding) (o : Option ℕ) (e : Option Entry) → read_binding (binding_there bs o) ≡ read_entry e
+      → read_binding (binding_there (b ∷ bs) (cond t (Some 0) (option_map suc o))) ≡ read_entry (cond t (Some (bound_entry (n, b))) e)
+  either true n b bs o e same = sym (agree n b)
+  either false n b bs o e same = ap read_binding (binding_later b bs o) ∙ same
 
-pub bound_datum_found : (bs : List (List ℕ × Binding)) (x : List ℕ) → datum_in (entry_of (bound_scope bs) x) ≡ unwrap_or (option_map bound_datum (option_map (λ (b : List ℕ × Binding). b.1) (find (λ (b : List ℕ × Binding). same_text x b.0) bs))) null
-bound_datum_found bs x = ap datum_in (entry_bound bs x) ∙ datum_there (bound_found bs x)
+  placed : (ns : List (List ℕ)) (bs : List Binding) (x : List ℕ) → read_binding (binding_there bs (name_among ns x)) ≡ read_entry (entry_of (match_scope ns bs) x)
+  placed [] bs x = refl
+  placed (n ∷ ns) [] x = ap read_binding (no_binding (name_among (n ∷ ns) x))
+  placed (n ∷ ns) (b ∷ bs) x = either (same_text x n) n b bs (name_among ns x) (entry_of (match_scope ns bs) x) (placed ns bs x)
 
-pub bound_group_found : (bs : List (List ℕ × Binding)) (x : List ℕ) → group_in (entry_of (bound_scope bs) x) ≡ unwrap_or (option_map is_bound_group (option_map (λ (b : List ℕ × Binding). b.1) (find (λ (b : List ℕ × Binding). same_text x b.0) bs))) false
-bound_group_found bs x = ap group_in (entry_bound bs x) ∙ group_there (bound_found bs x)
+datum_read : (o : Option Entry) → unwrap_or (option_map (λ (e : Entry). e.datum) o) null ≡ datum_in o
+datum_read None = refl
+datum_read (Some e) = refl
+
+group_read : (o : Option Entry) → unwrap_or (option_map (λ (e : Entry). e.is_group) o) false ≡ group_in o
+group_read None = refl
+group_read (Some e) = refl
+
+pub bound_placed : (ns : List (List ℕ)) (bs : List Binding) (x : List ℕ) → bound_there bs (name_among ns x) ≡ datum_of_name (match_scope ns bs) x
+bound_placed ns bs x = placed bound_datum (λ e. e.datum) null (λ n b. refl) ns bs x ∙ datum_read (entry_of (match_scope ns bs) x)
+
+pub group_placed : (ns : List (List ℕ)) (bs : List Binding) (x : List ℕ) → unwrap_or (option_map is_bound_group (binding_there bs (name_among ns x))) false ≡ is_group_name (match_scope ns bs) x
+group_placed ns bs x = placed is_bound_group (λ e. e.is_group) false (λ n b. refl) ns bs x ∙ group_read (entry_of (match_scope ns bs) x)
+
+-- what stands at a place of a list
+pub binding_at_place : (bs : List Binding) (i : ℕ) (b : Binding) → i < length bs → b ≡ get_or bs i b → binding_there bs (Some i) ≡ Some b
+binding_at_place [] i b h p = absurd (omega arith)
+binding_at_place (x ∷ xs) zero b h p = ap Some (sym p)
+binding_at_place (x ∷ xs) (suc i) b h p = binding_at_place xs i b (omega arith) p
+
+pub no_binding_at_place : (bs : List Binding) (i : ℕ) → length bs ≤ i → binding_there bs (Some i) ≡ None
+no_binding_at_place [] i h = refl
+no_binding_at_place (x ∷ xs) zero h = absurd (omega arith)
+no_binding_at_place (x ∷ xs) (suc i) h = no_binding_at_place xs i (omega arith)
+
+-- names and what they stand for, put together again
+pub both_again : (bs : List (List ℕ × Binding)) → match_scope (map (λ (b : List ℕ × Binding). b.0) bs) (map (λ (b : List ℕ × Binding). b.1) bs) ≡ bound_scope bs
+both_again [] = refl
+both_again (b ∷ bs) = ap (λ s. bound_entry b ∷ s) (both_again bs)
+
+-- without any
+pub no_bindings : (ns : List (List ℕ)) → match_scope ns [] ≡ []
+no_bindings [] = refl
+no_bindings (n ∷ ns) = refl
 
 -- the items from i on
 abbrev pub items_from : List Item → List ℕ → ℕ → Option Entry

@@ -1,5 +1,5 @@
 -- What the names of a match stand for.
-use Rattle.std.specs.Prelude.{ℕ, Bool, true, false, List, map}
+use Rattle.std.specs.Prelude.{ℕ, Bool, true, false, List, map, zip}
 use Rattle.gql_values3.specs.Datum.{Datum, null, list, node, edge, data_of}
 use Rattle.gql_values3.specs.declared.element.Elem.{Elem}
 use Rattle.gql_values3.specs.declared.element.Elem.TheVariants as elem
@@ -30,3 +30,7 @@ bound_entry b = record { name = b.0; is_group = is_bound_group b.1; datum = boun
 -- the scope of a match
 abbrev pub bound_scope : List (List ℕ × Binding) → Scope
 bound_scope bs = map bound_entry bs
+
+-- the same where names and what they stand for are two lists; what one of them has no partner for is not seen
+abbrev pub match_scope : List (List ℕ) → List Binding → Scope
+match_scope ns bs = bound_scope (zip ns bs)

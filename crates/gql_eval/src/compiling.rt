@@ -4,7 +4,6 @@ ghost use Rattle.std.specs.Prelude.{◌≡◌, [], ◌∷◌, ◌++◌, map, OnO
 ghost use Rattle.gql_ast.specs.Tree.{links_of};
 ghost use Rattle.gql_ast.specs.Meaning.{tree_of, link_of};
 ghost use Rattle.gql_eval.specs.CowValue.{cow_datum};
-ghost use Rattle.gql_eval.specs.Machinery.Places.{place_among};
 ghost use Rattle.gql_eval.specs.Machinery.Program.{compiled, compiled_chain, compiled_all, compiled_any, any_side, is_xor, as_truth, join_any, of_one, of_two};
 ghost use Rattle.gql_eval.specs.Machinery.ScopeMeaning.{columns_of};
 ghost use Rattle.gql_eval.specs.Machinery.InstructionMeaning.{op_of, program_of};
@@ -12,9 +11,10 @@ ghost use Rattle.gql_eval.specs.Machinery.InstructionMeaning.{op_of, program_of}
 use crate::cow::CowValue;
 use crate::instruction::Instruction;
 use crate::leaves::{number_within, parameter};
+use crate::places::places_in;
 use crate::scope::Header;
 use gql_ast::{Expr, Operator, Step};
-use gql_values3::{ColumnKind, OutOfMemory, Params, Text, Value};
+use gql_values3::{OutOfMemory, Params, Text, Value};
 
 // A program is made and kept from its last step on.
 
@@ -22,11 +22,12 @@ use gql_values3::{ColumnKind, OutOfMemory, Params, Text, Value};
 #[cycle(compiling)]
 pub fn compile<'a>(
     header: Header<'a>,
+    names: &'a [Text],
     params: &'a Params,
     expr: &'a Expr,
     program: &mut Vec<Instruction<'a>>,
 ) -> Result<(), OutOfMemory>
-    ensures { OnOk result (program_of program.new.items ≡ compiled (columns_of header.entry) params.now (tree_of expr.now) ++ program_of program.old.items) }
+    ensures { OnOk result (program_of program.new.items ≡ compiled (columns_of header.entry) names.now params.now (tree_of expr.now) ++ program_of program.old.items) }
 {
     match expr {
         Expr::Constant(value) => put(program, Instruction::Fixed(CowValue::Borrowed(value))),
@@ -39,12 +40,15 @@ pub fn compile<'a>(
             Instruction::Fixed(CowValue::Owned(number_within(digits)?)),
         ),
         Expr::Parameter(name) => put(program, Instruction::Fixed(parameter(params, name))),
-        Expr::Name(name) => put(program, Instruction::Name(place_in(header, name), name)),
+        Expr::Name(name) => put(
+            program,
+            Instruction::Name(places_in(header, names, name), name),
+        ),
         Expr::Property(name, key) => put(
             program,
-            Instruction::Property(place_in(header, name), name, key),
+            Instruction::Property(places_in(header, names, name), name, key),
         ),
-        Expr::Paren(part) => compile(header, params, part.expr(), program),
+        Expr::Paren(part) => compile(header, names, params, part.expr(), program),
         Expr::List(_) | Expr::Aggregate(_, _, _) | Expr::Coalesce(_, _) => put(
             program,
             Instruction::Whole(expr),
@@ -54,20 +58,27 @@ pub fn compile<'a>(
         | Expr::Is(part, _, _)
         | Expr::IsLabeled(part, _, _)
         | Expr::IsEnd(part, _, _, _)
-        | Expr::Not(part) => operation(header, params, expr, part.expr(), program),
+        | Expr::Not(part) => operation(header, names, params, expr, part.expr(), program),
         Expr::Mod(a, b) | Expr::Compare(_, a, b) => {
-            binary(header, params, expr, a.expr(), b.expr(), program)
+            binary(header, names, params, expr, a.expr(), b.expr(), program)
         }
         Expr::Product(first, steps) | Expr::Sum(first, steps) => {
-            chain(header, params, first.expr(), steps.as_slice(), program)
+            chain(
+                header,
+                names,
+                params,
+                first.expr(),
+                steps.as_slice(),
+                program,
+            )
         }
         Expr::And(first, steps) => {
-            all_sides(header, params, steps.as_slice(), program)?;
-            put_truth(header, params, first.expr(), program)
+            all_sides(header, names, params, steps.as_slice(), program)?;
+            put_truth(header, names, params, first.expr(), program)
         }
         Expr::Or(first, steps) => {
-            any_sides(header, params, steps.as_slice(), program)?;
-            put_truth(header, params, first.expr(), program)
+            any_sides(header, names, params, steps.as_slice(), program)?;
+            put_truth(header, names, params, first.expr(), program)
         }
     }
 }
@@ -81,77 +92,58 @@ pub fn put<'a>(program: &mut Vec<Instruction<'a>>, step: Instruction<'a>) -> Res
     Ok(())
 }
 
-/// The place of the first column of a name.
-pub fn place_in(header: Header, name: &Text) -> Option<usize>
-    ensures { result ≡ place_among (columns_of header.entry) name.now }
-{
-    match header {
-        Header::Listed(columns) => place_of(columns, name.as_str()),
-        Header::Indexed(heading) => heading.place_of(name.as_str()),
-    }
-}
-
-fn place_of(columns: &[(Text, ColumnKind)], name: &str) -> Option<usize>
-    ensures { result ≡ place_among columns.now name.now }
-{
-    for i in 0..columns.len() {
-        let (column, _) = &columns[i];
-        if name == column.as_str() {
-            return Some(i);
-        }
-    }
-    None
-}
-
 #[inline(never)]
 #[cycle(compiling)]
 fn operation<'a>(
     header: Header<'a>,
+    names: &'a [Text],
     params: &'a Params,
     expr: &'a Expr,
     part: &'a Expr,
     program: &mut Vec<Instruction<'a>>,
 ) -> Result<(), OutOfMemory>
-    ensures { OnOk result (program_of program.new.items ≡ compiled (columns_of header.entry) params.now (tree_of part.now) ++ of_one (tree_of expr.now) ∷ program_of program.old.items) }
+    ensures { OnOk result (program_of program.new.items ≡ compiled (columns_of header.entry) names.now params.now (tree_of part.now) ++ of_one (tree_of expr.now) ∷ program_of program.old.items) }
 {
     put(program, Instruction::OfOne(expr))?;
-    compile(header, params, part, program)
+    compile(header, names, params, part, program)
 }
 
 #[inline(never)]
 #[cycle(compiling)]
 fn binary<'a>(
     header: Header<'a>,
+    names: &'a [Text],
     params: &'a Params,
     expr: &'a Expr,
     a: &'a Expr,
     b: &'a Expr,
     program: &mut Vec<Instruction<'a>>,
 ) -> Result<(), OutOfMemory>
-    ensures { OnOk result (program_of program.new.items ≡ compiled (columns_of header.entry) params.now (tree_of a.now) ++ (compiled (columns_of header.entry) params.now (tree_of b.now) ++ of_two (tree_of expr.now) ∷ program_of program.old.items)) }
+    ensures { OnOk result (program_of program.new.items ≡ compiled (columns_of header.entry) names.now params.now (tree_of a.now) ++ (compiled (columns_of header.entry) names.now params.now (tree_of b.now) ++ of_two (tree_of expr.now) ∷ program_of program.old.items)) }
 {
     put(program, Instruction::OfTwo(expr))?;
-    compile(header, params, b, program)?;
-    compile(header, params, a, program)
+    compile(header, names, params, b, program)?;
+    compile(header, names, params, a, program)
 }
 
 #[inline(never)]
 #[cycle(compiling)]
 fn chain<'a>(
     header: Header<'a>,
+    names: &'a [Text],
     params: &'a Params,
     first: &'a Expr,
     steps: &'a [Step],
     program: &mut Vec<Instruction<'a>>,
 ) -> Result<(), OutOfMemory>
-    ensures { OnOk result (program_of program.new.items ≡ compiled (columns_of header.entry) params.now (tree_of first.now) ++ (compiled_chain (columns_of header.entry) params.now (links_of (map link_of steps.now)) ++ program_of program.old.items)) }
+    ensures { OnOk result (program_of program.new.items ≡ compiled (columns_of header.entry) names.now params.now (tree_of first.now) ++ (compiled_chain (columns_of header.entry) names.now params.now (links_of (map link_of steps.now)) ++ program_of program.old.items)) }
 {
     for i in (0..steps.len()).rev() {
         let step = &steps[i];
         put(program, Instruction::JoinSide(step.operator))?;
-        compile(header, params, &step.operand, program)?;
+        compile(header, names, params, &step.operand, program)?;
     }
-    compile(header, params, first, program)
+    compile(header, names, params, first, program)
 }
 
 /// Puts the steps of a side that is read as a truth.
@@ -159,14 +151,15 @@ fn chain<'a>(
 #[cycle(compiling)]
 fn put_truth<'a>(
     header: Header<'a>,
+    names: &'a [Text],
     params: &'a Params,
     side: &'a Expr,
     program: &mut Vec<Instruction<'a>>,
 ) -> Result<(), OutOfMemory>
-    ensures { OnOk result (program_of program.new.items ≡ compiled (columns_of header.entry) params.now (tree_of side.now) ++ as_truth ∷ program_of program.old.items) }
+    ensures { OnOk result (program_of program.new.items ≡ compiled (columns_of header.entry) names.now params.now (tree_of side.now) ++ as_truth ∷ program_of program.old.items) }
 {
     put(program, Instruction::AsTruth)?;
-    compile(header, params, side, program)
+    compile(header, names, params, side, program)
 }
 
 /// Puts the steps of the sides of AND behind the first.
@@ -174,17 +167,18 @@ fn put_truth<'a>(
 #[cycle(compiling)]
 fn all_sides<'a>(
     header: Header<'a>,
+    names: &'a [Text],
     params: &'a Params,
     steps: &'a [Step],
     program: &mut Vec<Instruction<'a>>,
 ) -> Result<(), OutOfMemory>
-    ensures { OnOk result (program_of program.new.items ≡ compiled_all (columns_of header.entry) params.now (links_of (map link_of steps.now)) ++ program_of program.old.items) }
+    ensures { OnOk result (program_of program.new.items ≡ compiled_all (columns_of header.entry) names.now params.now (links_of (map link_of steps.now)) ++ program_of program.old.items) }
 {
     let behind = program.len();
     for i in (0..steps.len()).rev() {
         let step = &steps[i];
         put(program, Instruction::JoinAll)?;
-        compile(header, params, &step.operand, program)?;
+        compile(header, names, params, &step.operand, program)?;
         let count = program.len() - behind;
         put(program, Instruction::SkipIf(false, count))?;
     }
@@ -196,15 +190,16 @@ fn all_sides<'a>(
 #[cycle(compiling)]
 fn any_sides<'a>(
     header: Header<'a>,
+    names: &'a [Text],
     params: &'a Params,
     steps: &'a [Step],
     program: &mut Vec<Instruction<'a>>,
 ) -> Result<(), OutOfMemory>
-    ensures { OnOk result (program_of program.new.items ≡ compiled_any (columns_of header.entry) params.now (links_of (map link_of steps.now)) ++ program_of program.old.items) }
+    ensures { OnOk result (program_of program.new.items ≡ compiled_any (columns_of header.entry) names.now params.now (links_of (map link_of steps.now)) ++ program_of program.old.items) }
 {
     for i in (0..steps.len()).rev() {
         let step = &steps[i];
-        put_any_side(header, params, step.operator, &step.operand, program)?;
+        put_any_side(header, names, params, step.operator, &step.operand, program)?;
     }
     Ok(())
 }
@@ -214,16 +209,17 @@ fn any_sides<'a>(
 #[cycle(compiling)]
 fn put_any_side<'a>(
     header: Header<'a>,
+    names: &'a [Text],
     params: &'a Params,
     operator: Operator,
     side: &'a Expr,
     program: &mut Vec<Instruction<'a>>,
 ) -> Result<(), OutOfMemory>
-    ensures { OnOk result (program_of program.new.items ≡ any_side operator (compiled (columns_of header.entry) params.now (tree_of side.now) ++ join_any operator ∷ []) ++ program_of program.old.items) }
+    ensures { OnOk result (program_of program.new.items ≡ any_side operator (compiled (columns_of header.entry) names.now params.now (tree_of side.now) ++ join_any operator ∷ []) ++ program_of program.old.items) }
 {
     let behind = program.len();
     put(program, Instruction::JoinAny(operator))?;
-    compile(header, params, side, program)?;
+    compile(header, names, params, side, program)?;
     if is_xor(operator) {
         return Ok(());
     }

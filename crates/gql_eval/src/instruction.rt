@@ -1,6 +1,7 @@
 //! The steps that an expression is made into.
 
 use crate::cow::CowValue;
+use crate::places::Places;
 use gql_ast::{Expr, Operator};
 use gql_values3::Text;
 
@@ -9,10 +10,10 @@ use gql_values3::Text;
 pub enum Instruction<'a> {
     /// Puts the value on top.
     Fixed(CowValue<'a>),
-    /// Puts what the name stands for. The place is that of the first column of the name.
-    Name(Option<usize>, &'a Text),
+    /// Puts what the name stands for, by its places.
+    Name(Places, &'a Text),
     /// Puts a property of what the name stands for.
-    Property(Option<usize>, &'a Text, &'a Text),
+    Property(Places, &'a Text, &'a Text),
     /// Puts what the expression makes of its operand.
     OfOne(&'a Expr),
     /// Puts what the expression makes of its two operands.

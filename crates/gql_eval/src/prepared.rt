@@ -1,12 +1,12 @@
 //! An expression that is prepared once and then evaluated in many rows.
 
-ghost use Rattle.std.specs.Prelude.{◌≡◌, ◌++◌, map, IfOk};
+ghost use Rattle.std.specs.Prelude.{◌≡◌, [], ◌++◌, map, IfOk};
 ghost use Rattle.gql_values3.specs.Meaning.{datum_of};
 ghost use Rattle.gql_ast.specs.Meaning.{tree_of};
 ghost use Rattle.gql_ast.specs.Scope.{row_scope};
 ghost use Rattle.gql_ast.specs.TruthValues.{truth_in};
 ghost use Rattle.gql_ast.specs.Evaluation.{value_of, pattern_truth};
-ghost use Rattle.gql_eval.specs.Bound.{bound_scope};
+ghost use Rattle.gql_eval.specs.Bound.{match_scope};
 ghost use Rattle.gql_eval.specs.CowValue.{cow_datum};
 ghost use Rattle.gql_eval.specs.Gives.{Gives};
 ghost use Rattle.gql_eval.specs.Machinery.Next.{next};
@@ -24,10 +24,12 @@ use gql_values3::{Binding, OutOfMemory, Params, Text, Truth, Value, View};
 use std::alloc::Global;
 use std::marker::Model;
 
-/// An expression prepared for the rows under some columns, and for parameters. It is seen as these three.
+/// An expression prepared for the rows under some columns, for the names of a match behind them, and for parameters. It is seen as
+/// these four.
 #[derive(Drop)]
 pub struct Prepared<'a> {
     header: Header<'a>,
+    names: &'a [Text],
     params: &'a Params,
     expr: &'a Expr,
     program: Vec<Instruction<'a>>,
@@ -46,30 +48,45 @@ impl<'a> Model for Prepared<'a> {
 
     ghost coded = { Prim.hlevel (codes, coded_datum, coded_tree) };
 
-    ghost view = { λ p. record { columns = columns_of p.header; params = p.params.now; tree = tree_of p.expr.now } };
+    ghost view = { λ p. record { columns = columns_of p.header; names = p.names.now; params = p.params.now; tree = tree_of p.expr.now } };
 
     ghost use Rattle.std.specs.Prelude.{◌≡◌};
     ghost use Rattle.gql_eval.specs.Machinery.Program.{compiled};
     ghost use Rattle.gql_eval.specs.Machinery.InstructionMeaning.{program_of};
 
-    ghost invariant = { λ p. program_of p.program.items ≡ compiled (columns_of p.header) p.params.now (tree_of p.expr.now) };
+    ghost invariant = { λ p. program_of p.program.items ≡ compiled (columns_of p.header) p.names.now p.params.now (tree_of p.expr.now) };
 }
 
 impl<'a> Prepared<'a> {
-    /// Prepares the expression. Columns that it does not name don't matter; `Header::Indexed` is for many of them.
-    #[tactic(auto, using(crate::proofs::ScopeLemmas::append_none))]
+    /// Prepares the expression for rows alone. Columns that it does not name don't matter; `Header::Indexed` is for many
+    /// of them.
     pub fn new(
         alloc: Global,
         header: Header<'a>,
         params: &'a Params,
         expr: &'a Expr,
     ) -> Result<Prepared<'a>, OutOfMemory>
-        ensures { IfOk result (λ p. p ≡ record { columns = columns_of header.entry; params = params.now; tree = tree_of expr.now }) }
+        ensures { IfOk result (λ p. p ≡ record { columns = columns_of header.entry; names = []; params = params.now; tree = tree_of expr.now }) }
+    {
+        Prepared::for_match(alloc, header, &[], params, expr)
+    }
+
+    /// Prepares the expression for matches that have these names behind the columns of the row.
+    #[tactic(auto, using(crate::proofs::ScopeLemmas::append_none))]
+    pub fn for_match(
+        alloc: Global,
+        header: Header<'a>,
+        names: &'a [Text],
+        params: &'a Params,
+        expr: &'a Expr,
+    ) -> Result<Prepared<'a>, OutOfMemory>
+        ensures { IfOk result (λ p. p ≡ record { columns = columns_of header.entry; names = names.now; params = params.now; tree = tree_of expr.now }) }
     {
         let mut program = Vec::new(alloc);
-        compile(header, params, expr, &mut program)?;
+        compile(header, names, params, expr, &mut program)?;
         Ok(Prepared {
             header,
+            names,
             params,
             expr,
             program,
@@ -78,7 +95,7 @@ impl<'a> Prepared<'a> {
 
     /// The value over a graph and a row, or its first fault. Values past the last column and columns past the last
     /// value are not seen. What is lent stands in the graph, in the row, or in what was prepared.
-    #[tactic(auto, using(crate::proofs::ScopeLemmas::append_none))]
+    #[tactic(auto, using(crate::proofs::ScopeLemmas::append_none, crate::proofs::ScopeLemmas::no_bindings))]
     pub fn value<'r, V: View>(
         &'r self,
         alloc: Global,
@@ -90,37 +107,38 @@ impl<'a> Prepared<'a> {
         self.value_beside(alloc, view, row, &[])
     }
 
-    /// The same where names of a match stand behind the columns.
+    /// The same where the names of the match stand for these, in their order; a name without one is not seen.
     #[tactic(auto, unfolding(crate::specs::Machinery::ScopeMeaning::scope_of, crate::specs::Machinery::ScopeMeaning::rest_of))]
     pub fn value_beside<'r, V: View>(
         &'r self,
         alloc: Global,
         view: &'r V,
         row: &'r [Value],
-        bound: &'r [(Text, Binding)],
+        bound: &'r [Binding],
     ) -> Result<CowValue<'r>, EvalError>
-        ensures { Gives cow_datum result (value_of (V.graph view.now) self.now.params (row_scope self.now.columns (map datum_of row.now) ++ bound_scope bound.now) self.now.tree) }
+        ensures { Gives cow_datum result (value_of (V.graph view.now) self.now.params (row_scope self.now.columns (map datum_of row.now) ++ match_scope self.now.names bound.now) self.now.tree) }
     {
         let scope = Scope {
             front: &[],
             header: self.header,
             row,
+            names: self.names,
             bound,
         };
         let program = self.program.as_slice();
         value_of_program(alloc, view, &scope, self.params, self.expr, program)
     }
 
-    /// The truth of the expression as a predicate inside a path pattern, whose matches have these names beside the
-    /// columns. Every fault is Unknown.
+    /// The truth of the expression as a predicate inside a path pattern, where the names of the match stand for these.
+    /// Every fault is Unknown.
     pub fn holds_beside<V: View>(
         &self,
         alloc: Global,
         view: &V,
         row: &[Value],
-        bound: &[(Text, Binding)],
+        bound: &[Binding],
     ) -> Result<Truth, OutOfMemory>
-        ensures { IfOk result (λ truth. truth ≡ pattern_truth (V.graph view.now) self.now.params (row_scope self.now.columns (map datum_of row.now) ++ bound_scope bound.now) self.now.tree) }
+        ensures { IfOk result (λ truth. truth ≡ pattern_truth (V.graph view.now) self.now.params (row_scope self.now.columns (map datum_of row.now) ++ match_scope self.now.names bound.now) self.now.tree) }
     {
         match self.truth_beside(alloc, view, row, bound) {
             Ok(truth) => Ok(truth),
@@ -135,9 +153,9 @@ impl<'a> Prepared<'a> {
         alloc: Global,
         view: &V,
         row: &[Value],
-        bound: &[(Text, Binding)],
+        bound: &[Binding],
     ) -> Result<Truth, EvalError>
-        ensures { Gives (λ t. t) result (next (value_of (V.graph view.now) self.now.params (row_scope self.now.columns (map datum_of row.now) ++ bound_scope bound.now) self.now.tree) truth_in) }
+        ensures { Gives (λ t. t) result (next (value_of (V.graph view.now) self.now.params (row_scope self.now.columns (map datum_of row.now) ++ match_scope self.now.names bound.now) self.now.tree) truth_in) }
     {
         let value = self.value_beside(alloc, view, row, bound)?;
         Ok(truth_of_value(value.value())?)

@@ -23,6 +23,7 @@ use crate::evaluation::value_in;
 use crate::instruction::Instruction;
 use crate::operations::{binary_value, operation_value};
 use crate::operators::operate;
+use crate::places::Places;
 use crate::scope::{Scope, held_at};
 use crate::stack::{Stack, StackValue};
 use crate::truths::{join_truths, truth_of_value, truth_value};
@@ -39,7 +40,7 @@ pub fn value_of_program<'r, V: View>(
     expr: &'r Expr,
     program: &'r [Instruction<'r>],
 ) -> Result<CowValue<'r>, EvalError>
-    requires { program_of program.now ≡ compiled (columns_of scope.now.header) params.now (tree_of expr.now) }
+    requires { program_of program.now ≡ compiled (columns_of scope.now.header) scope.now.names.now params.now (tree_of expr.now) }
     ensures { Gives cow_datum result (value_of (V.graph view.now) params.now (scope_of scope.now) (tree_of expr.now)) }
 {
     // The expression is there for the contract alone.
@@ -80,7 +81,7 @@ fn run_one<'r, V: View>(
 {
     match instruction {
         Instruction::Fixed(value) => Ok(CowValue::Borrowed(value.value())),
-        Instruction::Name(place, name) => Ok(held_at(alloc, scope, *place, *name)?),
+        Instruction::Name(places, name) => Ok(held_at(alloc, scope, *places, *name)?),
         Instruction::Whole(expr) => value_in(alloc, view, scope, params, *expr),
         _ => run_alone(alloc, view, scope, params, instruction),
     }
@@ -160,9 +161,9 @@ fn run_instruction<'r, V: View>(
 {
     match instruction {
         Instruction::Fixed(value) => put(stack, CowValue::Borrowed(value.value())),
-        Instruction::Name(place, name) => put_name(alloc, scope, *place, *name, stack),
-        Instruction::Property(place, name, key) => {
-            put_property(alloc, view, scope, *place, *name, *key, stack)
+        Instruction::Name(places, name) => put_name(alloc, scope, *places, *name, stack),
+        Instruction::Property(places, name, key) => {
+            put_property(alloc, view, scope, *places, *name, *key, stack)
         }
         Instruction::OfOne(expr) => on_top(alloc, view, scope, *expr, stack),
         Instruction::OfTwo(expr) => on_both(*expr, stack),
@@ -186,13 +187,13 @@ fn put<'r>(stack: &mut Stack<'r>, value: CowValue<'r>) -> Result<(), EvalError>
 fn put_name<'r>(
     alloc: Global,
     scope: &Scope<'r>,
-    place: Option<usize>,
+    places: Places,
     name: &Text,
     stack: &mut Stack<'r>,
 ) -> Result<(), EvalError>
-    ensures { Gives (λ _. stack.new) result (Ok (held_at scope.now place name.now ∷ stack.old)) }
+    ensures { Gives (λ _. stack.new) result (Ok (held_at scope.now places name.now ∷ stack.old)) }
 {
-    let value = held_at(alloc, scope, place, name)?;
+    let value = held_at(alloc, scope, places, name)?;
     put(stack, value)
 }
 
@@ -201,14 +202,14 @@ fn put_property<'r, V: View>(
     alloc: Global,
     view: &'r V,
     scope: &Scope<'r>,
-    place: Option<usize>,
+    places: Places,
     name: &Text,
     key: &Text,
     stack: &mut Stack<'r>,
 ) -> Result<(), EvalError>
-    ensures { Gives (λ _. stack.new) result (pushed stack.old (property_value (V.graph view.now) (held_at scope.now place name.now) key.now)) }
+    ensures { Gives (λ _. stack.new) result (pushed stack.old (property_value (V.graph view.now) (held_at scope.now places name.now) key.now)) }
 {
-    let element = held_at(alloc, scope, place, name)?;
+    let element = held_at(alloc, scope, places, name)?;
     let value = property(view, element.value(), key)?;
     put(stack, value)
 }

@@ -1,11 +1,10 @@
 -- The loops over operators and commas.
-use Rattle.std.proofs.Common.{◌≡◌, Bool, true, false, cond, ℕ, suc, List, [], ◌∷◌, ◌++◌, length, Option, Some, None, refl, sym, ap, ◌∙◌}
+use Rattle.std.proofs.Common.{◌≡◌, ℕ, suc, List, [], ◌∷◌, ◌++◌, length, Option, Some, None, refl, sym, ap, ◌∙◌}
 use Rattle.gql_lexer.specs.declared.lexeme.Lexeme.{Lexeme}
 use Rattle.gql_ast.specs.Tree.{Tree, Link, link}
 use Rattle.gql_exprs.specs.declared.chain.Chain.{Chain}
 use Rattle.gql_exprs.specs.declared.chain.Chain.TheVariants as level
-use Rattle.gql_lexer.specs.SymbolPlaces.{comma}
-use Rattle.gql_front.specs.Reading.{◌>>=◌, Reader, is_sign, after, op_at, before, step, many, sequence}
+use Rattle.gql_front.specs.Reading.{◌>>=◌, Reader, step, many, sequence}
 use Rattle.gql_front.proofs.Loops.{with_front, loop_stops, loop_goes_on}
 use Rattle.gql_front.proofs.Found.{Shrinks, step_shrinks}
 use Rattle.gql_exprs.specs.Grammar.{at_signed, at_product, at_not, at_and}
@@ -69,21 +68,3 @@ others_stop front ts total e so_far = so_far ∙ ap (λ (z : List Tree × List L
 pub others_next : (front : List Tree) (ts : List Lexeme) (x : Tree) (r : List Lexeme) (total : Option (List Tree × List Lexeme)) → step comma_op read_expr operand ts ≡ Some (x, r)
     → total ≡ Some (with_front front (others_from ts)) → total ≡ Some (with_front (front ++ x ∷ []) (others_from r))
 others_next front ts x r total e so_far = so_far ∙ ap (λ (z : List Tree × List Lexeme). Some z) (loop_goes_on (step comma_op read_expr operand) (step_shrinks comma_op read_expr operand expr_shrinks) front ts x r e)
-
--- a comma as a test and as an operator
-abbrev behind : List Lexeme → Option (Unit {0} × List Lexeme)
-behind r = Some (tt, r)
-
-comma_at : (ts : List Lexeme) → op_at comma_op ts ≡ (after (is_sign comma) ts >>= behind)
-comma_at [] = refl
-comma_at (t ∷ ts) = go (is_sign comma t)
-  where
-    go : (b : Bool) → ((cond b (Some tt) None) >>= before ts) ≡ ((cond b (Some ts) None) >>= behind)
-    go true = refl
-    go false = refl
-
-pub comma_none : (ts : List Lexeme) → after (is_sign comma) ts ≡ None → op_at comma_op ts ≡ None
-comma_none ts e = comma_at ts ∙ rw e refl
-
-pub comma_some : (ts r : List Lexeme) → after (is_sign comma) ts ≡ Some r → op_at comma_op ts ≡ Some (tt, r)
-comma_some ts r e = comma_at ts ∙ rw e refl

@@ -1,3 +1,4 @@
+pub mod ChainLoops
 pub mod LabelLevels
 pub mod LabelChains
 pub mod LabelFronts

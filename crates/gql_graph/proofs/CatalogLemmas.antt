@@ -2,12 +2,9 @@
 use Rattle.std.proofs.Common.{◌≡◌, ◌∙◌, ℕ, suc, ◌<◌, ◌≤◌, nat_lt, cond, Bool, true, false, ◌&&◌, List, [], ◌∷◌, map, length, get_or, None, Some, refl, sym, ap, arith}
 use Rattle.std.specs.Prelude.{find, option_map, position, slice_set}
 use Rattle.std.specs.List.{list_all, position_or_len}
-use Rattle.std.specs.declared.cmp.Ordering.{Ordering}
-use Rattle.std.specs.declared.cmp.Ordering.TheVariants.{Less, Equal, Greater}
-use Rattle.std.specs.Ordering.{is_lt, nat_cmp}
-use Rattle.std.specs.Cmp.Lexicographic.{slice_cmp}
+use Rattle.std.specs.declared.cmp.Ordering.TheVariants.{Less}
 use Rattle.std.specs.Cmp.Lexicographic as texts
-use Rattle.std.proofs.lemmas.Cmp.{tied_itself, nat_list_cmp_total}
+use Rattle.std.proofs.lemmas.Cmp.{nat_list_cmp_total}
 use Rattle.gql_values3.specs.Texts.{same_text, ascend_above, texts_ascend}
 use Rattle.std.proofs.lemmas.Grind.{common_steps}
 use Rattle.std.proofs.lemmas.Bool.Decides.{nat_tests}
@@ -17,29 +14,13 @@ use Rattle.gql_graph.specs.Room.{GraphInMemory}
 use Rattle.gql_graph.specs.Bare.{bare}
 use Rattle.gql_graph.specs.declared.graph_type.GraphType.{GraphType}
 use Rattle.gql_graph.specs.declared.held.Held.{Held}
+use Rattle.gql_graph.proofs.AscendingTexts.{text_cmp, first_above, rest_above, above_ascends, apart}
 use Rattle.gql_graph.proofs.GraphLemmas.{first_true, second_true}
 
 -- what is found by the name is the same
 pub find-bare : (p : List ℕ → Bool) (gs : List (List ℕ × Held)) → option_map (λ (g : GraphInMemory). g.graph) (option_map (λ (g : List ℕ × Held). g.1.graph) (find (λ (g : List ℕ × Held). p g.0) gs)) ≡ option_map (λ (g : List ℕ × CatalogGraph). g.1.graph) (find (λ (g : List ℕ × CatalogGraph). p g.0) (map bare gs))
 find-bare p [] = refl
 find-bare p (g ∷ gs) = grind (arith, common_steps, find-bare p gs)
-
-abbrev order : List ℕ → List ℕ → Ordering
-order a b = slice_cmp nat_cmp a b
-
-is_less : (o : Ordering) → is_lt o ≡ true → o ≡ Less
-is_less Less lt = refl
-is_less Equal lt = absurd (cc)
-is_less Greater lt = absurd (cc)
-
--- a text is not below itself
-not_same : (a b : List ℕ) (r : Bool) → r ≡ same_text a b → is_lt (order a b) ≡ true → r ≡ false
-not_same a b false is lt = refl
-not_same a b true is lt =
-    let same : a ≡ b = texts.same_text a b is in
-    let tied : order a a ≡ Equal = tied_itself nat_list_cmp_total a in
-    let less : order a a ≡ Less = ap (λ (x : List ℕ). order a x) same ∙ is_less _ lt in
-    absurd (cc)
 
 -- one graph in the place of that of the name
 abbrev put : List ℕ → PropertyGraph → List (List ℕ × CatalogGraph) → List (List ℕ × CatalogGraph)
@@ -72,17 +53,12 @@ in_front l n i found = told (nat_lt l n) refl found
 
 module _ (name : List ℕ) (graph : PropertyGraph) where
   -- behind the name no graph has it
-  rest_stays : (low : List ℕ) (gs : List (List ℕ × Held)) → ((c : List ℕ) → is_lt (order low c) ≡ true → is_lt (order name c) ≡ true) → ascend_above low (names gs) ≡ true → put name graph (map bare gs) ≡ map bare gs
+  rest_stays : (low : List ℕ) (gs : List (List ℕ × Held)) → ((c : List ℕ) → text_cmp low c ≡ Less → text_cmp name c ≡ Less) → ascend_above low (names gs) ≡ true → put name graph (map bare gs) ≡ map bare gs
   rest_stays low [] below up = refl
   rest_stays low (g ∷ gs) below up =
-      let less : is_lt (order name g.0) ≡ true = below g.0 (first_true _ (ascend_above g.0 (names gs)) up) in
-      let apart : same_text name g.0 ≡ false = not_same name g.0 _ refl less in
-      let rest = rest_stays g.0 gs (λ c lt. ap is_lt (nat_list_cmp_total.trans name g.0 c (is_less _ less) (is_less _ lt))) (second_true (is_lt (order low g.0)) _ up) in
-      rw apart (ap (λ xs. bare g ∷ xs) rest)
-
-  rest_ascends : (low : List ℕ) (ts : List (List ℕ)) → ascend_above low ts ≡ true → texts_ascend ts ≡ true
-  rest_ascends low [] up = refl
-  rest_ascends low (t ∷ ts) up = second_true (is_lt (order low t)) _ up
+      let less : text_cmp name g.0 ≡ Less = below g.0 (first_above low g.0 (names gs) up) in
+      let rest = rest_stays g.0 gs (λ c lt. nat_list_cmp_total.trans name g.0 c less lt) (rest_above low g.0 (names gs) up) in
+      rw (apart name g.0 less) (ap (λ xs. bare g ∷ xs) rest)
 
   abbrev named : List ℕ × Held → Bool
   named g = same_text name g.0
@@ -100,18 +76,18 @@ module _ (name : List ℕ) (graph : PropertyGraph) where
 
   changes : (gs : List (List ℕ × Held)) (room : GraphInMemory) (x : List ℕ × Held) → room.graph ≡ graph → texts_ascend (names gs) ≡ true → position_or_len named gs < length gs → x ≡ get_or gs (position_or_len named gs) x → map bare (slice_set gs (position_or_len named gs) (with_room room x)) ≡ put name graph (map bare gs)
   changes [] room x is up within here = absurd (omega arith)
-  changes (g ∷ gs) room x is up within here = told (same_text name g.0) refl (λ within here. changes gs room x is (rest_ascends g.0 (names gs) up) within here)
+  changes (g ∷ gs) room x is up within here = told (same_text name g.0) refl (λ within here. changes gs room x is (above_ascends g.0 (names gs) up) within here)
     where
       told : (b : Bool) → same_text name g.0 ≡ b → (position_or_len named gs < length gs → x ≡ get_or gs (position_or_len named gs) x → map bare (slice_set gs (position_or_len named gs) (with_room room x)) ≡ put name graph (map bare gs)) → map bare (slice_set (g ∷ gs) (position_or_len named (g ∷ gs)) (with_room room x)) ≡ put name graph (map bare (g ∷ gs))
       told true same further =
-          let last : put name graph (map bare gs) ≡ map bare gs = rest_stays g.0 gs (λ c lt. ap (λ (n : List ℕ). is_lt (order n c)) (texts.same_text name g.0 (sym same)) ∙ lt) up in
+          let last : put name graph (map bare gs) ≡ map bare gs = rest_stays g.0 gs (λ c lt. ap (λ (n : List ℕ). text_cmp n c) (texts.same_text name g.0 (sym same)) ∙ lt) up in
           let put_here = first_put room g x is (rw same at here) in
           rw same (rw (last, put_here) refl)
-      told false apart further =
-          let past = behind_first named g gs apart in
+      told false other further =
+          let past = behind_first named g gs other in
           let far : position_or_len named gs < length gs = let lt = rw past at within in omega (arith, lt) in
           let rest = further far (rw past at here) in
-          rw (past, apart) (ap (λ xs. bare g ∷ xs) rest)
+          rw (past, other) (ap (λ xs. bare g ∷ xs) rest)
 
   -- where no graph has the name, all stay
   pub put_nowhere : (gs : List (List ℕ × Held)) → None ≡ position named gs → map bare gs ≡ put name graph (map bare gs)

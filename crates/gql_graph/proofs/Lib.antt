@@ -2,6 +2,7 @@ pub mod NumberLemmas
 pub mod SearchLemmas
 pub mod PropertyLemmas
 pub mod GraphLemmas
+pub mod AscendingTexts
 pub mod CatalogLemmas
 pub mod NamedLemmas
 pub mod CatalogEdits

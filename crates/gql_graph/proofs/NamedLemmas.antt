@@ -1,16 +1,15 @@
 -- Lists of what has a name, with one more item and without one: what they are with each item seen otherwise, and that they
 -- stay in order.
 use Rattle.std.proofs.Common.{◌≡◌, ◌∙◌, ℕ, suc, ◌+◌, ◌≤◌, cond, Bool, true, false, not, ◌&&◌, List, [], ◌∷◌, map, length, Option, None, Some, refl, ap, arith}
-use Rattle.std.specs.Prelude.{find, option_map}
+use Rattle.std.specs.Prelude.{find, filter, option_map}
 use Rattle.std.specs.List.{list_all, position_or_len, insert}
 use Rattle.std.specs.declared.cmp.Ordering.{Ordering}
 use Rattle.std.specs.declared.cmp.Ordering.TheVariants.{Less, Equal, Greater}
-use Rattle.std.specs.Ordering.{is_lt, is_eq, nat_cmp, ordering_reverse}
-use Rattle.std.specs.Cmp.Lexicographic.{slice_cmp, texts_ties}
+use Rattle.std.specs.Ordering.{is_lt}
 use Rattle.std.proofs.lemmas.Bool.{and_from, and_parts}
-use Rattle.std.proofs.lemmas.Cmp.{nat_list_cmp_total}
 use Rattle.gql_values3.specs.Texts.{same_text, ascend_above, texts_ascend}
 use Rattle.gql_graph.specs.Catalog.{named, is_before, put_named, without_named}
+use Rattle.gql_graph.proofs.AscendingTexts.{text_cmp, turned, tied, texts_ascend-filter}
 use Rattle.gql_graph.proofs.CatalogLemmas.{names}
 
 -- the place of a search
@@ -66,30 +65,11 @@ module _ {X Y : Type 0} (f : X → Y) where
       either_list (not (same_text name y.0)) (y ∷ without_named name ys) (without_named name ys) (under y ∷ without_named name (map under ys)) (without_named name (map under ys))
       (ap (λ zs. under y ∷ zs) (without_under name ys)) (without_under name ys)
 
-abbrev order : List ℕ → List ℕ → Ordering
-order a b = slice_cmp nat_cmp a b
-
-less_if : (o : Ordering) → is_lt o ≡ true → o ≡ Less
-less_if Less p = refl
-less_if Equal p = absurd (cc)
-less_if Greater p = absurd (cc)
-
 -- of two names that differ, one is below the other
-other_way : (o : Ordering) (a b : List ℕ) → order a b ≡ o → is_lt o ≡ false → same_text a b ≡ false → is_before b a ≡ true
+other_way : (o : Ordering) (a b : List ℕ) → text_cmp a b ≡ o → is_lt o ≡ false → same_text a b ≡ false → is_before b a ≡ true
 other_way Less a b e below apart = absurd (cc)
-other_way Equal a b e below apart = let tie : same_text a b ≡ true = texts_ties a b ∙ ap is_eq e in absurd (cc)
-other_way Greater a b e below apart = ap is_lt (nat_list_cmp_total.antisymm b a ∙ ap ordering_reverse e)
-
--- a lower bound serves too
-lower : (low k : List ℕ) (ks : List (List ℕ)) → is_before low k ≡ true → ascend_above k ks ≡ true → ascend_above low ks ≡ true
-lower low k [] p h = refl
-lower low k (j ∷ js) p h =
-    let parts = and_parts (is_before k j) (ascend_above j js) h in
-    and_from (is_before low j) (ascend_above j js) (ap is_lt (nat_list_cmp_total.trans low k j (less_if (order low k) p) (less_if (order k j) parts.0))) parts.1
-
-above_ascends : (low : List ℕ) (ks : List (List ℕ)) → ascend_above low ks ≡ true → texts_ascend ks ≡ true
-above_ascends low [] h = refl
-above_ascends low (k ∷ ks) h = (and_parts (is_before low k) (ascend_above k ks) h).1
+other_way Equal a b e below apart = let tie : same_text a b ≡ true = tied a b e in absurd (cc)
+other_way Greater a b e below apart = ap is_lt (turned a b e)
 
 -- under a name that nothing has
 module _ {X : Type 0} (name : List ℕ) where
@@ -110,7 +90,7 @@ module _ {X : Type 0} (name : List ℕ) where
         (and_from (is_before name y.0) (ascend_above y.0 (names ys)) e ((and_parts (is_before low y.0) (ascend_above y.0 (names ys)) up).1))
     above_case false low y ys e p apart up more =
         let parts = and_parts (is_before low y.0) (ascend_above y.0 (names ys)) up in
-        and_from (is_before low y.0) (ascend_above y.0 (names (put_named name x ys))) parts.0 (more (other_way (order name y.0) name y.0 refl e apart) parts.1)
+        and_from (is_before low y.0) (ascend_above y.0 (names (put_named name x ys))) parts.0 (more (other_way (text_cmp name y.0) name y.0 refl e apart) parts.1)
 
     put_above : (low : List ℕ) (ys : List (List ℕ × X)) → is_before low name ≡ true → named name ys ≡ None → ascend_above low (names ys) ≡ true → ascend_above low (names (put_named name x ys)) ≡ true
     put_above low [] p none up = and_from (is_before low name) true p refl
@@ -121,7 +101,7 @@ module _ {X : Type 0} (name : List ℕ) where
     front_case : (b : Bool) (y : List ℕ × X) (ys : List (List ℕ × X)) → is_before name y.0 ≡ b → same_text name y.0 ≡ false → ascend_above y.0 (names ys) ≡ true
         → (is_before y.0 name ≡ true → ascend_above y.0 (names (put_named name x ys)) ≡ true) → texts_ascend (names (cond b ((name, x) ∷ y ∷ ys) (y ∷ put_named name x ys))) ≡ true
     front_case true y ys e apart up more = and_from (is_before name y.0) (ascend_above y.0 (names ys)) e up
-    front_case false y ys e apart up more = more (other_way (order name y.0) name y.0 refl e apart)
+    front_case false y ys e apart up more = more (other_way (text_cmp name y.0) name y.0 refl e apart)
 
     pub names_ascend-put : (ys : List (List ℕ × X)) → named name ys ≡ None → texts_ascend (names ys) ≡ true → texts_ascend (names (put_named name x ys)) ≡ true
     names_ascend-put [] none up = refl
@@ -140,26 +120,16 @@ module _ {X : Type 0} (name : List ℕ) where
     list_all-put q (y ∷ ys) one all =
         all_case q (is_before name y.0) y ys (put_named name x ys) one all (list_all-put q ys one ((and_parts (q y) (list_all q ys) all).1))
 
-  kept_case : (b : Bool) (low : List ℕ) (y : List ℕ × X) (ys zs : List (List ℕ × X)) → ascend_above low (names (y ∷ ys)) ≡ true
-      → ((bound : List ℕ) → ascend_above bound (names ys) ≡ true → ascend_above bound (names zs) ≡ true) → ascend_above low (names (cond b (y ∷ zs) zs)) ≡ true
-  kept_case true low y ys zs up more =
-      let parts = and_parts (is_before low y.0) (ascend_above y.0 (names ys)) up in
-      and_from (is_before low y.0) (ascend_above y.0 (names zs)) parts.0 (more y.0 parts.1)
-  kept_case false low y ys zs up more =
-      let parts = and_parts (is_before low y.0) (ascend_above y.0 (names ys)) up in
-      more low (lower low y.0 (names ys) parts.0 parts.1)
+  kept_names : (b : Bool) (y : List ℕ × X) (ys : List (List ℕ × X)) (ks : List (List ℕ)) → names ys ≡ ks → names (cond b (y ∷ ys) ys) ≡ cond b (y.0 ∷ ks) ks
+  kept_names true y ys ks h = ap (λ js. y.0 ∷ js) h
+  kept_names false y ys ks h = h
 
-  without_above : (low : List ℕ) (ys : List (List ℕ × X)) → ascend_above low (names ys) ≡ true → ascend_above low (names (without_named name ys)) ≡ true
-  without_above low [] up = refl
-  without_above low (y ∷ ys) up = kept_case (not (same_text name y.0)) low y ys (without_named name ys) up (λ bound h. without_above bound ys h)
-
-  first_case : (b : Bool) (y : List ℕ × X) (zs : List (List ℕ × X)) → ascend_above y.0 (names zs) ≡ true → texts_ascend (names (cond b (y ∷ zs) zs)) ≡ true
-  first_case true y zs up = up
-  first_case false y zs up = above_ascends y.0 (names zs) up
+  pub names-without : (ys : List (List ℕ × X)) → names (without_named name ys) ≡ filter (λ k. not (same_text name k)) (names ys)
+  names-without [] = refl
+  names-without (y ∷ ys) = kept_names (not (same_text name y.0)) y (without_named name ys) (filter (λ k. not (same_text name k)) (names ys)) (names-without ys)
 
   pub names_ascend-without : (ys : List (List ℕ × X)) → texts_ascend (names ys) ≡ true → texts_ascend (names (without_named name ys)) ≡ true
-  names_ascend-without [] up = refl
-  names_ascend-without (y ∷ ys) up = first_case (not (same_text name y.0)) y (without_named name ys) (without_above y.0 ys up)
+  names_ascend-without ys up = ap texts_ascend (names-without ys) ∙ texts_ascend-filter (λ k. not (same_text name k)) (names ys) up
 
   rest_case : (q : List ℕ × X → Bool) (b : Bool) (y : List ℕ × X) (zs : List (List ℕ × X)) → q y ≡ true → list_all q zs ≡ true → list_all q (cond b (y ∷ zs) zs) ≡ true
   rest_case q true y zs one more = and_from (q y) (list_all q zs) one more

@@ -2,12 +2,13 @@
 use Rattle.std.proofs.Common.{◌≡◌, ℕ, Bool, true, not, cond, List, [], ◌∷◌, ◌++◌, ◌||◌, IsPermutation, Contains, Option, Some, None, IfSome, refl, sym, ◌∙◌, ap, subst}
 use Rattle.std.specs.Prelude.{slice_get}
 use Rattle.std.specs.List.{filter}
+use Rattle.std.specs.List.Sorted.{IsSortedBy}
 use Rattle.std.proofs.lemmas.Option.{slice_get_within, get_or_from_slice_get}
 use Rattle.gql_ports.specs.declared.stored.Record.{Record}
 use Rattle.gql_keep_sql.specs.declared.changes.Change.{Change}
 use Rattle.gql_keep_sql.specs.Keys.{has_key, keys_of}
 use Rattle.gql_keep_sql.specs.Machinery.Merge.{is_changed_in, is_kept}
-use Rattle.gql_keep_sql.specs.Written.{Alters, stays}
+use Rattle.gql_keep_sql.specs.Written.{Alters, stays, is_key_below}
 
 filter_alike : (p q : Record → Bool) → ((r : Record) → p r ≡ q r) → (xs : List Record) → filter p xs ≡ filter q xs
 filter_alike p q same [] = refl
@@ -15,9 +16,10 @@ filter_alike p q same (x ∷ xs) = ap (λ b. cond b (x ∷ filter p xs) (filter 
 
 pub altered : (puts : List Record) (drops : List (List ℕ)) (changes : List Change) (old kept new : List Record)
     → ((key : List ℕ) → is_changed_in changes key ≡ (has_key (keys_of puts) key || has_key drops key))
-    → kept ≡ puts ++ filter (is_kept changes) old → IsPermutation kept new → Alters puts drops true old new
-altered puts drops changes old kept new named is same = record {
+    → kept ≡ puts ++ filter (is_kept changes) old → IsPermutation kept new → IsSortedBy is_key_below new → Alters puts drops true old new
+altered puts drops changes old kept new named is same ascends = record {
   all = λ done. subst (λ xs. IsPermutation xs new) (is ∙ ap (λ xs. puts ++ xs) (filter_alike (is_kept changes) (stays puts drops) (λ r. ap not (named r.key)) old)) same;
+  ordered = λ done. ascends;
   nothing = λ not_done. absurd cc;
 }
 

@@ -3,11 +3,11 @@
 -- Both go by the changes and, within one, by the keys: a key below the change stays in front of all that follows, and
 -- one that is above it, or its own, ends that change.
 use Rattle.std.proofs.Common.{◌≡◌, ℕ, Bool, true, false, cond, ◌&&◌, ◌||◌, List, [], ◌∷◌, ◌++◌, map, refl, sym, ◌∙◌, ap, subst}
-use mathlib.Core.Bool.{true≢false}
-use Rattle.std.specs.Ordering.{is_lt, ordering_reverse}
-use Rattle.std.specs.Cmp.Lexicographic.{bytes_decides, nat_list_cmp_total}
+use Rattle.std.specs.Ordering.{is_lt, is_eq, ordering_reverse}
+use Rattle.std.specs.Cmp.Lexicographic.{bytes_decides, nat_list_cmp_total, texts_ties}
 use Rattle.std.specs.declared.cmp.Ordering.{Ordering}
 use Rattle.std.specs.declared.cmp.Ordering.TheVariants.{Less, Equal, Greater}
+use Rattle.std.proofs.lemmas.Bool.{and_from, and_parts}
 use Rattle.std.proofs.lemmas.Map.Lookups.{exact_bytes}
 use Rattle.gql_values3.specs.Texts.{same_text, ascend_above, texts_ascend}
 use Rattle.gql_keep_sql.specs.declared.changes.Change.{Change}
@@ -17,58 +17,30 @@ use Rattle.gql_keep_sql.specs.Machinery.Merge.{changes_ascend, is_put_in, is_cha
 abbrev pub key_of : Change → List ℕ
 key_of c = c.key
 
--- ---- tests
-
-left : (a b : Bool) → (a && b) ≡ true → a ≡ true
-left true b h = refl
-left false b h = absurd (true≢false (sym h))
-
-right : (a b : Bool) → (a && b) ≡ true → b ≡ true
-right true b h = h
-right false b h = absurd (true≢false (sym h))
-
-both : (a b : Bool) → a ≡ true → b ≡ true → (a && b) ≡ true
-both a b h k = rw (h, k) refl
-
-less : (o : Ordering) → is_lt o ≡ true → o ≡ Less
-less Less h = refl
-less Equal h = absurd (true≢false (sym h))
-less Greater h = absurd (true≢false (sym h))
-
 -- ---- orders of keys
 
 pub less_from_greater : (a b : List ℕ) → key_cmp a b ≡ Greater → key_cmp b a ≡ Less
 less_from_greater a b h = nat_list_cmp_total.antisymm b a ∙ ap ordering_reverse h
 
-pub cmp_same : (a : List ℕ) → key_cmp a a ≡ Equal
-cmp_same a = same_order (key_cmp a a) (nat_list_cmp_total.antisymm a a)
-  where
-    same_order : (o : Ordering) → o ≡ ordering_reverse o → o ≡ Equal
-    same_order Less h = cc
-    same_order Equal h = refl
-    same_order Greater h = cc
-
 -- what is below is not the same
 pub differs : (a b : List ℕ) → key_cmp a b ≡ Less → same_text a b ≡ false
-differs a b h = tested (same_text a b) (λ e. apart ((bytes_decides a b).0 e))
-  where
-    apart : a ≡ b → ⊥
-    apart e = let f : key_cmp a b ≡ Equal = subst (λ x. key_cmp a x ≡ Equal) e (cmp_same a) in cc
-
-    tested : (t : Bool) → (t ≡ true → ⊥) → t ≡ false
-    tested true n = absurd (n refl)
-    tested false n = refl
+differs a b h = texts_ties a b ∙ ap is_eq h
 
 -- ---- ascending keys
 
 pub head_above : (low key : List ℕ) (keys : List (List ℕ)) → ascend_above low (key ∷ keys) ≡ true → key_cmp low key ≡ Less
-head_above low key keys h = less (key_cmp low key) (left (is_lt (key_cmp low key)) (ascend_above key keys) h)
+head_above low key keys h = less (key_cmp low key) ((and_parts (is_lt (key_cmp low key)) (ascend_above key keys) h).0)
+  where
+    less : (o : Ordering) → is_lt o ≡ true → o ≡ Less
+    less Less h = refl
+    less Equal h = absurd (cc)
+    less Greater h = absurd (cc)
 
 pub tail_above : (low key : List ℕ) (keys : List (List ℕ)) → ascend_above low (key ∷ keys) ≡ true → ascend_above key keys ≡ true
-tail_above low key keys h = right (is_lt (key_cmp low key)) (ascend_above key keys) h
+tail_above low key keys h = (and_parts (is_lt (key_cmp low key)) (ascend_above key keys) h).1
 
 cons_above : (low key : List ℕ) (keys : List (List ℕ)) → key_cmp low key ≡ Less → ascend_above key keys ≡ true → ascend_above low (key ∷ keys) ≡ true
-cons_above low key keys h k = both (is_lt (key_cmp low key)) (ascend_above key keys) (ap is_lt h) k
+cons_above low key keys h k = and_from (is_lt (key_cmp low key)) (ascend_above key keys) (ap is_lt h) k
 
 lower : (a b : List ℕ) (keys : List (List ℕ)) → key_cmp a b ≡ Less → ascend_above b keys ≡ true → ascend_above a keys ≡ true
 lower a b [] h g = refl

@@ -1,16 +1,17 @@
 -- Whether a key is changed, by a search by halves among the changes, whose keys ascend.
-use Rattle.std.proofs.Common.{◌≡◌, ℕ, zero, suc, ◌+◌, ◌<◌, Bool, true, false, ◌||◌, List, [], ◌∷◌, length, map, get_or, Result, Ok, Err, refl, sym, ◌∙◌, ap, subst, arith, is_ok, ⊎_elim}
+use Rattle.std.proofs.Common.{◌≡◌, ℕ, zero, suc, ◌+◌, ◌<◌, true, false, ◌||◌, List, [], ◌∷◌, length, map, get_or, Result, Ok, Err, refl, sym, ◌∙◌, ap, arith, is_ok, ⊎_elim}
+use Rattle.std.proofs.Math.Bool.{or-true}
 use Rattle.std.proofs.lemmas.Bool.{cases_lt}
 use Rattle.std.specs.List.Sorted.{IsSearchInRange, IsBinarySearchResult, IsNonDecreasingBy}
-use Rattle.std.specs.Ordering.{is_lt, ordering_reverse, ordering_index}
-use Rattle.std.specs.Cmp.Lexicographic.{bytes_decides, nat_list_cmp_total}
-use Rattle.std.specs.declared.cmp.Ordering.TheVariants.{Less, Equal, Greater}
+use Rattle.std.specs.Ordering.{is_lt, is_eq, ordering_reverse, ordering_index}
+use Rattle.std.specs.Cmp.Lexicographic.{bytes_decides, nat_list_cmp_total, texts_ties}
+use Rattle.std.specs.declared.cmp.Ordering.TheVariants.{Less, Greater}
 use Rattle.std.proofs.lemmas.Map.Lookups.{exact_bytes}
 use Rattle.std.proofs.lemmas.List.Sorted.{searchable_from_sorted}
 use Rattle.gql_values3.specs.Texts.{same_text, ascend_above}
 use Rattle.gql_keep_sql.specs.declared.changes.Change.{Change}
 use Rattle.gql_keep_sql.specs.Machinery.Merge.{changes_ascend, is_changed_in, key_cmp}
-use Rattle.gql_keep_sql.proofs.MergeLemmas.{key_of, head_above, tail_above, ascend_behind, cmp_same, less_from_greater, differs}
+use Rattle.gql_keep_sql.proofs.MergeLemmas.{key_of, head_above, tail_above, ascend_behind, less_from_greater, differs}
 
 all_above : (low : List ℕ) (cs : List Change) → ascend_above low (map key_of cs) ≡ true → (j : ℕ) (d : Change) → j < length cs → key_cmp low (get_or cs j d).key ≡ Less
 all_above low [] h j d lt = absurd (omega arith)
@@ -32,22 +33,11 @@ comparisons_rise cs h key =
     searchable_from_sorted nat_list_cmp_total (λ (c : Change). c.key) cs key
     (λ k d _ lt. ap is_lt (greater_from_less (get_or cs k d).key (get_or cs (k + 1) d).key (ascending cs h k (k + 1) d (omega arith) lt)))
 
-or-true : (a : Bool) → (a || true) ≡ true
-or-true true = refl
-or-true false = refl
-
 unlike_greater : (a key : List ℕ) → key_cmp a key ≡ Greater → same_text key a ≡ false
 unlike_greater a key h = differs key a (less_from_greater a key h)
 
 unlike_less : (a key : List ℕ) → key_cmp a key ≡ Less → same_text key a ≡ false
-unlike_less a key h = tested (same_text key a) (λ e. apart ((bytes_decides key a).0 e))
-  where
-    apart : key ≡ a → ⊥
-    apart e = let f : key_cmp a key ≡ Equal = subst (λ x. key_cmp a x ≡ Equal) (sym e) (cmp_same a) in cc
-
-    tested : (t : Bool) → (t ≡ true → ⊥) → t ≡ false
-    tested true n = absurd (n refl)
-    tested false n = refl
+unlike_less a key h = texts_ties key a ∙ ap is_eq (greater_from_less a key h)
 
 -- a change at some place has the key
 present : (cs : List Change) (key : List ℕ) (i : ℕ) (d : Change) → i < length cs → (get_or cs i d).key ≡ key → is_changed_in cs key ≡ true

@@ -27,7 +27,7 @@ not_asked g puts drops h = record {
 }
 
 pub unaltered : (puts : List Record) (drops : List (List ℕ)) (records : List Record) → Alters puts drops false records records
-unaltered puts drops records = record { all = λ done. absurd cc; nothing = λ not_done. refl }
+unaltered puts drops records = record { all = λ done. absurd cc; ordered = λ done. absurd cc; nothing = λ not_done. refl }
 
 pub unwritten : (puts : List Record) (drops : List (List ℕ)) (place : Place) → Writes puts drops false place place
 unwritten puts drops Nowhere = refl

@@ -9,6 +9,9 @@ use Rattle.gql_ports.specs.declared.stored.Record.{Record}
 use Rattle.gql_keep_sql.specs.declared.place.Place.{Place}
 use Rattle.gql_keep_sql.specs.declared.place.Place.TheVariants.{Nowhere, Memory, File}
 use Rattle.std.specs.List.{filter}
+use Rattle.std.specs.List.Sorted.{IsSortedBy}
+use Rattle.std.specs.Ordering.{nat_cmp, is_lt}
+use Rattle.std.specs.Cmp.Lexicographic.{slice_cmp}
 use Rattle.gql_keep_sql.specs.Keys.{has_key, keys_of}
 use Rattle.gql_keep_sql.specs.Transaction.{Rewrote}
 
@@ -25,10 +28,16 @@ pub record Transacts {S : Type 0} (g : Ghosts S) (puts : List Record) (drops : L
 abbrev pub stays : List Record → List (List ℕ) → Record → Bool
 stays puts drops r = not (has_key (keys_of puts) r.key || has_key drops r.key)
 
+-- the one's key is below the other's, by bytes
+abbrev pub is_key_below : Record → Record → Bool
+is_key_below a b = is_lt (slice_cmp nat_cmp a.key b.key)
+
 -- Records in memory were to be changed by these, and were or were not.
 pub record Alters (puts : List Record) (drops : List (List ℕ)) (done : Bool) (old new : List Record) : Type 0 where
-  -- those that were put, and of those before the ones whose keys are neither put nor dropped, in some order
+  -- those that were put, and of those before the ones whose keys are neither put nor dropped,
   pub all : IsTrue done → IsPermutation (puts ++ filter (stays puts drops) old) new
+  -- in ascending order of their keys
+  pub ordered : IsTrue done → IsSortedBy is_key_below new
   -- those before
   pub nothing : done ≡ false → new ≡ old
 

@@ -4,7 +4,8 @@ ghost use Rattle.std.specs.Prelude.{◌≡◌, ◌≤◌, ◌+◌, ◌++◌, IfO
 ghost use Rattle.std.specs.List.{filter};
 ghost use Rattle.std.specs.Vec.{vec_len, vec_capacity};
 ghost use Rattle.std.specs.Option.{option_copied};
-ghost use Rattle.gql_keep_sql.specs.Written.{Alters};
+ghost use Rattle.std.specs.List.Sorted.{IsSortedBy};
+ghost use Rattle.gql_keep_sql.specs.Written.{Alters, is_key_below};
 ghost use Rattle.gql_keep_sql.specs.Machinery.Merge.{is_kept};
 
 use crate::changes::{Changes, copy_key};
@@ -83,10 +84,11 @@ fn keep(into: &mut Vec<Record>, old: Vec<Record>, changes: &Changes)
 
 /// In one go where there are two runs in order, as long as there is memory.
 fn sort(records: &mut Vec<Record>)
-    ensures { IsPermutation records.old.items records.new.items }
+    ensures same { IsPermutation records.old.items records.new.items }
+    ensures ordered { IsSortedBy is_key_below records.new.items }
 {
-    let sorted = records.sort_by(|a, b| a.key.as_slice().cmp(b.key.as_slice()));
-    if sorted.is_err() {
-        records.sort_unstable_by(|a, b| a.key.as_slice().cmp(b.key.as_slice()));
+    match records.sort_by(|a, b| a.key.as_slice().cmp(b.key.as_slice())) {
+        Ok(()) => {}
+        Err(_) => records.sort_unstable_by(|a, b| a.key.as_slice().cmp(b.key.as_slice())),
     }
 }

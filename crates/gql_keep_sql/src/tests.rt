@@ -118,6 +118,19 @@ fn a_second_keeper_finds_what_the_first_one_kept(rt: HostRuntime) -> Result<(), 
 }
 
 #[test]
+fn records_in_memory_stand_in_the_order_of_their_keys(rt: HostRuntime) -> Result<(), Fail> {
+    let mut keeper = SqlKeeper::new(&rt, rt.alloc());
+    assert_eq!(rt; keeper.open(None), Ok(()));
+    assert_eq!(rt; put_one(rt.alloc(), &mut keeper, b'c', b'c'), Ok(()));
+    assert_eq!(rt; put_two(rt.alloc(), &mut keeper), Ok(()));
+    assert_eq!(rt; keeper.len(), 3);
+    assert!(rt; is_at(rt.alloc(), &mut keeper, 0, b"a", b"one"));
+    assert!(rt; is_at(rt.alloc(), &mut keeper, 1, b"b", b"two"));
+    assert!(rt; is_at(rt.alloc(), &mut keeper, 2, b"c", b"c"));
+    Ok(())
+}
+
+#[test]
 fn records_are_read_in_any_order_and_after_a_write(rt: HostRuntime) -> Result<(), Fail> {
     let mut keeper = SqlKeeper::new(&rt, rt.alloc());
     assert_eq!(rt; keeper.open(None), Ok(()));

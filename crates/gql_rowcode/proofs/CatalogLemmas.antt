@@ -16,7 +16,7 @@ use Rattle.gql_rowcode.specs.declared.seen.GraphSeen.{GraphSeen}
 use Rattle.gql_rowcode.specs.declared.seen.Seen.{Seen}
 use Rattle.gql_rowcode.specs.Machinery.Noted.{in_order, name_before, noted_of, named_seen, graph_seen}
 use Rattle.gql_rowcode.proofs.MemberLemmas.{Has, has_map, all_has, all_from}
-use Rattle.gql_rowcode.proofs.NameLemmas.{names}
+use Rattle.gql_graph.proofs.CatalogLemmas.{names}
 
 sorted_seen : (gs : List (List ℕ × GraphSeen)) → map named_seen (stably_sorted name_before gs) ≡ stably_sorted name_before (map named_seen gs)
 sorted_seen gs = map_sorted named_seen (name_before {A = CatalogGraph}) gs

@@ -14,7 +14,8 @@ use Rattle.gql_type.specs.GraphTypes.{is_graph_type}
 use Rattle.gql_rowcode.specs.Records.{Form, version, graph_type, graph, node, edge, key_of, IsForm}
 use Rattle.gql_rowcode.specs.FirstBad.{and_node, and_edge, on_graph, with_form, with_forms, described, passes_type, JoinsAsNode, JoinsAsEdge, Follows}
 use Rattle.gql_rowcode.proofs.MemberLemmas.{Has, has_left, has_last, has_push}
-use Rattle.gql_rowcode.proofs.NameLemmas.{names, named_has, has_named, one_named, names_in_order, put_back, put_keeps, text_is, text_same, below_itself}
+use Rattle.gql_rowcode.proofs.NameLemmas.{named_has, has_named, one_named, names_in_order, put_back, put_keeps, text_is, text_same, below_itself}
+use Rattle.gql_graph.proofs.CatalogLemmas.{names}
 use Rattle.gql_graph.proofs.NamedLemmas.{names_ascend-put}
 use Rattle.gql_rowcode.proofs.FittingLemmas.{conforms_node, conforms_edge}
 use Rattle.gql_rowcode.proofs.SoundLemmas.{IsGraph, Sound, graph_node, graph_edge, kind_type, kind_from, passes}

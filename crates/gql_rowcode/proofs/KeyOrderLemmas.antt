@@ -19,7 +19,8 @@ use Rattle.gql_rowcode.specs.FirstBad.{and_node, and_edge}
 use Rattle.gql_rowcode.specs.Machinery.KeyOrder.{key_cmp, AreListed}
 use Rattle.gql_rowcode.specs.Machinery.Noted.{note, new_graph}
 use Rattle.gql_rowcode.proofs.MemberLemmas.{Has, PrecedesAll, InOrder, order_map, has_either, has_flat_map_back}
-use Rattle.gql_rowcode.proofs.NameLemmas.{names, less_if}
+use Rattle.gql_graph.proofs.CatalogLemmas.{names}
+use Rattle.gql_graph.proofs.AscendingTexts.{less_if}
 use Rattle.gql_rowcode.proofs.SaidLemmas.{on_one, on_is}
 use Rattle.gql_rowcode.proofs.OrderLemmas.{one_more, then_equal}
 use Rattle.gql_rowcode.proofs.KeyLemmas.{ComesBefore}

@@ -1,8 +1,7 @@
 -- Lists of what has a name: which stands under a name, and what one more changes.
-use Rattle.std.proofs.Common.{◌≡◌, ℕ, ◌∙◌, cond, Bool, true, false, ◌&&◌, List, [], ◌∷◌, ◌++◌, map, Option, Some, None, refl, sym, ap, subst, inl, inr, ◌⊎◌}
+use Rattle.std.proofs.Common.{◌≡◌, ℕ, ◌∙◌, cond, Bool, true, false, List, [], ◌∷◌, Option, Some, None, refl, sym, ap, subst, inl, inr, ◌⊎◌}
 use Rattle.std.specs.Prelude.{find, option_map}
-use Rattle.std.specs.declared.cmp.Ordering.{Ordering}
-use Rattle.std.specs.declared.cmp.Ordering.TheVariants.{Less, Equal, Greater}
+use Rattle.std.specs.declared.cmp.Ordering.TheVariants.{Less, Equal}
 use Rattle.std.specs.Ordering.{is_lt, nat_cmp}
 use Rattle.std.specs.Cmp.Lexicographic.{slice_cmp}
 use Rattle.std.proofs.lemmas.Cmp.{tied_itself, nat_list_cmp_total}
@@ -10,12 +9,9 @@ use Rattle.std.proofs.lemmas.Bool.{and_parts}
 use Rattle.std.proofs.lemmas.Slice.Eq.{bytes_eq-Decides}
 use Rattle.gql_values3.specs.Texts.{same_text, ascend_above, texts_ascend}
 use Rattle.gql_graph.specs.Catalog.{named, is_before, put_named}
-use Rattle.gql_rowcode.proofs.MemberLemmas.{Has, InOrder, find_has}
-
-pub less_if : (o : Ordering) → is_lt o ≡ true → o ≡ Less
-less_if Less p = refl
-less_if Equal p = absurd (cc)
-less_if Greater p = absurd (cc)
+use Rattle.gql_graph.proofs.CatalogLemmas.{names}
+use Rattle.gql_graph.proofs.AscendingTexts.{less_if}
+use Rattle.gql_rowcode.proofs.MemberLemmas.{Has, InOrder, find_has, order_map}
 
 -- one after the other
 pub below_chain : (a b c : List ℕ) → is_before a b ≡ true → is_before b c ≡ true → is_before a c ≡ true
@@ -55,29 +51,11 @@ texts_in_order [] up = tt
 texts_in_order (x ∷ xs) up = (text_above x xs up, text_behind x xs up)
 
 module _ {A : Type 0} where
-  -- the names in front
-  abbrev pub names : List (List ℕ × A) → List (List ℕ)
-  names xs = map (λ (x : List ℕ × A). x.0) xs
-
   abbrev pub NameLess : List ℕ × A → List ℕ × A → Type 0
   NameLess p q = is_before p.0 q.0 ≡ true
 
-  name_above : (low : List ℕ) (xs : List (List ℕ × A)) → ascend_above low (names xs) ≡ true → (y : List ℕ × A) → Has xs y → is_before low y.0 ≡ true
-  name_above low [] up y h = absurd h
-  name_above low (x ∷ xs) up y (inl e) = ap (λ (z : List ℕ × A). is_before low z.0) e ∙ (and_parts (is_before low x.0) (ascend_above x.0 (names xs)) up).0
-  name_above low (x ∷ xs) up y (inr h) =
-      let p = and_parts (is_before low x.0) (ascend_above x.0 (names xs)) up in
-      below_chain low x.0 y.0 p.0 (name_above x.0 xs p.1 y h)
-
-  name_behind : (low : List ℕ) (xs : List (List ℕ × A)) → ascend_above low (names xs) ≡ true → InOrder NameLess xs
-  name_behind low [] up = tt
-  name_behind low (x ∷ xs) up =
-      let p = and_parts (is_before low x.0) (ascend_above x.0 (names xs)) up in
-      (name_above x.0 xs p.1, name_behind x.0 xs p.1)
-
   pub names_in_order : (xs : List (List ℕ × A)) → texts_ascend (names xs) ≡ true → InOrder NameLess xs
-  names_in_order [] up = tt
-  names_in_order (x ∷ xs) up = (name_above x.0 xs up, name_behind x.0 xs up)
+  names_in_order xs up = order_map TextLess (λ (x : List ℕ × A). x.0) xs (texts_in_order (names xs) up)
 
   found_some : (r : Option (List ℕ × A)) (a : A) → option_map (λ (x : List ℕ × A). x.1) r ≡ Some a → (p : List ℕ × A) × (r ≡ Some p) × (p.1 ≡ a)
   found_some None a e = absurd (cc)

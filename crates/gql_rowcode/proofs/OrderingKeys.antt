@@ -2,9 +2,7 @@
 use Rattle.std.proofs.Common.{◌≡◌, ◌≢◌, ℕ, ◌+◌, ◌^◌, ◌<◌, Bool, true, ltb, ◌&&◌, List, [], ◌∷◌, ◌++◌, map, length, take, drop, Option, refl, sym, ap, ◌∙◌, arith}
 use Rattle.std.specs.Int.{w32, from_be_bytes, to_be_bytes}
 use Rattle.std.specs.List.{AllByRecursion, flat_map, list_all}
-use Rattle.std.specs.declared.cmp.Ordering.{Ordering}
-use Rattle.std.specs.declared.cmp.Ordering.TheVariants.{Less, Equal, Greater}
-use Rattle.std.specs.Ordering.{is_lt}
+use Rattle.std.specs.declared.cmp.Ordering.TheVariants.{Less, Equal}
 use Rattle.std.proofs.lemmas.Bool.{and_parts, ltb-true}
 use Rattle.std.proofs.lemmas.Cmp.{nat_list_cmp_total, tied_itself}
 use Rattle.std.proofs.lemmas.List.{append_cancel_left, take_at, length-append}
@@ -15,6 +13,7 @@ use Rattle.gql_values3.specs.declared.records.NodeRecord.{NodeRecord}
 use Rattle.gql_values3.specs.declared.records.EdgeRecord.{EdgeRecord}
 use Rattle.gql_graph.specs.Catalog.{CatalogGraph, CatalogData, is_catalog}
 use Rattle.gql_graph.specs.declared.graph_type.GraphType.{GraphType}
+use Rattle.gql_graph.proofs.AscendingTexts.{first_above, rest_above}
 use Rattle.gql_fields.specs.Spelling.{spelled}
 use Rattle.gql_rowcode.specs.Records.{Form, version, graph_type, graph, node, edge, key_of}
 use Rattle.gql_rowcode.specs.StandFor.{graph_forms, catalog_forms}
@@ -43,11 +42,6 @@ number_behind a n m p q e = number_same n m p q (append_cancel_left (spelled a) 
 
 -- ---- names in order differ
 
-pub less_if : (o : Ordering) → is_lt o ≡ true → o ≡ Less
-less_if Less p = refl
-less_if Equal p = absurd cc
-less_if Greater p = absurd cc
-
 pub less_differs : (a b : List ℕ) → text_cmp a b ≡ Less → a ≢ b
 less_differs a b p e =
     let never : Less ≡ Equal = sym p ∙ ap (text_cmp a) (sym e) ∙ tied_itself nat_list_cmp_total a in
@@ -57,14 +51,13 @@ less_differs a b p e =
 pub all_above : (low : List ℕ) (ks : List (List ℕ)) → ascend_above low ks ≡ true → AllByRecursion (λ k. text_cmp low k ≡ Less) ks
 all_above low [] h = tt
 all_above low (k ∷ ks) h =
-    let parts = and_parts (is_lt (text_cmp low k)) (ascend_above k ks) h in
-    let first : text_cmp low k ≡ Less = less_if (text_cmp low k) parts.0 in
-    (first, all_weaker (λ j. text_cmp k j ≡ Less) (λ j. text_cmp low j ≡ Less) (λ j p. nat_list_cmp_total.trans low k j first p) ks (all_above k ks parts.1))
+    let first : text_cmp low k ≡ Less = first_above low k ks h in
+    (first, all_weaker (λ j. text_cmp k j ≡ Less) (λ j. text_cmp low j ≡ Less) (λ j p. nat_list_cmp_total.trans low k j first p) ks (all_above k ks (rest_above low k ks h)))
 
 names_above : (low : List ℕ) (ks : List (List ℕ)) → ascend_above low ks ≡ true → Pairs (λ a b. a ≢ b) ks
 names_above low [] h = tt
 names_above low (k ∷ ks) h =
-    let rest : ascend_above k ks ≡ true = (and_parts (is_lt (text_cmp low k)) (ascend_above k ks) h).1 in
+    let rest : ascend_above k ks ≡ true = rest_above low k ks h in
     (all_weaker (λ j. text_cmp k j ≡ Less) (λ j. k ≢ j) (less_differs k) ks (all_above k ks rest), names_above k ks rest)
 
 pub names_differ : (ks : List (List ℕ)) → texts_ascend ks ≡ true → Pairs (λ a b. a ≢ b) ks

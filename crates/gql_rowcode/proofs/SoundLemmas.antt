@@ -17,7 +17,7 @@ use Rattle.gql_type.specs.Conformance.{conforms}
 use Rattle.gql_type.specs.GraphTypes.{is_graph_type}
 use Rattle.gql_rowcode.specs.FirstBad.{and_node, and_edge, by_type, passes_type}
 use Rattle.gql_rowcode.proofs.MemberLemmas.{Has, has_left, has_push, has_map_back, all_has, all_from, any_has, any_back}
-use Rattle.gql_rowcode.proofs.NameLemmas.{names}
+use Rattle.gql_graph.proofs.CatalogLemmas.{names}
 use Rattle.gql_rowcode.proofs.NumberLemmas.{numbers_push}
 
 abbrev pub node_number : NodeRecord → ℕ

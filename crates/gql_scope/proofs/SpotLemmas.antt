@@ -1,54 +1,95 @@
--- The columns so far in an INSERT, and what is asked of its nodes and edges, over two lists.
-use Rattle.std.proofs.Common.{◌≡◌, ℕ, ◌+◌, ◌<◌, ◌||◌, List, [], ◌∷◌, ◌++◌, length, drop, get_or, Option, Some, None, is_some, refl, sym, ap, ◌∙◌, append_assoc}
-use Rattle.std.specs.Prelude.{find, option_map, unwrap_or, if◌then◌else◌}
+-- The columns so far in an INSERT, what its look-up of a variable tells, and what is asked of its nodes and edges, over two lists.
+use Rattle.std.proofs.Common.{◌≡◌, ℕ, Bool, true, false, not, ◌&&◌, ◌+◌, ◌<◌, List, [], ◌∷◌, ◌++◌, length, drop, get_or, Option, Some, None, is_some, Result, Ok, Err, OnOk, refl, sym, ap, ◌∙◌, append_assoc, true≢false}
+use Rattle.std.specs.Prelude.{find, option_map, if◌then◌else◌}
 use Rattle.std.specs.List.{flat_map}
 use Rattle.std.specs.Option.{option_or}
-use Rattle.std.proofs.lemmas.List.Folds.{find-append, list_any-append}
+use Rattle.std.proofs.lemmas.List.Folds.{find-append}
 use Rattle.gql_values3.specs.Texts.{same_text}
 use Rattle.gql_values3.specs.declared.table.ColumnKind.{ColumnKind}
 use Rattle.gql_values3.specs.declared.table.ColumnKind.TheVariants as kind
 use Rattle.gql_ast.specs.ClauseColumns.{ColumnList, is_column}
+use Rattle.gql_ast.specs.Endpoints.{is_node, wrong_endpoint, wrong_in_spots}
 use Rattle.gql_ast.specs.InsertColumns.{Spots, with_variable, spot_columns}
 use Rattle.gql_ast.specs.Outputs.{kind_of_name}
-use Rattle.gql_expr_checks.specs.Refusals.{refusal_of_first}
-use Rattle.gql_scope.specs.UnknownNames.{misplaced, unknown_in_map, unknown_in_spots}
-use Rattle.gql_ast.specs.Endpoints.{wrong_endpoint, wrong_in_spots}
+use Rattle.gql_ast.specs.declared.change.Fill.{Fill}
 use Rattle.gql_ast.specs.declared.refusal.Refusal.TheVariants as refusal
 use Rattle.gql_ast.specs.declared.refusal.Refusal.{Refusal}
-use Rattle.gql_scope.specs.Machinery.Questions.{spot_refusal, first_in_spots}
-use Rattle.gql_scope.specs.declared.insert_spots.SpotQuestion.{SpotQuestion}
-use Rattle.gql_scope.specs.declared.insert_spots.SpotQuestion.TheVariants as question
+use Rattle.gql_expr_checks.specs.Gives.{Gives, Fails}
+use Rattle.gql_expr_checks.specs.Machinery.Knowing.{first_kind}
+use Rattle.gql_expr_checks.specs.Refusals.{refusal_of_first}
 use Rattle.gql_expr_checks.specs.declared.fault.ScopeFault.{ScopeFault}
-use Rattle.gql_expr_checks.specs.Gives.{Fails}
-use Rattle.gql_expr_checks.proofs.KnowingLemmas.{is_some-first_kind}
-use Rattle.gql_expr_checks.proofs.RefusalLemmas.{first_of_in_two, stops, goes_on}
 use Rattle.gql_expr_checks.proofs.DropLemmas.{drop_step}
-
--- a name is a column of two lists where it is one of either
-pub column_of_two : (xs ys : ColumnList) (x : List ℕ) → is_column (xs ++ ys) x ≡ (is_column xs x || is_column ys x)
-column_of_two xs ys x = list_any-append (λ (c : List ℕ × ColumnKind). same_text x c.0) xs ys
+use Rattle.gql_expr_checks.proofs.KnowingLemmas.{is_some-first_kind, kind_when_known}
+use Rattle.gql_expr_checks.proofs.RefusalLemmas.{first_of_in_two, stops, goes_on}
+use Rattle.gql_scope.specs.UnknownNames.{may_refer, misplaced, unknown_in_map, unknown_in_spots}
+use Rattle.gql_scope.specs.Machinery.Questions.{unknown_at, wrong_at, first_in_spots}
+use Rattle.gql_scope.proofs.CodeLemmas.{or_assoc}
 
 abbrev found : ColumnList → List ℕ → Option (List ℕ × ColumnKind)
 found columns x = find (λ (c : List ℕ × ColumnKind). same_text x c.0) columns
 
-abbrev holds : Option (List ℕ × ColumnKind) → ColumnKind
-holds o = unwrap_or (option_map (λ (c : List ℕ × ColumnKind). c.1) o) kind.Plain
-
--- and it holds what the first of both says that has it
-pub kind_in_two : (xs ys : ColumnList) (x : List ℕ) → kind_of_name (xs ++ ys) x ≡ (if is_column xs x then kind_of_name xs x else kind_of_name ys x)
-kind_in_two xs ys x =
-    ap holds (find-append (λ (c : List ℕ × ColumnKind). same_text x c.0) xs ys)
-    ∙ by (found xs x) ∙ ap (λ b. if b then kind_of_name xs x else kind_of_name ys x) (known (found xs x) ∙ is_some-first_kind xs x)
+-- what a name holds in two lists
+pub first_kind_in_two : (xs ys : ColumnList) (x : List ℕ) → first_kind (xs ++ ys) x ≡ option_or (first_kind xs x) (first_kind ys x)
+first_kind_in_two xs ys x = ap (option_map (λ (c : List ℕ × ColumnKind). c.1)) (find-append (λ (c : List ℕ × ColumnKind). same_text x c.0) xs ys) ∙ by (found xs x)
   where
-    by : (o : Option (List ℕ × ColumnKind)) → holds (option_or o (found ys x)) ≡ (if is_some o then holds o else kind_of_name ys x)
+    by : (o : Option (List ℕ × ColumnKind))
+        → option_map (λ (c : List ℕ × ColumnKind). c.1) (option_or o (found ys x)) ≡ option_or (option_map (λ (c : List ℕ × ColumnKind). c.1) o) (first_kind ys x)
     by None = refl
     by (Some c) = refl
 
-    known : (o : Option (List ℕ × ColumnKind)) → is_some o ≡ is_some (option_map (λ (c : List ℕ × ColumnKind). c.1) o)
-    known None = refl
-    known (Some c) = refl
+-- a look-up tells whether a variable stands already, ..
+is_column_by : (columns : ColumnList) (x : List ℕ) (o : Option ColumnKind) → first_kind columns x ≡ o → is_column columns x ≡ is_some o
+is_column_by columns x o h = sym (is_some-first_kind columns x) ∙ ap is_some h
 
-pub ruleset two_scopes = (column_of_two, kind_in_two)
+-- .. a new one is not at fault, and is added, ..
+pub new_placed : (columns : ColumnList) (k : ColumnKind) (f : Fill) (x : List ℕ) → first_kind columns x ≡ None → misplaced columns k f (Some x) ≡ []
+new_placed columns k f x h = ap (λ b. if b && not (may_refer k f.labels f.map) then x ∷ [] else []) (is_column_by columns x None h)
+
+pub new_kind : (columns : ColumnList) (k : ColumnKind) (x : List ℕ) → first_kind columns x ≡ None → wrong_endpoint columns k (Some x) ≡ []
+new_kind columns kind.Node x h = ap (λ b. if b && not (is_node (kind_of_name columns x)) then x ∷ [] else []) (is_column_by columns x None h)
+new_kind columns kind.Edge x h = refl
+new_kind columns kind.Nodes x h = refl
+new_kind columns kind.Edges x h = refl
+new_kind columns kind.Path x h = refl
+new_kind columns kind.Plain x h = refl
+
+pub new_column : (columns : ColumnList) (k : ColumnKind) (x : List ℕ) → first_kind columns x ≡ None → with_variable columns k (Some x) ≡ columns ++ (x, k) ∷ []
+new_column columns k x h = ap (λ b. if b then columns else columns ++ (x, k) ∷ []) (is_column_by columns x None h)
+
+-- .. one that stands adds nothing, ..
+pub old_column : (columns : ColumnList) (k : ColumnKind) (x : List ℕ) (held : ColumnKind) → first_kind columns x ≡ Some held → with_variable columns k (Some x) ≡ columns
+old_column columns k x held h = ap (λ b. if b then columns else columns ++ (x, k) ∷ []) (is_column_by columns x (Some held) h)
+
+-- .. is at fault where it may not refer, ..
+turned : (b : Bool) (x : List ℕ) → (if not b then x ∷ [] else []) ≡ (if b then [] else x ∷ [])
+turned true x = refl
+turned false x = refl
+
+pub old_placed : (columns : ColumnList) (k : ColumnKind) (f : Fill) (x : List ℕ) (held : ColumnKind) → first_kind columns x ≡ Some held
+    → misplaced columns k f (Some x) ≡ (if may_refer k f.labels f.map then [] else x ∷ [])
+old_placed columns k f x held h =
+    ap (λ b. if b && not (may_refer k f.labels f.map) then x ∷ [] else []) (is_column_by columns x (Some held) h) ∙ turned (may_refer k f.labels f.map) x
+
+-- .. and else stands at a node, and has to be one
+old_kind : (columns : ColumnList) (k : ColumnKind) (f : Fill) (x : List ℕ) (held : ColumnKind) → first_kind columns x ≡ Some held
+    → may_refer k f.labels f.map ≡ true → wrong_endpoint columns k (Some x) ≡ (if is_node held then [] else x ∷ [])
+old_kind columns kind.Node f x held h may =
+    ap (λ b. if b && not (is_node (kind_of_name columns x)) then x ∷ [] else []) (is_column_by columns x (Some held) h)
+    ∙ ap (λ z. if not (is_node z) then x ∷ [] else []) (sym (kind_when_known columns x held h)) ∙ turned (is_node held) x
+old_kind columns kind.Edge f x held h may = absurd (true≢false (sym may))
+old_kind columns kind.Nodes f x held h may = absurd (true≢false (sym may))
+old_kind columns kind.Edges f x held h may = absurd (true≢false (sym may))
+old_kind columns kind.Path f x held h may = absurd (true≢false (sym may))
+old_kind columns kind.Plain f x held h may = absurd (true≢false (sym may))
+
+pub kind_held : (r : Result (Unit {0}) ScopeFault) (columns : ColumnList) (k : ColumnKind) (f : Fill) (x : List ℕ) (held : ColumnKind) (may : Bool) (old new : Option Refusal)
+    → first_kind columns x ≡ Some held → may ≡ may_refer k f.labels f.map → Gives r (refusal_of_first refusal.Variable (if may then [] else x ∷ []))
+    → OnOk r (new ≡ option_or old (refusal_of_first refusal.Kind (if is_node held then [] else x ∷ [])))
+    → OnOk r (new ≡ option_or old (refusal_of_first refusal.Kind (wrong_endpoint columns k (Some x))))
+kind_held (Ok u) columns k f x held true old new h e gives p =
+    p ∙ ap (λ (xs : List (List ℕ)). option_or old (refusal_of_first refusal.Kind xs)) (sym (old_kind columns k f x held h (sym e)))
+kind_held (Ok u) columns k f x held false old new h e gives p = absurd (true≢false (ap is_some gives))
+kind_held (Err fault) columns k f x held may old new h e gives p = tt
 
 -- a column is added at the end of both
 pub appended : (xs ys zs : ColumnList) → xs ++ (ys ++ zs) ≡ (xs ++ ys) ++ zs
@@ -62,60 +103,59 @@ pub columns_of_two : (columns : ColumnList) (xs ys : Spots) → spot_columns col
 columns_of_two columns [] ys = refl
 columns_of_two columns (s ∷ xs) ys = columns_of_two (with_variable columns s.0 s.1.variable) xs ys
 
-or_assoc : (o p q : Option Refusal) → option_or o (option_or p q) ≡ option_or (option_or o p) q
-or_assoc None p q = refl
-or_assoc (Some r) p q = refl
-
-pub spots_of_two : (q : SpotQuestion) (incoming columns : ColumnList) (xs ys : Spots)
-    → first_in_spots q incoming columns (xs ++ ys) ≡ option_or (first_in_spots q incoming columns xs) (first_in_spots q incoming (spot_columns columns xs) ys)
-spots_of_two q incoming columns [] ys = refl
-spots_of_two q incoming columns (s ∷ xs) ys =
+pub spots_of_two : (asks : ColumnList → ColumnKind → Fill → Option Refusal) (columns : ColumnList) (xs ys : Spots)
+    → first_in_spots asks columns (xs ++ ys) ≡ option_or (first_in_spots asks columns xs) (first_in_spots asks (spot_columns columns xs) ys)
+spots_of_two asks columns [] ys = refl
+spots_of_two asks columns (s ∷ xs) ys =
     let next = with_variable columns s.0 s.1.variable in
-    ap (option_or (spot_refusal q incoming columns s.0 s.1)) (spots_of_two q incoming next xs ys)
-    ∙ or_assoc (spot_refusal q incoming columns s.0 s.1) (first_in_spots q incoming next xs) (first_in_spots q incoming (spot_columns next xs) ys)
+    ap (option_or (asks columns s.0 s.1)) (spots_of_two asks next xs ys)
+    ∙ or_assoc (asks columns s.0 s.1) (first_in_spots asks next xs) (first_in_spots asks (spot_columns next xs) ys)
 
--- the names at fault, and the kinds, are what the questions ask for
+-- the names at fault, and the kinds, are what is asked for
 pub unknown_is_first : (incoming columns : ColumnList) (ss : Spots)
-    → refusal_of_first refusal.Variable (unknown_in_spots incoming columns ss) ≡ first_in_spots question.Names incoming columns ss
+    → refusal_of_first refusal.Variable (unknown_in_spots incoming columns ss) ≡ first_in_spots (unknown_at incoming) columns ss
 unknown_is_first incoming columns [] = refl
 unknown_is_first incoming columns (s ∷ ss) =
     let next = with_variable columns s.0 s.1.variable in
     first_of_in_two refusal.Variable (misplaced columns s.0 s.1 s.1.variable ++ unknown_in_map incoming s.1.map) (unknown_in_spots incoming next ss)
-    ∙ ap (option_or (spot_refusal question.Names incoming columns s.0 s.1)) (unknown_is_first incoming next ss)
+    ∙ ap (option_or (unknown_at incoming columns s.0 s.1)) (unknown_is_first incoming next ss)
 
-pub wrong_is_first : (incoming columns : ColumnList) (ss : Spots)
-    → refusal_of_first refusal.Kind (wrong_in_spots columns ss) ≡ first_in_spots question.Kinds incoming columns ss
-wrong_is_first incoming columns [] = refl
-wrong_is_first incoming columns (s ∷ ss) =
+pub wrong_is_first : (columns : ColumnList) (ss : Spots) → refusal_of_first refusal.Kind (wrong_in_spots columns ss) ≡ first_in_spots wrong_at columns ss
+wrong_is_first columns [] = refl
+wrong_is_first columns (s ∷ ss) =
     let next = with_variable columns s.0 s.1.variable in
-    first_of_in_two refusal.Kind (wrong_endpoint columns s.0 s.1.variable) (wrong_in_spots next ss)
-    ∙ ap (option_or (spot_refusal question.Kinds incoming columns s.0 s.1)) (wrong_is_first incoming next ss)
+    first_of_in_two refusal.Kind (wrong_endpoint columns s.0 s.1.variable) (wrong_in_spots next ss) ∙ ap (option_or (wrong_at columns s.0 s.1)) (wrong_is_first next ss)
 
--- the items of a list from i on, one after the other: their columns, ..
-pub columns_go_on : {A : Type 0} (f : A → Spots) (xs : List A) (i : ℕ) (x : A) (before after whole : ColumnList) → i < length xs → x ≡ get_or xs i x
-    → spot_columns before (flat_map f (drop i xs)) ≡ whole → after ≡ spot_columns before (f x) → spot_columns after (flat_map f (drop (i + 1) xs)) ≡ whole
-columns_go_on f xs i x before after whole below is h e =
-    ap (λ cs. spot_columns cs (flat_map f (drop (i + 1) xs))) e ∙ sym (columns_of_two before (f x) (flat_map f (drop (i + 1) xs)))
-    ∙ sym (ap (λ ys. spot_columns before (flat_map f ys)) (drop_step xs i x below is)) ∙ h
+-- the items of a list from i on, one after the other
+module _ {A : Type 0} (f : A → Spots) (xs : List A) (i : ℕ) (x : A) (before : ColumnList) (below : i < length xs) (is : x ≡ get_or xs i x) where
+  abbrev behind : Spots
+  behind = flat_map f (drop (i + 1) xs)
 
--- .. and the first refusal among them
-spots_cut : {A : Type 0} (q : SpotQuestion) (incoming : ColumnList) (f : A → Spots) (xs : List A) (i : ℕ) (x : A) (before : ColumnList) (whole : Option Refusal)
-    → i < length xs → x ≡ get_or xs i x → first_in_spots q incoming before (flat_map f (drop i xs)) ≡ whole
-    → whole ≡ option_or (first_in_spots q incoming before (f x)) (first_in_spots q incoming (spot_columns before (f x)) (flat_map f (drop (i + 1) xs)))
-spots_cut q incoming f xs i x before whole below is h =
-    sym h ∙ ap (λ ys. first_in_spots q incoming before (flat_map f ys)) (drop_step xs i x below is) ∙ spots_of_two q incoming before (f x) (flat_map f (drop (i + 1) xs))
+  -- their columns
+  pub columns_go_on : (after whole : ColumnList) → spot_columns before (flat_map f (drop i xs)) ≡ whole → after ≡ spot_columns before (f x)
+      → spot_columns after (flat_map f (drop (i + 1) xs)) ≡ whole
+  columns_go_on after whole h e =
+      ap (λ cs. spot_columns cs behind) e ∙ sym (columns_of_two before (f x) behind) ∙ sym (ap (λ ys. spot_columns before (flat_map f ys)) (drop_step xs i x below is)) ∙ h
 
-pub spots_stop : {A : Type 0} (q : SpotQuestion) (incoming : ColumnList) (f : A → Spots) (xs : List A) (i : ℕ) (x : A) (before : ColumnList) (whole : Option Refusal) (e : ScopeFault)
-    → i < length xs → x ≡ get_or xs i x → first_in_spots q incoming before (flat_map f (drop i xs)) ≡ whole
-    → Fails e (first_in_spots q incoming before (f x)) → Fails e whole
-spots_stop q incoming f xs i x before whole e below is h refuses =
-    stops e (first_in_spots q incoming before (f x)) (first_in_spots q incoming (spot_columns before (f x)) (flat_map f (drop (i + 1) xs))) whole refuses
-    (spots_cut q incoming f xs i x before whole below is h)
+  module _ (asks : ColumnList → ColumnKind → Fill → Option Refusal) where
+    cut : first_in_spots asks before (flat_map f (drop i xs)) ≡ option_or (first_in_spots asks before (f x)) (first_in_spots asks (spot_columns before (f x)) behind)
+    cut = ap (λ ys. first_in_spots asks before (flat_map f ys)) (drop_step xs i x below is) ∙ spots_of_two asks before (f x) behind
 
-pub spots_go_on : {A : Type 0} (q : SpotQuestion) (incoming : ColumnList) (f : A → Spots) (xs : List A) (i : ℕ) (x : A) (before after : ColumnList) (whole : Option Refusal)
-    → i < length xs → x ≡ get_or xs i x → first_in_spots q incoming before (flat_map f (drop i xs)) ≡ whole
-    → first_in_spots q incoming before (f x) ≡ None → after ≡ spot_columns before (f x) → first_in_spots q incoming after (flat_map f (drop (i + 1) xs)) ≡ whole
-spots_go_on q incoming f xs i x before after whole below is h none e =
-    ap (λ cs. first_in_spots q incoming cs (flat_map f (drop (i + 1) xs))) e
-    ∙ sym (goes_on (first_in_spots q incoming before (f x)) (first_in_spots q incoming (spot_columns before (f x)) (flat_map f (drop (i + 1) xs))) whole none
-    (spots_cut q incoming f xs i x before whole below is h))
+    -- a refusal among them that ends the walk, ..
+    pub spots_stop : (whole : Option Refusal) (e : ScopeFault) → first_in_spots asks before (flat_map f (drop i xs)) ≡ whole → Fails e (first_in_spots asks before (f x)) → Fails e whole
+    spots_stop whole e h refuses = stops e (first_in_spots asks before (f x)) (first_in_spots asks (spot_columns before (f x)) behind) whole refuses (sym h ∙ cut)
+
+    pub spots_go_on : (after : ColumnList) (whole : Option Refusal) → first_in_spots asks before (flat_map f (drop i xs)) ≡ whole
+        → first_in_spots asks before (f x) ≡ None → after ≡ spot_columns before (f x) → first_in_spots asks after (flat_map f (drop (i + 1) xs)) ≡ whole
+    spots_go_on after whole h none e =
+        ap (λ cs. first_in_spots asks cs behind) e
+        ∙ sym (goes_on (first_in_spots asks before (f x)) (first_in_spots asks (spot_columns before (f x)) behind) whole none (sym h ∙ cut))
+
+    -- .. and one that is kept
+    pub spots_keep : (after : ColumnList) (slot more whole : Option Refusal) → option_or slot (first_in_spots asks before (flat_map f (drop i xs))) ≡ whole
+        → more ≡ option_or slot (first_in_spots asks before (f x)) → after ≡ spot_columns before (f x)
+        → option_or more (first_in_spots asks after (flat_map f (drop (i + 1) xs))) ≡ whole
+    spots_keep after slot more whole h kept e =
+        let rest = first_in_spots asks (spot_columns before (f x)) behind in
+        ap (λ cs. option_or more (first_in_spots asks cs behind)) e ∙ ap (λ o. option_or o rest) kept ∙ sym (or_assoc slot (first_in_spots asks before (f x)) rest)
+        ∙ sym (ap (option_or slot) cut) ∙ h

@@ -1,9 +1,9 @@
 //! E16: a name that stands twice, a column outside an aggregate, keys that GROUP BY misses, or no columns for `*`.
 
-ghost use Rattle.std.specs.Prelude.{◌≡◌, [], ◌∷◌, ◌++◌, map, OnOk, if◌then◌else◌, IsFalse};
+ghost use Rattle.std.specs.Prelude.{◌≡◌, [], ◌∷◌, ◌++◌, map, OnOk, if◌then◌else◌};
 ghost use Rattle.gql_expr_checks.specs.Repeated.{is_among};
 ghost use Rattle.gql_scope.specs.ColumnFaults.{columns_outside, repeated_name, faults_in_item, faults_in_list, faults_in_items, faults_in_return, faults_in_clause};
-ghost use Rattle.gql_scope.specs.WholePatterns.{column_faults, columns_past, over_clauses};
+ghost use Rattle.gql_scope.specs.WholePatterns.{column_faults};
 ghost use Rattle.gql_norm.specs.NormalData.{pattern_data};
 ghost use Rattle.gql_norm.specs.OtherDefects.{repeated_properties};
 ghost use Rattle.gql_ast.specs.Meaning.{tree_of};
@@ -13,7 +13,6 @@ ghost use Rattle.gql_ast.specs.declared.refusal.ColumnRef.TheVariants as column;
 ghost use Rattle.gql_expr_checks.specs.Gives.{Gives, Fails};
 ghost use Rattle.gql_expr_checks.specs.Machinery.Seen.{seen_names};
 
-use crate::behind::step_unless_last;
 use crate::change_maps::check_change;
 use crate::grouping::check_grouping;
 use crate::normal_clause::NormalClause;
@@ -172,7 +171,7 @@ fn check_other(alloc: Global, scope: &KnownColumns, clause: &Clause) -> Result<(
 
 /// Checks a clause.
 #[tactic(auto, using(crate::proofs::FormLemmas::by_forms))]
-fn check_clause(
+pub fn check_clause(
     alloc: Global,
     scope: &KnownColumns,
     clause: &NormalClause,
@@ -183,32 +182,4 @@ fn check_clause(
         Some(pattern) => check_match(alloc, pattern),
         None => check_other(alloc, scope, clause.clause()),
     }
-}
-
-/// Checks a clause, and changes the columns to those behind it, unless it is the last.
-fn pass_clause(
-    alloc: Global,
-    scope: &mut KnownColumns,
-    clause: &NormalClause,
-    is_last: bool,
-) -> Result<(), ScopeFault>
-    ensures faults { Gives result (refusal_of_first Refusal.Column (column_faults scope.old clause.now)) }
-    ensures columns { OnOk result (IsFalse is_last → scope.new ≡ columns_past scope.old clause.now) }
-{
-    check_clause(alloc, scope, clause)?;
-    step_unless_last(alloc, scope, clause, is_last)?;
-    Ok(())
-}
-
-/// Checks a query's clauses.
-pub fn column_faults(alloc: Global, clauses: &[NormalClause]) -> Result<(), ScopeFault>
-    ensures { Gives result (refusal_of_first Refusal.Column (over_clauses column_faults [] clauses.now)) }
-{
-    let mut scope = KnownColumns::new(alloc);
-    for i in 0..clauses.len() {
-        let clause = &clauses[i];
-        let is_last = i + 1 == clauses.len();
-        pass_clause(alloc, &mut scope, clause, is_last)?;
-    }
-    Ok(())
 }

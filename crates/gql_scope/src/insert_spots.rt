@@ -1,156 +1,126 @@
-//! A walk over the nodes and edges of an INSERT in the order of the text, each under the variables before it.
+//! One walk over the nodes and edges of an INSERT in the order of the text, each under the variables before it: it stops at the
+//! first fault of a name (E08), notes the first of a kind (E09), and leaves the new variables, of which the columns behind are made.
 
-ghost use Rattle.std.specs.Prelude.{◌≡◌, ◌++◌, OnOk};
+ghost use Rattle.std.specs.Prelude.{◌≡◌, ◌++◌, OnOk, IsFalse};
 ghost use Rattle.std.specs.List.{flat_map};
-ghost use Rattle.gql_ast.specs.InsertColumns.{step_spots, path_spots, insert_spots, with_variable, spot_columns};
+ghost use Rattle.std.specs.Option.{option_or};
+ghost use Rattle.gql_ast.specs.Endpoints.{wrong_in_spots};
+ghost use Rattle.gql_ast.specs.InsertColumns.{step_spots, path_spots, insert_spots, spot_columns};
 ghost use Rattle.gql_expr_checks.specs.Gives.{Gives};
-ghost use Rattle.gql_scope.specs.Machinery.Questions.{spot_refusal, first_in_spots};
+ghost use Rattle.gql_expr_checks.specs.Refusals.{refusal_of_first};
+ghost use Rattle.gql_scope.specs.UnknownNames.{unknown_in_spots};
+ghost use Rattle.gql_scope.specs.Machinery.Questions.{first_in_spots, unknown_at, wrong_at};
 
-use crate::change_kinds::check_endpoint;
-use crate::change_names::check_fill;
-use crate::standing::push_fresh;
-use gql_ast::{Fill, InsertPath, InsertStep};
+use crate::outputs::push_columns;
+use crate::spot_names::pass_spot;
+use gql_ast::{InsertPath, InsertStep, Refusal};
 use gql_expr_checks::{KnownColumns, ScopeFault};
-use gql_values3::ColumnKind;
+use gql_values3::{ColumnKind, OutOfMemory};
 use std::alloc::Global;
 
-/// What is asked of each node and edge.
-#[derive(Clone, Copy, Debug, PartialEq, Eq)]
-pub enum SpotQuestion {
-    /// Whether its variable may stand there, and whether its map names columns.
-    Names,
-    /// Whether its variable, where it is an endpoint that stands already, is a node.
-    Kinds,
-}
-
-/// Gives the question at a node or an edge.
-fn ask(
+/// Passes an edge and then the node to which it leads.
+#[tactic(auto, using(crate::proofs::CodeLemmas::or_none, crate::proofs::CodeLemmas::or_assoc))]
+fn pass_step(
     alloc: Global,
-    question: SpotQuestion,
-    incoming: &KnownColumns,
-    fresh: &KnownColumns,
-    kind: ColumnKind,
-    fill: &Fill,
-) -> Result<(), ScopeFault>
-    ensures { Gives result (spot_refusal question incoming.now (incoming.now ++ fresh.now) kind fill.now) }
-{
-    match question {
-        SpotQuestion::Names => check_fill(alloc, incoming, fresh, kind, fill),
-        SpotQuestion::Kinds => check_endpoint(alloc, incoming, fresh, kind, &fill.variable),
-    }
-}
-
-/// Checks a node or an edge, and adds its variable.
-fn check_spot(
-    alloc: Global,
-    question: SpotQuestion,
     incoming: &KnownColumns,
     fresh: &mut KnownColumns,
-    kind: ColumnKind,
-    fill: &Fill,
-) -> Result<(), ScopeFault>
-    ensures spot { Gives result (spot_refusal question incoming.now (incoming.now ++ fresh.old) kind fill.now) }
-    ensures columns { OnOk result (incoming.now ++ fresh.new ≡ with_variable (incoming.now ++ fresh.old) kind fill.now.variable) }
-{
-    ask(alloc, question, incoming, fresh, kind, fill)?;
-    push_fresh(alloc, incoming, fresh, kind, &fill.variable)?;
-    Ok(())
-}
-
-/// Checks an edge and then the node to which it leads, and adds their variables.
-fn check_step(
-    alloc: Global,
-    question: SpotQuestion,
-    incoming: &KnownColumns,
-    fresh: &mut KnownColumns,
+    kinds: &mut Option<Refusal>,
     step: &InsertStep,
 ) -> Result<(), ScopeFault>
-    ensures spots { Gives result (first_in_spots question incoming.now (incoming.now ++ fresh.old) (step_spots step.now)) }
+    ensures names { Gives result (first_in_spots (unknown_at incoming.now) (incoming.now ++ fresh.old) (step_spots step.now)) }
+    ensures kinds { OnOk result (kinds.new ≡ option_or kinds.old (first_in_spots wrong_at (incoming.now ++ fresh.old) (step_spots step.now))) }
     ensures columns { OnOk result (incoming.now ++ fresh.new ≡ spot_columns (incoming.now ++ fresh.old) (step_spots step.now)) }
 {
-    check_spot(
-        alloc,
-        question,
-        incoming,
-        fresh,
-        ColumnKind::Edge,
-        &step.edge,
-    )?;
-    check_spot(
-        alloc,
-        question,
-        incoming,
-        fresh,
-        ColumnKind::Node,
-        &step.node,
-    )
+    let edge = &step.edge;
+    pass_spot(alloc, incoming, fresh, kinds, ColumnKind::Edge, edge)?;
+    let node = &step.node;
+    pass_spot(alloc, incoming, fresh, kinds, ColumnKind::Node, node)
 }
 
-/// Checks a path's steps in order, and adds their variables.
-fn check_steps(
+/// Passes a path's steps in order.
+fn pass_steps(
     alloc: Global,
-    question: SpotQuestion,
     incoming: &KnownColumns,
     fresh: &mut KnownColumns,
+    kinds: &mut Option<Refusal>,
     steps: &[InsertStep],
 ) -> Result<(), ScopeFault>
-    ensures spots { Gives result (first_in_spots question incoming.now (incoming.now ++ fresh.old) (flat_map step_spots steps.now)) }
+    ensures names { Gives result (first_in_spots (unknown_at incoming.now) (incoming.now ++ fresh.old) (flat_map step_spots steps.now)) }
+    ensures kinds { OnOk result (kinds.new ≡ option_or kinds.old (first_in_spots wrong_at (incoming.now ++ fresh.old) (flat_map step_spots steps.now))) }
     ensures columns { OnOk result (incoming.now ++ fresh.new ≡ spot_columns (incoming.now ++ fresh.old) (flat_map step_spots steps.now)) }
 {
     for step in steps {
-        check_step(alloc, question, incoming, fresh, step)?;
+        pass_step(alloc, incoming, fresh, kinds, step)?;
     }
     Ok(())
 }
 
-/// Checks a path, and adds its variables.
-fn check_path(
+/// Passes a path: its first node, and then its steps.
+#[tactic(auto, using(crate::proofs::CodeLemmas::or_assoc))]
+fn pass_path(
     alloc: Global,
-    question: SpotQuestion,
     incoming: &KnownColumns,
     fresh: &mut KnownColumns,
+    kinds: &mut Option<Refusal>,
     path: &InsertPath,
 ) -> Result<(), ScopeFault>
-    ensures spots { Gives result (first_in_spots question incoming.now (incoming.now ++ fresh.old) (path_spots path.now)) }
+    ensures names { Gives result (first_in_spots (unknown_at incoming.now) (incoming.now ++ fresh.old) (path_spots path.now)) }
+    ensures kinds { OnOk result (kinds.new ≡ option_or kinds.old (first_in_spots wrong_at (incoming.now ++ fresh.old) (path_spots path.now))) }
     ensures columns { OnOk result (incoming.now ++ fresh.new ≡ spot_columns (incoming.now ++ fresh.old) (path_spots path.now)) }
 {
-    check_spot(
-        alloc,
-        question,
-        incoming,
-        fresh,
-        ColumnKind::Node,
-        &path.start,
-    )?;
-    check_steps(alloc, question, incoming, fresh, path.steps.as_slice())
+    let start = &path.start;
+    pass_spot(alloc, incoming, fresh, kinds, ColumnKind::Node, start)?;
+    pass_steps(alloc, incoming, fresh, kinds, path.steps.as_slice())
 }
 
-/// Checks the paths in order, and adds their variables.
-fn check_paths(
+/// Passes the paths in order.
+fn pass_paths(
     alloc: Global,
-    question: SpotQuestion,
     incoming: &KnownColumns,
     fresh: &mut KnownColumns,
+    kinds: &mut Option<Refusal>,
     paths: &[InsertPath],
 ) -> Result<(), ScopeFault>
-    ensures { Gives result (first_in_spots question incoming.now (incoming.now ++ fresh.old) (insert_spots paths.now)) }
+    ensures names { Gives result (first_in_spots (unknown_at incoming.now) (incoming.now ++ fresh.old) (insert_spots paths.now)) }
+    ensures kinds { OnOk result (kinds.new ≡ option_or kinds.old (first_in_spots wrong_at (incoming.now ++ fresh.old) (insert_spots paths.now))) }
+    ensures columns { OnOk result (incoming.now ++ fresh.new ≡ spot_columns (incoming.now ++ fresh.old) (insert_spots paths.now)) }
 {
     for path in paths {
-        check_path(alloc, question, incoming, fresh, path)?;
+        pass_path(alloc, incoming, fresh, kinds, path)?;
     }
     Ok(())
 }
 
-/// Checks the nodes and edges of an INSERT.
-#[tactic(auto, using(crate::proofs::SpotLemmas::nothing_new))]
-pub fn check_spots(
+/// Passes an INSERT, and adds its new variables to the columns, unless it is the last clause.
+#[tactic(auto, using(crate::proofs::SpotLemmas::nothing_new, crate::proofs::SpotLemmas::unknown_is_first, crate::proofs::SpotLemmas::wrong_is_first))]
+pub fn pass_insert(
     alloc: Global,
-    question: SpotQuestion,
-    incoming: &KnownColumns,
+    scope: &mut KnownColumns,
+    kinds: &mut Option<Refusal>,
     paths: &[InsertPath],
+    is_last: bool,
 ) -> Result<(), ScopeFault>
-    ensures { Gives result (first_in_spots question incoming.now incoming.now (insert_spots paths.now)) }
+    ensures names { Gives result (refusal_of_first Refusal.Variable (unknown_in_spots scope.old scope.old (insert_spots paths.now))) }
+    ensures kinds { OnOk result (kinds.new ≡ option_or kinds.old (refusal_of_first Refusal.Kind (wrong_in_spots scope.old (insert_spots paths.now)))) }
+    ensures columns { OnOk result (IsFalse is_last → scope.new ≡ spot_columns scope.old (insert_spots paths.now)) }
 {
     let mut fresh = KnownColumns::new(alloc);
-    check_paths(alloc, question, incoming, &mut fresh, paths)
+    pass_paths(alloc, scope, &mut fresh, kinds, paths)?;
+    append_unless_last(alloc, scope, &fresh, is_last)?;
+    Ok(())
+}
+
+/// Adds the new variables to the columns, unless nobody asks for them.
+fn append_unless_last(
+    alloc: Global,
+    scope: &mut KnownColumns,
+    fresh: &KnownColumns,
+    is_last: bool,
+) -> Result<(), OutOfMemory>
+    ensures { OnOk result (IsFalse is_last → scope.new ≡ scope.old ++ fresh.now) }
+{
+    if is_last {
+        return Ok(());
+    }
+    push_columns(alloc, scope, fresh.columns())
 }

@@ -1,13 +1,13 @@
 //! E10 and E11: a pattern joins a name that is a group, or one that is conditional.
 
-ghost use Rattle.std.specs.Prelude.{◌≡◌, [], IfOk, OnOk, IsFalse};
+ghost use Rattle.std.specs.Prelude.{◌≡◌, IfOk};
 ghost use Rattle.gql_norm.specs.NormalData.{pattern_data};
 ghost use Rattle.gql_expr_checks.specs.Refusals.{refusal_of_first};
-ghost use Rattle.gql_scope.specs.WholePatterns.{at_most_one, columns_past, joined_conditionals, joined_groups, over_clauses};
+ghost use Rattle.gql_scope.specs.WholePatterns.{at_most_one, joined_conditionals, joined_groups};
 ghost use Rattle.gql_scope.specs.Machinery.Joins.{join_refusal, joined_in_pattern, joined_names};
 ghost use Rattle.gql_expr_checks.specs.Gives.{Gives};
 
-use crate::behind::{column_list, step_unless_last};
+use crate::behind::column_list;
 use crate::normal_clause::NormalClause;
 use gql_ast::Refusal;
 use gql_degrees::{joined_conditional, joined_group};
@@ -81,44 +81,24 @@ fn check_clause(
     }
 }
 
-/// Checks a clause, and changes the columns to those behind it, unless it is the last.
-fn pass_clause(
+/// Checks that a clause joins no group.
+pub fn check_group_join(
     alloc: Global,
-    join: Join,
-    scope: &mut KnownColumns,
+    scope: &KnownColumns,
     clause: &NormalClause,
-    is_last: bool,
 ) -> Result<(), ScopeFault>
-    ensures joins { Gives result (refusal_of_first (join_refusal join) (joined_names join scope.old clause.now)) }
-    ensures columns { OnOk result (IsFalse is_last → scope.new ≡ columns_past scope.old clause.now) }
+    ensures { Gives result (refusal_of_first Refusal.GroupJoin (joined_groups scope.now clause.now)) }
 {
-    check_clause(alloc, join, scope, clause)?;
-    step_unless_last(alloc, scope, clause, is_last)?;
-    Ok(())
+    check_clause(alloc, Join::Group, scope, clause)
 }
 
-/// Checks that a query's clauses join no group.
-pub fn joined_groups(alloc: Global, clauses: &[NormalClause]) -> Result<(), ScopeFault>
-    ensures { Gives result (refusal_of_first Refusal.GroupJoin (over_clauses joined_groups [] clauses.now)) }
+/// Checks that a clause joins nothing that is conditional.
+pub fn check_conditional_join(
+    alloc: Global,
+    scope: &KnownColumns,
+    clause: &NormalClause,
+) -> Result<(), ScopeFault>
+    ensures { Gives result (refusal_of_first Refusal.CondJoin (joined_conditionals scope.now clause.now)) }
 {
-    joined_names(alloc, Join::Group, clauses)
-}
-
-/// Checks that a query's clauses join nothing that is conditional.
-pub fn joined_conditionals(alloc: Global, clauses: &[NormalClause]) -> Result<(), ScopeFault>
-    ensures { Gives result (refusal_of_first Refusal.CondJoin (over_clauses joined_conditionals [] clauses.now)) }
-{
-    joined_names(alloc, Join::Conditional, clauses)
-}
-
-fn joined_names(alloc: Global, join: Join, clauses: &[NormalClause]) -> Result<(), ScopeFault>
-    ensures { Gives result (refusal_of_first (join_refusal join) (over_clauses (joined_names join) [] clauses.now)) }
-{
-    let mut scope = KnownColumns::new(alloc);
-    for i in 0..clauses.len() {
-        let clause = &clauses[i];
-        let is_last = i + 1 == clauses.len();
-        pass_clause(alloc, join, &mut scope, clause, is_last)?;
-    }
-    Ok(())
+    check_clause(alloc, Join::Conditional, scope, clause)
 }

@@ -72,17 +72,3 @@ fn form(alloc: Global, clause: &Clause) -> Result<Option<NormalPattern>, OutOfMe
         _ => Ok(None),
     }
 }
-
-/// The clauses of a query, each with the normal form of its pattern.
-pub fn normal_clauses<'a>(
-    alloc: Global,
-    clauses: &'a [Clause],
-) -> Result<Vec<NormalClause<'a>>, OutOfMemory>
-    ensures { IfOk result (λ all. all.items ≡ clauses.now) }
-{
-    let mut all = Vec::new(alloc);
-    for i in 0..clauses.len() {
-        all.push(NormalClause::new(alloc, &clauses[i])?)?;
-    }
-    Ok(all)
-}

@@ -1,7 +1,6 @@
 //! E12 to E14: what lets a pattern have endlessly many matches. None of these asks for columns.
 
 ghost use Rattle.std.specs.Prelude.{◌≡◌};
-ghost use Rattle.std.specs.List.{list_any, flat_map};
 ghost use Rattle.gql_expr_checks.specs.Gives.{Gives};
 ghost use Rattle.gql_expr_checks.specs.Refusals.{refusal_of_first};
 ghost use Rattle.gql_norm.specs.NormalData.{pattern_data};
@@ -27,21 +26,10 @@ fn refuse_if(is_so: bool, refusal: Refusal) -> Result<(), ScopeFault>
 }
 
 /// Checks that no quantifier repeats a part that may pass no edge.
-pub fn empty_loops(clauses: &[NormalClause]) -> Result<(), ScopeFault>
-    ensures { Gives result (refused_if Refusal.EmptyLoop (list_any (of_pattern empty_loop) clauses.now)) }
+pub fn check_empty_loop(clause: &NormalClause) -> Result<(), ScopeFault>
+    ensures { Gives result (refused_if Refusal.EmptyLoop (of_pattern empty_loop clause.now)) }
 {
-    refuse_if(any_empty_loop(clauses), Refusal::EmptyLoop)
-}
-
-fn any_empty_loop(clauses: &[NormalClause]) -> bool
-    ensures { result ≡ list_any (of_pattern empty_loop) clauses.now }
-{
-    for clause in clauses {
-        if has_empty_loop(clause) {
-            return true;
-        }
-    }
-    false
+    refuse_if(has_empty_loop(clause), Refusal::EmptyLoop)
 }
 
 #[tactic(auto, using(crate::proofs::FormLemmas::by_forms))]
@@ -55,21 +43,10 @@ fn has_empty_loop(clause: &NormalClause) -> bool
 }
 
 /// Checks that nothing is repeated without a bound, unless it is protected or selected.
-pub fn open_ends(clauses: &[NormalClause]) -> Result<(), ScopeFault>
-    ensures { Gives result (refused_if Refusal.Unbounded (list_any (of_pattern unbounded) clauses.now)) }
+pub fn check_open_end(clause: &NormalClause) -> Result<(), ScopeFault>
+    ensures { Gives result (refused_if Refusal.Unbounded (of_pattern unbounded clause.now)) }
 {
-    refuse_if(any_open_end(clauses), Refusal::Unbounded)
-}
-
-fn any_open_end(clauses: &[NormalClause]) -> bool
-    ensures { result ≡ list_any (of_pattern unbounded) clauses.now }
-{
-    for clause in clauses {
-        if has_open_end(clause) {
-            return true;
-        }
-    }
-    false
+    refuse_if(has_open_end(clause), Refusal::Unbounded)
 }
 
 #[tactic(auto, using(crate::proofs::FormLemmas::by_forms))]
@@ -83,18 +60,8 @@ fn has_open_end(clause: &NormalClause) -> bool
 }
 
 /// Checks that no reference crosses a quantifier without a bound.
-#[tactic(auto, using(gql_expr_checks::proofs::RefusalLemmas::first_of_in_two))]
-pub fn open_references(alloc: Global, clauses: &[NormalClause]) -> Result<(), ScopeFault>
-    ensures { Gives result (refusal_of_first Refusal.GroupRef (flat_map open_references clauses.now)) }
-{
-    for clause in clauses {
-        check_clause(alloc, clause)?;
-    }
-    Ok(())
-}
-
 #[tactic(auto, using(crate::proofs::FormLemmas::by_forms))]
-fn check_clause(alloc: Global, clause: &NormalClause) -> Result<(), ScopeFault>
+pub fn check_references(alloc: Global, clause: &NormalClause) -> Result<(), ScopeFault>
     ensures { Gives result (refusal_of_first Refusal.GroupRef (open_references clause.now)) }
 {
     match clause.pattern() {

@@ -172,26 +172,11 @@ fn check_other(alloc: Global, params: &Params, clause: &Clause) -> Result<(), Sc
 
 /// Checks the parameters of a clause.
 #[tactic(auto, using(crate::proofs::FormLemmas::by_forms))]
-fn check_clause(alloc: Global, params: &Params, clause: &NormalClause) -> Result<(), ScopeFault>
+pub fn check_clause(alloc: Global, params: &Params, clause: &NormalClause) -> Result<(), ScopeFault>
     ensures { Gives result (refusal_of_first Refusal.Parameter (unset_in_clause params.now clause.now)) }
 {
     match clause.pattern() {
         Some(pattern) => check_pattern_parameters(alloc, params, pattern),
         None => check_other(alloc, params, clause.clause()),
     }
-}
-
-/// Checks the parameters of a query's clauses.
-#[tactic(auto, using(gql_expr_checks::proofs::RefusalLemmas::first_of_in_two))]
-pub fn unset_parameters(
-    alloc: Global,
-    params: &Params,
-    clauses: &[NormalClause],
-) -> Result<(), ScopeFault>
-    ensures { Gives result (refusal_of_first Refusal.Parameter (flat_map (unset_in_clause params.now) clauses.now)) }
-{
-    for clause in clauses {
-        check_clause(alloc, params, clause)?;
-    }
-    Ok(())
 }

@@ -1,89 +1,25 @@
 -- The laws of what stands between the brackets of an element to be inserted.
-use Rattle.std.proofs.Common.{◌≡◌, ◌<◌, ◌≤◌, Bool, false, ◌||◌, ℕ, List, [], ◌∷◌, length, Option, Some, None, refl, ap, arith}
+use Rattle.std.proofs.Common.{◌≡◌, ◌<◌, ◌≤◌, Bool, false, ◌||◌, ℕ, List, length, Option, Some, refl, arith}
 use Rattle.gql_lexer.specs.declared.lexeme.Lexeme.{Lexeme}
 use Rattle.gql_lexer.specs.declared.lexeme.Lexeme.TheVariants as lex
 use Rattle.gql_ast.specs.declared.change.Fill.{Fill}
 use Rattle.gql_ast.specs.declared.filler.MapItem.{MapItem}
 use Rattle.gql_lexer.specs.SymbolPlaces.{ampersand, opening_brace}
 use Rattle.gql_front.specs.Tables.{Begins}
-use Rattle.gql_front.specs.Reading.{is_sign, name_in, any_name_in, after, op_at, many}
+use Rattle.gql_front.specs.Reading.{is_sign, name_in, after}
 use Rattle.gql_front.proofs.Found.{Sound}
-use Rattle.gql_front.proofs.Chains.{Many}
-use Rattle.gql_front.proofs.TableLemmas.{begins_read, read_begins, begins_shorter}
+use Rattle.gql_front.proofs.TableLemmas.{begins_shorter}
 use Rattle.gql_parts.specs.Parts.{Passes, IsOptional}
 use Rattle.gql_parts.specs.PartWords.{is_colon}
 use Rattle.gql_parts.specs.FillerGrammar.{IsMap}
-use Rattle.gql_statements.specs.ChangeGrammar.{AreMoreLabels, AreLabels, BearsLabels, IsFill}
+use Rattle.gql_type.specs.LabelList.{BearsLabels}
+use Rattle.gql_statements.specs.ChangeGrammar.{IsFill}
 use Rattle.gql_parts.specs.Machinery.FillerReaders.{map_of, variable_of}
-use Rattle.gql_statements.specs.Machinery.ChangeReaders.{other_label_of, other_labels_of, label_names_of, fill_labels_of, fill_map_of, fill_of, between_of}
-use Rattle.gql_parts.proofs.PartLaws.{Stops, left_stops, right_stops, Led, bind_then, finish, passes_after, after_passes, passes_shorter, stops_after, sign_apart, passes_stops, optional_stops, optional_shorter, led_sound, led_exact}
-use Rattle.gql_parts.proofs.ManyLaws.{many_sound, many_exact, many_shorter}
+use Rattle.gql_type.specs.Machinery.LabelListReaders.{optional_labels_of}
+use Rattle.gql_statements.specs.Machinery.ChangeReaders.{fill_map_of, fill_of, between_of}
+use Rattle.gql_parts.proofs.PartLaws.{Stops, left_stops, right_stops, Led, bind_then, finish, passes_after, after_passes, passes_shorter, sign_apart, passes_stops, optional_stops, optional_shorter, led_sound, led_exact}
 use Rattle.gql_parts.proofs.FillerLaws.{MapRest, map_sound, map_exact, map_shorter, is_name, variable_sound, variable_exact, colon_apart}
-
--- {"&" Any}*
-
-abbrev OtherLabel : List ℕ → List Lexeme → List Lexeme → Type 0
-OtherLabel l ts r = (a : List Lexeme) × Passes (is_sign ampersand) ts a × Begins any_name_in l a r
-
-others_are : Many OtherLabel AreMoreLabels
-others_are = record { none = λ r. refl; is_none = λ ts r h. h; more = more; is_more = is_more }
-  where
-    more : (l : List ℕ) (ls : List (List ℕ)) (ts m r : List Lexeme) → OtherLabel l ts m → AreMoreLabels ls m r → AreMoreLabels (l ∷ ls) ts r
-    more l ls ts m r h k = (h.0, h.1, m, h.2, k)
-
-    is_more : (l : List ℕ) (ls : List (List ℕ)) (ts r : List Lexeme) → AreMoreLabels (l ∷ ls) ts r → (m : List Lexeme) × OtherLabel l ts m × AreMoreLabels ls m r
-    is_more l ls ts r h = (h.2, (h.0, h.1, h.3), h.4)
-
-other_label_sound : Sound OtherLabel other_label_of
-unfolding other_label_of
-other_label_sound ts l r e = bind_then (after (is_sign ampersand) ts) _ (l, r) e (λ a p e. (a, after_passes (is_sign ampersand) ts a p, read_begins any_name_in a l r e))
-
-other_label_exact : (l : List ℕ) (ts s : List Lexeme) → OtherLabel l ts s → other_label_of ts ≡ Some (l, s)
-unfolding other_label_of
-other_label_exact l ts s h = rw (passes_after (is_sign ampersand) ts h.0 h.1) (begins_read any_name_in l h.0 s h.2)
-
-other_label_shorter : (l : List ℕ) (ts r : List Lexeme) → OtherLabel l ts r → length r < length ts
-other_label_shorter l ts r h = omega (arith, passes_shorter (is_sign ampersand) ts h.0 h.1, begins_shorter any_name_in l h.0 r h.2)
-
-pub no_ampersand : (s : List Lexeme) → Stops (is_sign ampersand) s → other_label_of s ≡ None
-unfolding other_label_of
-no_ampersand s stop = rw (stops_after (is_sign ampersand) s stop) refl
-
--- Any {"&" Any}*
-
-label_names_sound : Sound AreLabels label_names_of
-unfolding label_names_of other_labels_of
-label_names_sound ts ls r e =
-    bind_then (op_at any_name_in ts) _ (ls, r) e (λ x p e.
-    let others = many other_label_of (length x.1) x.1 in
-    finish (λ ls r. AreLabels ls ts r) (x.0 ∷ others.0) others.1 ls r e
-    (x.1, read_begins any_name_in ts x.0 x.1 p, many_sound other_label_of OtherLabel AreMoreLabels others_are other_label_sound (length x.1) x.1))
-
-label_names_exact : (ls : List (List ℕ)) (ts s : List Lexeme) → AreLabels ls ts s → Stops (is_sign ampersand) s → label_names_of ts ≡ Some (ls, s)
-unfolding label_names_of other_labels_of
-label_names_exact [] ts s h stop = absurd h
-label_names_exact (l ∷ ls) ts s h stop =
-    let others = many_exact other_label_of OtherLabel AreMoreLabels others_are other_label_shorter other_label_exact ls (length h.0) h.0 s (omega arith) h.2 (no_ampersand s stop) in
-    rw (begins_read any_name_in l ts h.0 h.1) (ap (λ (z : List (List ℕ) × List Lexeme). Some (l ∷ z.0, z.1)) others)
-
-label_names_shorter : (ls : List (List ℕ)) (ts r : List Lexeme) → AreLabels ls ts r → length r < length ts
-label_names_shorter [] ts r h = absurd h
-label_names_shorter (l ∷ ls) ts r h =
-    omega (arith, begins_shorter any_name_in l ts h.0 h.1, many_shorter other_label_of OtherLabel AreMoreLabels others_are other_label_shorter ls h.0 r h.2)
-
--- [(":" or IS) Labels]
-
-fill_labels_sound : Sound (IsOptional BearsLabels) fill_labels_of
-unfolding fill_labels_of
-fill_labels_sound = led_sound is_colon label_names_of BearsLabels AreLabels (λ x ts r h. h) (λ x ts r h. h) label_names_sound
-
-fill_labels_exact : (ls : Option (List (List ℕ))) (ts s : List Lexeme) → IsOptional BearsLabels ls ts s → Stops is_colon s → Stops (is_sign ampersand) s → fill_labels_of ts ≡ Some (ls, s)
-unfolding fill_labels_of
-fill_labels_exact ls ts s h stop end =
-    led_exact is_colon label_names_of BearsLabels AreLabels (λ x ts r h. h) (λ x ts r h. h) ls ts s (λ x a k. label_names_exact x a s k end) h stop
-
-fill_labels_shorter : (ls : Option (List (List ℕ))) (ts r : List Lexeme) → IsOptional BearsLabels ls ts r → length r ≤ length ts
-fill_labels_shorter = optional_shorter BearsLabels (λ l ts r h. omega (arith, passes_shorter is_colon ts h.0 h.1, label_names_shorter l h.0 r h.2))
+use Rattle.gql_type.proofs.LabelListLaws.{labels_sound, labels_exact, labels_shorter}
 
 -- [Map]
 
@@ -110,10 +46,10 @@ fill_sound : Sound IsFill fill_of
 unfolding fill_of
 fill_sound ts f r e =
     bind_then (variable_of ts) _ (f, r) e (λ x p e.
-    bind_then (fill_labels_of x.1) _ (f, r) e (λ l q e.
+    bind_then (optional_labels_of x.1) _ (f, r) e (λ l q e.
     bind_then (fill_map_of l.1) _ (f, r) e (λ m k e.
     finish (λ f r. IsFill f ts r) (record { variable = x.0; labels = l.0; map = m.0 }) m.1 f r e
-    (x.1, variable_sound ts x.0 x.1 p, l.1, fill_labels_sound x.1 l.0 l.1 q, fill_map_sound l.1 m.0 m.1 k))))
+    (x.1, variable_sound ts x.0 x.1 p, l.1, labels_sound x.1 l.0 l.1 q, fill_map_sound l.1 m.0 m.1 k))))
 
 -- a fill may go on with these
 abbrev pub goes_fill : Lexeme → Bool
@@ -131,7 +67,7 @@ fill_exact f ts s h stop =
     (behind_labels is_name refl (left_stops is_name is_colon s front)) in
     rw (
       variable_exact f.variable ts h.0 h.1 behind_name,
-      fill_labels_exact f.labels h.0 h.2 h.3
+      labels_exact f.labels h.0 h.2 h.3
           (behind_labels is_colon refl (right_stops is_name is_colon s front))
           (behind_labels (is_sign ampersand) refl (left_stops (is_sign ampersand) (is_sign opening_brace) s back)),
       fill_map_exact f.map h.2 s h.4 (right_stops (is_sign ampersand) (is_sign opening_brace) s back),
@@ -142,7 +78,7 @@ fill_shorter f ts r h =
     omega (
       arith,
       optional_shorter (Begins name_in) (begins_shorter name_in) f.variable ts h.0 h.1,
-      fill_labels_shorter f.labels h.0 h.2 h.3,
+      labels_shorter f.labels h.0 h.2 h.3,
       fill_map_shorter f.map h.2 r h.4,
     )
 

@@ -22,7 +22,7 @@ use Rattle.gql_ast.specs.declared.change.RemoveItem.{RemoveItem}
 use Rattle.gql_ast.specs.declared.change.RemoveItem.TheVariants as remove_item
 use Rattle.gql_ast.specs.declared.change.SetItem.{SetItem}
 use Rattle.gql_ast.specs.declared.change.SetItem.TheVariants as set_item
-use Rattle.gql_lexer.specs.SymbolPlaces.{opening, closing, opening_bracket, closing_bracket, minus, tilde, left_arrow, ampersand, dot, equal}
+use Rattle.gql_lexer.specs.SymbolPlaces.{opening, closing, opening_bracket, closing_bracket, minus, tilde, left_arrow, dot, equal}
 use Rattle.gql_lexer.specs.WordPlaces as word
 use Rattle.gql_front.specs.Tables.{Begins}
 use Rattle.gql_front.specs.Reading.{is_sign, is_word, name_in, any_name_in}
@@ -30,22 +30,8 @@ use Rattle.gql_parts.specs.Parts.{Passes, MayPass, IsOptional, IsListOf}
 use Rattle.gql_parts.specs.Values.{IsValue}
 use Rattle.gql_parts.specs.PartWords.{is_colon}
 use Rattle.gql_parts.specs.FillerGrammar.{IsMap}
+use Rattle.gql_type.specs.LabelList.{BearsLabels}
 use Rattle.gql_type.specs.TypeWords.{closing_of}
-
--- {"&" Any}*
-abbrev pub AreMoreLabels : List (List ℕ) → List Lexeme → List Lexeme → Type 0
-AreMoreLabels [] ts r = ts ≡ r
-AreMoreLabels (l ∷ ls) ts r =
-    (a : List Lexeme) × Passes (is_sign ampersand) ts a × (b : List Lexeme) × Begins any_name_in l a b × AreMoreLabels ls b r
-
--- Any {"&" Any}*
-abbrev pub AreLabels : List (List ℕ) → List Lexeme → List Lexeme → Type 0
-AreLabels [] ts r = ⊥
-AreLabels (l ∷ ls) ts r = (a : List Lexeme) × Begins any_name_in l ts a × AreMoreLabels ls a r
-
--- (":" or IS) Labels
-abbrev pub BearsLabels : List (List ℕ) → List Lexeme → List Lexeme → Type 0
-BearsLabels ls ts r = (a : List Lexeme) × Passes is_colon ts a × AreLabels ls a r
 
 -- what stands between the brackets of an element to be inserted: a variable, labels, and a map, in this order, each of which may be missing
 abbrev pub IsFill : Fill → List Lexeme → List Lexeme → Type 0

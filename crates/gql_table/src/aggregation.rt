@@ -88,6 +88,7 @@ fn names_group(columns: &[(Text, ColumnKind)], blank: &[Value], expr: &Expr) -> 
         front: &[],
         header: Header::Listed(columns),
         row: blank,
+        names: &[],
         bound: &[],
     };
     match group_name(&scope, expr) {

@@ -6,12 +6,13 @@ use Rattle.std.proofs.lemmas.Bool.{and_from, and_parts}
 use Rattle.gql_values3.specs.Texts.{same_text, texts_differ}
 use Rattle.gql_ports.specs.Held.{keys_ascend, value_at, value_after}
 use Rattle.gql_ports.specs.declared.stored.Record.{Record}
+use Rattle.gql_rowcode.proofs.NameLemmas.{text_is, text_same}
 use Rattle.gql_rowcode.proofs.OrderingLists.{all_weaker}
 use Rattle.gql_txn.specs.Machinery.Changes.{is_value, has_record, has_key, puts_of, drops_of}
 use Rattle.std.proofs.lemmas.List.{append-nil}
 use Rattle.std.proofs.lemmas.List.Elements.{filter-append}
 use Rattle.gql_txn.proofs.LoadLemmas.{take-next}
-use Rattle.gql_txn.proofs.ValueLemmas.{record_with, same_itself, same_is, rest_ascends, value_first, value_behind, first_once}
+use Rattle.gql_txn.proofs.ValueLemmas.{record_with, rest_ascends, value_first, value_behind, first_once}
 
 -- ---- what stands at a key among the records that pass a test
 
@@ -38,7 +39,7 @@ module _ (test : Record → Bool) where
       → value_at (filter test xs) key ≡ passed test key (value_at xs key) → value_at (filter test (x ∷ xs)) key ≡ passed test key (value_at (x ∷ xs) key)
   filter_case true x xs key e up more =
       let none : value_at (filter test xs) key ≡ None = more ∙ ap (passed test key) (first_once x xs key up e) in
-      let keys : x.key ≡ key = sym (same_is key x.key e) in
+      let keys : x.key ≡ key = sym (text_is key x.key e) in
       let passes : test x ≡ test (record_with key x.value) = ap (λ (k : List ℕ). test (record_with k x.value)) keys in
       here_case (test x) x xs (filter test xs) key e none ∙ ap (λ (b : Bool). if_passes b x.value) passes ∙ sym (ap (passed test key) (value_first x xs key e))
   filter_case false x xs key e up more =
@@ -93,7 +94,7 @@ dropped_is before after key None up e = any_passed (λ (r : Record). not (has_ke
 dropped_is before after key (Some value) up e = any_passed (λ (r : Record). not (has_key after r)) key before up ∙ ap (λ (o : Option (List ℕ)). is_some (passed (λ (r : Record). not (has_key after r)) key o)) e
 
 value_settled : (value other : List ℕ) (b : Bool) → same_text value other ≡ b → settled_by (if_passes (not b) value) false (Some other) ≡ Some value
-value_settled value other true e = ap (λ (v : List ℕ). Some v) (sym (same_is value other e))
+value_settled value other true e = ap (λ (v : List ℕ). Some v) (sym (text_is value other e))
 value_settled value other false e = refl
 
 settled_is : (a b : Option (List ℕ)) → settled_by (put_at a b) (is_some (dropped_at a b)) a ≡ b
@@ -114,7 +115,7 @@ changes_lead before after up up' key =
 -- a key that was first and has no value behind it
 differ_case : (test : Record → Bool) (b : Bool) (x : Record) (xs : List Record) → keys_ascend (x ∷ xs) ≡ true → texts_differ (keys (filter test xs)) ≡ true → texts_differ (keys (cond b (x ∷ filter test xs) (filter test xs))) ≡ true
 differ_case test true x xs up more =
-    let none : list_any (same_text x.key) (keys (filter test xs)) ≡ false = any_passed test x.key xs (rest_ascends x xs up) ∙ ap (λ (o : Option (List ℕ)). is_some (passed test x.key o)) (first_once x xs x.key up (same_itself x.key)) in
+    let none : list_any (same_text x.key) (keys (filter test xs)) ≡ false = any_passed test x.key xs (rest_ascends x xs up) ∙ ap (λ (o : Option (List ℕ)). is_some (passed test x.key o)) (first_once x xs x.key up (text_same x.key)) in
     and_from (not (list_any (same_text x.key) (keys (filter test xs)))) (texts_differ (keys (filter test xs))) (ap not none) more
 differ_case test false x xs up more = more
 
@@ -134,7 +135,7 @@ value_too false x xs r e there = ap is_some (value_behind x xs r.key e) ∙ ther
 all_have_value : (xs : List Record) → AllByRecursion (HasValue xs) xs
 all_have_value [] = tt
 all_have_value (x ∷ xs) =
-    (ap is_some (value_first x xs x.key (same_itself x.key)), all_weaker (HasValue xs) (HasValue (x ∷ xs)) (λ r there. value_too (same_text r.key x.key) x xs r refl there) xs (all_have_value xs))
+    (ap is_some (value_first x xs x.key (text_same x.key)), all_weaker (HasValue xs) (HasValue (x ∷ xs)) (λ r there. value_too (same_text r.key x.key) x xs r refl there) xs (all_have_value xs))
 
 all_of_filter : (P : Record → Type 0) (test : Record → Bool) (xs : List Record) → AllByRecursion P xs → AllByRecursion P (filter test xs)
 all_of_filter P test [] all = tt

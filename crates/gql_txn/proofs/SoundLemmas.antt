@@ -1,12 +1,11 @@
 -- Each change of a sound catalog leaves a sound one.
 use Rattle.std.proofs.Common.{◌≡◌, ◌≢◌, ℕ, Bool, true, false, cond, not, ◌&&◌, List, [], ◌∷◌, map, Option, Some, None, refl, sym, ap, ◌∙◌, IsTrue}
-use Rattle.std.specs.Prelude.{find, filter, is_some, option_map, if◌then◌else◌}
+use Rattle.std.specs.Prelude.{find, is_some, option_map, if◌then◌else◌}
 use Rattle.std.specs.Option.{option_or}
 use Rattle.std.specs.List.{AllByRecursion, list_all}
 use Rattle.std.proofs.lemmas.Bool.{and_from, and_parts}
 use Rattle.gql_values3.specs.PropertyGraph.{PropertyGraph, is_graph}
 use Rattle.gql_values3.specs.Texts.{same_text, texts_ascend}
-use Rattle.gql_values3.specs.declared.element.Elem.{Elem}
 use Rattle.gql_values3.specs.declared.element.Elem.TheVariants as elem
 use Rattle.gql_values3.specs.declared.records.NodeRecord.{NodeRecord}
 use Rattle.gql_values3.specs.declared.records.EdgeRecord.{EdgeRecord}
@@ -17,12 +16,13 @@ use Rattle.gql_graph.proofs.NamedLemmas.{list_all-put, list_all-without}
 use Rattle.gql_type.specs.Conformance.{node_fits, edge_fits, conforms, first_misfit}
 use Rattle.gql_type.specs.GraphTypes.{is_graph_type}
 use Rattle.gql_type.specs.SoundCatalog.{conforms_to, fits_kind, is_sound}
+use Rattle.gql_rowcode.proofs.NameLemmas.{named_here, named_later, text_is, text_same}
 use Rattle.gql_rowcode.proofs.OrderingLists.{Pairs, all_of_map}
 use Rattle.gql_rowcode.proofs.OrderingKeys.{names_differ}
 use Rattle.gql_txn.specs.TxnData.{type_named, type_of_held, type_of_graph, misfit_under, misfit_in, new_graph}
 use Rattle.gql_txn.specs.Edits.{is_named, is_unused}
 use Rattle.gql_txn.specs.Machinery.Meaning.{kept_of}
-use Rattle.gql_txn.proofs.ValueLemmas.{same_itself, same_is, other_key}
+use Rattle.gql_txn.proofs.ValueLemmas.{other_key}
 
 -- ---- soundness, part by part
 
@@ -30,7 +30,7 @@ abbrev is_type : List ℕ × GraphType → Bool
 is_type t = is_graph_type t.1
 
 -- the graph fits its type
-abbrev fits : List (List ℕ × GraphType) → List ℕ × CatalogGraph → Bool
+abbrev pub fits : List (List ℕ × GraphType) → List ℕ × CatalogGraph → Bool
 fits types g = fits_kind types g.1.graph g.1.kind
 
 record SoundParts (c : CatalogData) : Type 0 where
@@ -80,7 +80,8 @@ empty_conforms : (o : Option GraphType) → is_some o ≡ true → conforms_to e
 empty_conforms None h = absurd cc
 empty_conforms (Some t) h = refl
 
-empty_fits : (types : List (List ℕ × GraphType)) (kind : Option (List ℕ)) → ((t : List ℕ) → kind ≡ Some t → is_some (named t types) ≡ true) → fits_kind types empty_graph kind ≡ true
+-- a graph without elements conforms to each type that is there
+pub empty_fits : (types : List (List ℕ × GraphType)) (kind : Option (List ℕ)) → ((t : List ℕ) → kind ≡ Some t → is_some (named t types) ≡ true) → fits_kind types empty_graph kind ≡ true
 empty_fits types None there = refl
 empty_fits types (Some t) there = empty_conforms (named t types) (there t refl)
 
@@ -101,28 +102,22 @@ named_step {X} n y ys zs more = by_case (same_text n y.0) (find (λ (z : List �
     by_case true o p e = refl
     by_case false o p e = e
 
-named_behind : {X : Type 0} (n : List ℕ) (y : List ℕ × X) (ys : List (List ℕ × X)) → same_text n y.0 ≡ false → named n (y ∷ ys) ≡ named n ys
-named_behind {X} n y ys e = ap (λ (b : Bool). option_map (λ (z : List ℕ × X). z.1) (cond b (Some y) (find (λ (z : List ℕ × X). same_text n z.0) ys))) e
-
-named_first : {X : Type 0} (n : List ℕ) (y : List ℕ × X) (ys : List (List ℕ × X)) → same_text n y.0 ≡ true → named n (y ∷ ys) ≡ Some y.1
-named_first {X} n y ys e = ap (λ (b : Bool). option_map (λ (z : List ℕ × X). z.1) (cond b (Some y) (find (λ (z : List ℕ × X). same_text n z.0) ys))) e
-
 either_named : {X : Type 0} (n : List ℕ) (o : Option X) (b : Bool) (ys zs : List (List ℕ × X)) → named n ys ≡ o → named n zs ≡ o → named n (cond b ys zs) ≡ o
 either_named n o true ys zs p q = p
 either_named n o false ys zs p q = q
 
 named_put : {X : Type 0} (n name : List ℕ) (x : X) (ys : List (List ℕ × X)) → same_text n name ≡ false → named n (put_named name x ys) ≡ named n ys
-named_put n name x [] apart = named_behind n (name, x) [] apart
+named_put n name x [] apart = named_later n (name, x) [] apart
 named_put n name x (y ∷ ys) apart =
     either_named n (named n (y ∷ ys)) (is_before name y.0) ((name, x) ∷ y ∷ ys) (y ∷ put_named name x ys)
-    (named_behind n (name, x) (y ∷ ys) apart) (named_step n y (put_named name x ys) ys (named_put n name x ys apart))
+    (named_later n (name, x) (y ∷ ys) apart) (named_step n y (put_named name x ys) ys (named_put n name x ys apart))
 
 named_without : {X : Type 0} (n name : List ℕ) (ys : List (List ℕ × X)) → n ≢ name → named n (without_named name ys) ≡ named n ys
 named_without n name [] differ = refl
 named_without {X} n name (y ∷ ys) differ = by_case (same_text name y.0) refl (named_without n name ys differ)
   where
     by_case : (b : Bool) → same_text name y.0 ≡ b → named n (without_named name ys) ≡ named n ys → named n (cond (not b) (y ∷ without_named name ys) (without_named name ys)) ≡ named n (y ∷ ys)
-    by_case true e more = more ∙ sym (named_behind n y ys (other_key n y.0 (λ same. differ (same ∙ sym (same_is name y.0 e)))))
+    by_case true e more = more ∙ sym (named_later n y ys (other_key n y.0 (λ same. differ (same ∙ sym (text_is name y.0 e)))))
     by_case false e more = named_step n y (without_named name ys) ys more
 
 -- a name under which nothing stands is none of a type that a graph conforms to
@@ -136,28 +131,33 @@ put_fits types name t g None none h = refl
 put_fits types name t g (Some n) none h =
     ap (conforms_to g) (named_put n name t types (other_key n name (conforms_differs g types n name none h))) ∙ h
 
+pub fit_with_type : (name : List ℕ) (t : GraphType) (c : CatalogData) → type_in c name ≡ None → list_all (fits c.types) c.graphs ≡ true → list_all (fits (put_named name t c.types)) c.graphs ≡ true
+fit_with_type name t c none fit = all_too (fits c.types) (fits (put_named name t c.types)) (λ g one. put_fits c.types name t g.1.graph g.1.kind none one) c.graphs fit
+
 pub sound_with_type : (name : List ℕ) (t : GraphType) (c : CatalogData) → is_sound c ≡ true → type_in c name ≡ None → is_graph_type t ≡ true → is_catalog (with_type name t c) ≡ true → is_sound (with_type name t c) ≡ true
 sound_with_type name t c h none kind one =
     let parts = parts_of c h in
-    sound_by (with_type name t c) one (list_all-put name t is_type c.types kind parts.types)
-    (all_too (fits c.types) (fits (put_named name t c.types)) (λ g fit. put_fits c.types name t g.1.graph g.1.kind none fit) c.graphs parts.graphs)
+    sound_by (with_type name t c) one (list_all-put name t is_type c.types kind parts.types) (fit_with_type name t c none parts.graphs)
 
 without_fits : (types : List (List ℕ × GraphType)) (name : List ℕ) (g : PropertyGraph) (kind : Option (List ℕ)) → fits_kind types g kind ≡ true → not (is_named name kind) ≡ true → fits_kind (without_named name types) g kind ≡ true
 without_fits types name g None h unused = refl
 without_fits types name g (Some n) h unused = ap (conforms_to g) (named_without n name types (λ same. named_other (same_text name n) unused (ap (same_text name) same ∙ itself))) ∙ h
   where
     itself : same_text name name ≡ true
-    itself = same_itself name
+    itself = text_same name
 
     named_other : (b : Bool) → not b ≡ true → b ≡ true → ⊥
     named_other true p q = cc
     named_other false p q = cc
 
+pub fit_without_type : (name : List ℕ) (c : CatalogData) → is_unused name c ≡ true → list_all (fits c.types) c.graphs ≡ true → list_all (fits (without_named name c.types)) c.graphs ≡ true
+fit_without_type name c unused fit =
+    all_both_too (fits c.types) (λ (p : List ℕ × CatalogGraph). not (is_named name p.1.kind)) (fits (without_named name c.types)) (λ g one free. without_fits c.types name g.1.graph g.1.kind one free) c.graphs fit unused
+
 pub sound_without_type : (name : List ℕ) (c : CatalogData) → is_sound c ≡ true → is_unused name c ≡ true → is_catalog (without_type name c) ≡ true → is_sound (without_type name c) ≡ true
 sound_without_type name c h unused one =
     let parts = parts_of c h in
-    sound_by (without_type name c) one (list_all-without name is_type c.types parts.types)
-    (all_both_too (fits c.types) (λ (p : List ℕ × CatalogGraph). not (is_named name p.1.kind)) (fits (without_named name c.types)) (λ g fit free. without_fits c.types name g.1.graph g.1.kind fit free) c.graphs parts.graphs unused)
+    sound_by (without_type name c) one (list_all-without name is_type c.types parts.types) (fit_without_type name c unused parts.graphs)
 
 -- a type that is found by its name is one
 found_passes : (n : List ℕ) (ts : List (List ℕ × GraphType)) (t : GraphType) → named n ts ≡ Some t → list_all is_type ts ≡ true → is_graph_type t ≡ true
@@ -168,10 +168,10 @@ found_passes n (s ∷ ts) t e all =
   where
     by_case : (b : Bool) → same_text n s.0 ≡ b → is_type s ≡ true → (named n ts ≡ Some t → is_graph_type t ≡ true) → is_graph_type t ≡ true
     by_case true h here more =
-        let one : Some s.1 ≡ Some t = sym (named_first n s ts h) ∙ e in
+        let one : Some s.1 ≡ Some t = sym (named_here n s ts h) ∙ e in
         let same : s.1 ≡ t = cc in
         ap is_graph_type (sym same) ∙ here
-    by_case false h here more = more (sym (named_behind n s ts h) ∙ e)
+    by_case false h here more = more (sym (named_later n s ts h) ∙ e)
 
 kind_passes : (types : List (List ℕ × GraphType)) (kind : Option (List ℕ)) (t : GraphType) → list_all is_type types ≡ true → type_named types kind ≡ Some t → is_graph_type t ≡ true
 kind_passes types None t all e = absurd cc
@@ -216,12 +216,12 @@ fits_too types g graph (Some n) none h = conforms_too g graph (named n types) no
 
 named_absent : {X : Type 0} (name : List ℕ) (ys : List (List ℕ × X)) → AllByRecursion (λ (y : List ℕ × X). name ≢ y.0) ys → named name ys ≡ None
 named_absent name [] all = refl
-named_absent name (y ∷ ys) all = named_behind name y ys (other_key name y.0 all.0) ∙ named_absent name ys all.1
+named_absent name (y ∷ ys) all = named_later name y ys (other_key name y.0 all.0) ∙ named_absent name ys all.1
 
 -- a name that was found is not found behind it
 named_once : (name : List ℕ) (g : List ℕ × CatalogGraph) (gs : List (List ℕ × CatalogGraph)) → same_text name g.0 ≡ true → Pairs (λ (a b : List ℕ). a ≢ b) (names (g ∷ gs)) → named name gs ≡ None
 named_once name g gs e differ =
-    ap (λ (n : List ℕ). named n gs) (same_is name g.0 e) ∙ named_absent g.0 gs (all_of_map (λ (n : List ℕ). g.0 ≢ n) (λ (p : List ℕ × CatalogGraph). p.0) gs differ.0)
+    ap (λ (n : List ℕ). named n gs) (text_is name g.0 e) ∙ named_absent g.0 gs (all_of_map (λ (n : List ℕ). g.0 ≢ n) (λ (p : List ℕ × CatalogGraph). p.0) gs differ.0)
 
 module _ (c : CatalogData) (name : List ℕ) (graph : PropertyGraph) where
   abbrev put_graph : List ℕ × CatalogGraph → List ℕ × CatalogGraph
@@ -234,11 +234,11 @@ module _ (c : CatalogData) (name : List ℕ) (graph : PropertyGraph) where
   put_case : (b : Bool) (g : List ℕ × CatalogGraph) (gs more : List (List ℕ × CatalogGraph)) → same_text name g.0 ≡ b → Pairs (λ (a b : List ℕ). a ≢ b) (names (g ∷ gs)) → NoMisfit (g ∷ gs) → fits c.types g ≡ true
       → (NoMisfit gs → list_all (fits c.types) more ≡ true) → list_all (fits c.types) (cond b (g.0, record { graph = graph; kind = g.1.kind }) g ∷ more) ≡ true
   put_case true g gs more e differ none fit rest =
-      let here : misfit_under (type_named c.types g.1.kind) graph ≡ None = ap (λ (o : Option CatalogGraph). misfit_under (type_of_held c o) graph) (sym (named_first name g gs e)) ∙ none in
+      let here : misfit_under (type_named c.types g.1.kind) graph ≡ None = ap (λ (o : Option CatalogGraph). misfit_under (type_of_held c o) graph) (sym (named_here name g gs e)) ∙ none in
       let behind : NoMisfit gs = ap (λ (o : Option CatalogGraph). misfit_under (type_of_held c o) graph) (named_once name g gs e differ) in
       and_from (fits_kind c.types graph g.1.kind) (list_all (fits c.types) more) (fits_too c.types g.1.graph graph g.1.kind here fit) (rest behind)
   put_case false g gs more e differ none fit rest =
-      let behind : NoMisfit gs = ap (λ (o : Option CatalogGraph). misfit_under (type_of_held c o) graph) (sym (named_behind name g gs e)) ∙ none in
+      let behind : NoMisfit gs = ap (λ (o : Option CatalogGraph). misfit_under (type_of_held c o) graph) (sym (named_later name g gs e)) ∙ none in
       and_from (fits c.types g) (list_all (fits c.types) more) fit (rest behind)
 
   all_fit : (gs : List (List ℕ × CatalogGraph)) → Pairs (λ (a b : List ℕ). a ≢ b) (names gs) → NoMisfit gs → list_all (fits c.types) gs ≡ true → list_all (fits c.types) (map put_graph gs) ≡ true
@@ -247,9 +247,12 @@ module _ (c : CatalogData) (name : List ℕ) (graph : PropertyGraph) where
       let parts = and_parts (fits c.types g) (list_all (fits c.types) gs) fit in
       put_case (same_text name g.0) g gs (map put_graph gs) refl differ none parts.0 (λ behind. all_fit gs differ.1 behind parts.1)
 
+  pub fit_replaced : texts_ascend (names c.graphs) ≡ true → misfit_in c name graph ≡ None → list_all (fits c.types) c.graphs ≡ true → list_all (fits c.types) (replaced name graph c).graphs ≡ true
+  fit_replaced ascend none fit = all_fit c.graphs (names_differ (names c.graphs) ascend) none fit
+
   pub sound_replaced : is_sound c ≡ true → misfit_in c name graph ≡ None → is_catalog (replaced name graph c) ≡ true → is_sound (replaced name graph c) ≡ true
   sound_replaced h none one =
       let parts = parts_of c h in
       let both = and_parts (texts_ascend (names c.graphs) && texts_ascend (names c.types)) (list_all (λ (g : List ℕ × CatalogGraph). is_graph g.1.graph) c.graphs) parts.catalog in
       let ascend : texts_ascend (names c.graphs) ≡ true = (and_parts (texts_ascend (names c.graphs)) (texts_ascend (names c.types)) both.0).0 in
-      sound_by (replaced name graph c) one parts.types (all_fit c.graphs (names_differ (names c.graphs) ascend) none parts.graphs)
+      sound_by (replaced name graph c) one parts.types (fit_replaced ascend none parts.graphs)

@@ -12,12 +12,13 @@ use Rattle.gql_ports.specs.Told.{MatchTold}
 use Rattle.gql_ports.specs.declared.stored.Record.{Record}
 use Rattle.gql_rowcode.specs.Records.{Form, record_of}
 use Rattle.gql_rowcode.specs.StandFor.{catalog_forms, AreRecordsOf, StandFor}
+use Rattle.gql_rowcode.proofs.NameLemmas.{text_same}
 use Rattle.gql_rowcode.proofs.OrderingLists.{all_weaker}
 use Rattle.gql_rowcode.proofs.ReadLemmas.{stand_for_one}
 use Rattle.gql_txn.specs.Keeps.{Keeps}
 use Rattle.gql_txn.specs.Machinery.Changes.{is_value, has_record, has_key, puts_of, gone_of, drops_of}
 use Rattle.gql_txn.specs.Machinery.Storing.{AppliesInOrder, Leads}
-use Rattle.gql_txn.proofs.ValueLemmas.{same_itself, rest_ascends, value_first, value_behind, same_records, one_list, contained_value}
+use Rattle.gql_txn.proofs.ValueLemmas.{rest_ascends, value_first, value_behind, same_records, one_list, contained_value}
 use Rattle.gql_txn.proofs.ChangeLemmas.{changes_lead}
 
 -- ---- one list of records for each catalog
@@ -92,7 +93,7 @@ all_there xs up = recursion_from_All (λ (r : Record). value_at xs r.key ≡ Som
 pub no_puts : (xs : List Record) → keys_ascend xs ≡ true → puts_of xs xs ≡ []
 no_puts xs up =
     filter_none (λ (r : Record). not (has_record xs r)) xs
-    (all_weaker (λ (r : Record). value_at xs r.key ≡ Some r.value) (λ (r : Record). not (has_record xs r) ≡ false) (λ r there. ap (λ (o : Option (List ℕ)). not (is_value r.value o)) there ∙ ap not (same_itself r.value)) xs (all_there xs up))
+    (all_weaker (λ (r : Record). value_at xs r.key ≡ Some r.value) (λ (r : Record). not (has_record xs r) ≡ false) (λ r there. ap (λ (o : Option (List ℕ)). not (is_value r.value o)) there ∙ ap not (text_same r.value)) xs (all_there xs up))
 
 pub no_drops : (xs : List Record) → keys_ascend xs ≡ true → drops_of xs xs ≡ []
 no_drops xs up =

@@ -4,15 +4,14 @@ use Rattle.std.specs.Prelude.{Contains, find, filter, option_map, is_some, ◌&&
 use Rattle.std.specs.List.{AllByRecursion, list_any}
 use Rattle.std.specs.declared.cmp.Ordering.{Ordering}
 use Rattle.std.specs.declared.cmp.Ordering.TheVariants.{Less, Equal, Greater}
-use Rattle.std.specs.Ordering.{is_lt, ordering_reverse}
-use Rattle.std.specs.Cmp.Lexicographic.{bytes_decides}
-use Rattle.std.proofs.lemmas.Bool.{and_parts}
 use Rattle.std.proofs.lemmas.Cmp.{nat_list_cmp_total}
 use Rattle.std.proofs.lemmas.Map.Lookups.{exact_bytes}
-use Rattle.gql_values3.specs.Texts.{same_text, ascend_above, texts_ascend}
+use Rattle.gql_values3.specs.Texts.{same_text}
 use Rattle.gql_ports.specs.Held.{keys_ascend, value_at}
 use Rattle.gql_ports.specs.declared.stored.Record.{Record}
+use Rattle.gql_graph.proofs.AscendingTexts.{turned, above_ascends}
 use Rattle.gql_rowcode.specs.Machinery.Writing.{text_cmp}
+use Rattle.gql_rowcode.proofs.NameLemmas.{text_is, text_same}
 use Rattle.gql_rowcode.proofs.OrderingLists.{all_weaker, all_of_map}
 use Rattle.gql_rowcode.proofs.OrderingKeys.{all_above, less_differs}
 
@@ -21,18 +20,12 @@ record_with key value = record { key = key; value = value }
 
 -- ---- tests of keys
 
-pub same_itself : (a : List ℕ) → same_text a a ≡ true
-same_itself a = (bytes_decides a a).1 refl
-
-pub same_is : (a b : List ℕ) → same_text a b ≡ true → a ≡ b
-same_is a b h = (bytes_decides a b).0 h
-
 not_true : (b : Bool) → (b ≡ true → ⊥) → b ≡ false
 not_true true h = absurd (h refl)
 not_true false h = refl
 
 pub other_key : (a b : List ℕ) → a ≢ b → same_text a b ≡ false
-other_key a b differ = not_true (same_text a b) (λ h. differ (same_is a b h))
+other_key a b differ = not_true (same_text a b) (λ h. differ (text_is a b h))
 
 -- ---- records in order
 
@@ -44,8 +37,7 @@ pub first_differs : (x : Record) (xs : List Record) → keys_ascend (x ∷ xs) �
 first_differs x xs up = all_weaker (λ (r : Record). text_cmp x.key r.key ≡ Less) (λ (r : Record). x.key ≢ r.key) (λ r. less_differs x.key r.key) xs (first_below x xs up)
 
 pub rest_ascends : (x : Record) (xs : List Record) → keys_ascend (x ∷ xs) ≡ true → keys_ascend xs ≡ true
-rest_ascends x [] up = refl
-rest_ascends x (y ∷ ys) up = (and_parts (is_lt (text_cmp x.key y.key)) (ascend_above y.key (map (λ (r : Record). r.key) ys)) up).1
+rest_ascends x xs up = above_ascends x.key (map (λ (r : Record). r.key) xs) up
 
 -- ---- one step of a look-up
 
@@ -62,7 +54,7 @@ value_absent (x ∷ xs) key all = value_behind x xs key (other_key key x.key all
 -- the first key has no value behind it
 pub first_once : (x : Record) (xs : List Record) (key : List ℕ) → keys_ascend (x ∷ xs) ≡ true → same_text key x.key ≡ true → value_at xs key ≡ None
 first_once x xs key up h =
-    let same : key ≡ x.key = same_is key x.key h in
+    let same : key ≡ x.key = text_is key x.key h in
     ap (value_at xs) same ∙ value_absent xs x.key (first_differs x xs up)
 
 -- ---- values decide the records
@@ -99,16 +91,16 @@ rest_same x y xs ys up up' keys same key = by_case (same_text key x.key) refl
 heads_same : (x y : Record) (xs ys : List Record) → x.key ≡ y.key → SameValues (x ∷ xs) (y ∷ ys) → x.value ≡ y.value
 heads_same x y xs ys keys same =
     let one : Some x.value ≡ Some y.value =
-    sym (value_first x xs x.key (same_itself x.key)) ∙ same x.key ∙ value_first y ys x.key (ap (same_text x.key) (sym keys) ∙ same_itself x.key) in
+    sym (value_first x xs x.key (text_same x.key)) ∙ same x.key ∙ value_first y ys x.key (ap (same_text x.key) (sym keys) ∙ text_same x.key) in
     cc
 
 records_case : (x y : Record) (xs ys : List Record) (o : Ordering) → text_cmp x.key y.key ≡ o → keys_ascend (x ∷ xs) ≡ true → keys_ascend (y ∷ ys) ≡ true → SameValues (x ∷ xs) (y ∷ ys)
     → (SameValues xs ys → xs ≡ ys) → x ∷ xs ≡ y ∷ ys
 records_case x y xs ys Less e up up' same more =
-    absurd (lacks (x ∷ xs) (y ∷ ys) x.key x.value same (value_first x xs x.key (same_itself x.key)) (below_absent x y ys up' e))
+    absurd (lacks (x ∷ xs) (y ∷ ys) x.key x.value same (value_first x xs x.key (text_same x.key)) (below_absent x y ys up' e))
 records_case x y xs ys Greater e up up' same more =
-    let less : text_cmp y.key x.key ≡ Less = nat_list_cmp_total.antisymm y.key x.key ∙ ap ordering_reverse e in
-    absurd (lacks (y ∷ ys) (x ∷ xs) y.key y.value (λ key. sym (same key)) (value_first y ys y.key (same_itself y.key)) (below_absent y x xs up less))
+    let less : text_cmp y.key x.key ≡ Less = turned x.key y.key e in
+    absurd (lacks (y ∷ ys) (x ∷ xs) y.key y.value (λ key. sym (same key)) (value_first y ys y.key (text_same y.key)) (below_absent y x xs up less))
 records_case x y xs ys Equal e up up' same more =
     let keys : x.key ≡ y.key = exact_bytes x.key y.key e in
     let values : x.value ≡ y.value = heads_same x y xs ys keys same in
@@ -119,8 +111,8 @@ records_case x y xs ys Equal e up up' same more =
 -- records in order that have the same value at each key are the same records
 pub same_records : (xs ys : List Record) → keys_ascend xs ≡ true → keys_ascend ys ≡ true → ((key : List ℕ) → value_at xs key ≡ value_at ys key) → xs ≡ ys
 same_records [] [] up up' same = refl
-same_records [] (y ∷ ys) up up' same = absurd (lacks (y ∷ ys) [] y.key y.value (λ key. sym (same key)) (value_first y ys y.key (same_itself y.key)) refl)
-same_records (x ∷ xs) [] up up' same = absurd (lacks (x ∷ xs) [] x.key x.value same (value_first x xs x.key (same_itself x.key)) refl)
+same_records [] (y ∷ ys) up up' same = absurd (lacks (y ∷ ys) [] y.key y.value (λ key. sym (same key)) (value_first y ys y.key (text_same y.key)) refl)
+same_records (x ∷ xs) [] up up' same = absurd (lacks (x ∷ xs) [] x.key x.value same (value_first x xs x.key (text_same x.key)) refl)
 same_records (x ∷ xs) (y ∷ ys) up up' same =
     records_case x y xs ys (text_cmp x.key y.key) refl up up' same (same_records xs ys (rest_ascends x xs up) (rest_ascends y ys up'))
 
@@ -136,7 +128,7 @@ value_contained (x ∷ xs) key value h = by_case (same_text key x.key) refl (val
   where
     by_case : (b : Bool) → same_text key x.key ≡ b → (value_at xs key ≡ Some value → Contains xs (record_with key value)) → Contains (x ∷ xs) (record_with key value)
     by_case true e more =
-        let keys : x.key ≡ key = sym (same_is key x.key e) in
+        let keys : x.key ≡ key = sym (text_is key x.key e) in
         let one : Some x.value ≡ Some value = sym (value_first x xs key e) ∙ h in
         let values : x.value ≡ value = cc in
         (0, omega arith, λ i. record { key = keys i; value = values i })
@@ -145,7 +137,7 @@ value_contained (x ∷ xs) key value h = by_case (same_text key x.key) refl (val
 -- what is in a list in order stands at its key
 value_there : (xs : List Record) (r : Record) (k : ℕ) → keys_ascend xs ≡ true → k < length xs → get_or xs k r ≡ r → value_at xs r.key ≡ Some r.value
 value_there [] r k up lt h = absurd (omega arith)
-value_there (x ∷ xs) r zero up lt h = value_first x xs r.key (ap (λ (s : Record). same_text r.key s.key) h ∙ same_itself r.key) ∙ ap (λ (s : Record). Some s.value) h
+value_there (x ∷ xs) r zero up lt h = value_first x xs r.key (ap (λ (s : Record). same_text r.key s.key) h ∙ text_same r.key) ∙ ap (λ (s : Record). Some s.value) h
 value_there (x ∷ xs) r (suc k) up lt h =
     let there : value_at xs r.key ≡ Some r.value = value_there xs r k (rest_ascends x xs up) (omega arith) h in
     value_behind x xs r.key (not_true (same_text r.key x.key) (λ e. let never : Some r.value ≡ None = sym there ∙ first_once x xs r.key up e in cc)) ∙ there

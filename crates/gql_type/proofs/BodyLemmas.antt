@@ -1,5 +1,5 @@
 -- The type that a text means is in order, where nothing is refused of the text.
-use Rattle.std.proofs.Common.{◌≡◌, ℕ, suc, nat_lt, Bool, true, false, not, cond, ◌&&◌, ◌||◌, List, [], ◌∷◌, ◌++◌, map, length, Option, Some, None, refl, sym, ap, ◌∙◌, arith}
+use Rattle.std.proofs.Common.{◌≡◌, ◌≢◌, ℕ, suc, nat_lt, Bool, true, false, not, cond, ◌&&◌, ◌||◌, List, [], ◌∷◌, ◌++◌, map, length, Option, Some, None, refl, sym, ap, ◌∙◌, arith}
 use Rattle.std.specs.Prelude.{if◌then◌else◌}
 use Rattle.std.specs.List.{list_all, dedup, dedup_from}
 use Rattle.std.specs.declared.cmp.Ordering.{Ordering}
@@ -21,13 +21,14 @@ use Rattle.gql_ast.specs.declared.graph_type.TypeElement.TheVariants as element
 use Rattle.gql_ast.specs.declared.graph_type.TypeBody.{TypeBody}
 use Rattle.gql_graph.specs.Catalog.{is_before}
 use Rattle.gql_graph.specs.declared.graph_type.PropType.{PropType}
-use Rattle.gql_eval.specs.StableSort.{inserted_in_order, stably_sorted}
+use Rattle.gql_eval.specs.StableSort.{stably_sorted}
 use Rattle.gql_eval.proofs.StableSort.{Ascends, sorted_ascends, sorted_all}
 use Rattle.gql_type.specs.GraphTypes.{is_content_type, is_node_type, is_edge_type, is_graph_type}
 use Rattle.gql_type.specs.Conformance.{contains_name}
 use Rattle.gql_type.specs.BodyFaults.{repeated, alias_in, aliases_in, unknown, aliases_at_fault, wrong_aliases, names_given, repeated_names}
 use Rattle.gql_type.specs.BodyMeaning.{labels_meant, property_type, name_before, properties_meant, node_type, node_types, place_of, edge_type, edge_types, graph_type_of}
-use Rattle.gql_type.proofs.SetLemmas.{text_cmp, first_above, rest_above, turned, tied}
+use Rattle.gql_graph.proofs.AscendingTexts.{text_cmp, turned, tied}
+use Rattle.gql_type.proofs.SortedTexts.{IsNew, inserted_ascends}
 use Rattle.gql_type.proofs.MatchingLemmas.{names_of}
 
 or_second : (a b : Bool) → b ≡ true → (a || b) ≡ true
@@ -96,54 +97,17 @@ itself x before = first (same_text x x) (contains_name before x) (tied x x (tied
 abbrev other_name : PropType → PropType → Bool
 other_name t u = not (same_text t.name u.name)
 
-name_case : (o : Ordering) (t u : PropType) → text_cmp u.name t.name ≡ o → other_name t u ≡ true → is_before u.name t.name ≡ false → text_cmp t.name u.name ≡ Less
-name_case Less t u e other less = let no_less : true ≡ false = ap is_lt (sym e) ∙ less in absurd (cc)
-name_case Equal t u e other less =
-    let same : same_text u.name t.name ≡ true = tied u.name t.name e in
-    let one : u.name ≡ t.name = texts.same_text u.name t.name (sym same) in
-    let tie : same_text t.name u.name ≡ true = ap (λ (x : List ℕ). same_text x u.name) (sym one) ∙ ap (λ (x : List ℕ). same_text u.name x) one ∙ same in
-    absurd (cc)
-name_case Greater t u e other less = turned u.name t.name e
+names_apart : (t u : PropType) → other_name t u ≡ true → t.name ≢ u.name
+names_apart t u other e =
+    let same : same_text t.name u.name ≡ true = ap (same_text t.name) (sym e) ∙ tied t.name t.name (tied_itself nat_list_cmp_total t.name) in
+    let never : false ≡ true = ap not (sym same) ∙ other in
+    cc
 
-inserted_case : (b : Bool) (low : List ℕ) (t u : PropType) (us : List PropType) → is_before u.name t.name ≡ b → text_cmp low t.name ≡ Less → other_name t u ≡ true
-    → ascend_above low (names_of (u ∷ us)) ≡ true → (text_cmp u.name t.name ≡ Less → ascend_above u.name (names_of (inserted_in_order name_before t us)) ≡ true)
-    → ascend_above low (names_of (if b then u ∷ inserted_in_order name_before t us else t ∷ u ∷ us)) ≡ true
-inserted_case true low t u us e p other up more =
-    and_from (is_lt (text_cmp low u.name)) (ascend_above u.name (names_of (inserted_in_order name_before t us)))
-    (ap is_lt (first_above low u.name (names_of us) up)) (more (less_if (text_cmp u.name t.name) e))
-  where
-    less_if : (o : Ordering) → is_lt o ≡ true → o ≡ Less
-    less_if Less h = refl
-    less_if Equal h = absurd (cc)
-    less_if Greater h = absurd (cc)
-inserted_case false low t u us e p other up more =
-    and_from (is_lt (text_cmp low t.name)) (is_lt (text_cmp t.name u.name) && ascend_above u.name (names_of us)) (ap is_lt p)
-    (and_from (is_lt (text_cmp t.name u.name)) (ascend_above u.name (names_of us)) (ap is_lt (name_case (text_cmp u.name t.name) t u refl other e)) (rest_above low u.name (names_of us) up))
-
-inserted_above : (low : List ℕ) (t : PropType) (us : List PropType) → text_cmp low t.name ≡ Less → list_all (other_name t) us ≡ true → ascend_above low (names_of us) ≡ true
-    → ascend_above low (names_of (inserted_in_order name_before t us)) ≡ true
-inserted_above low t [] p other up = and_from (is_lt (text_cmp low t.name)) true (ap is_lt p) refl
-inserted_above low t (u ∷ us) p other up =
+all_apart : (t : PropType) (us : List PropType) → list_all (other_name t) us ≡ true → IsNew (λ (u : PropType). u.name) t us
+all_apart t [] other = tt
+all_apart t (u ∷ us) other =
     let both = and_parts (other_name t u) (list_all (other_name t) us) other in
-    inserted_case (is_before u.name t.name) low t u us refl p both.0 up (λ q. inserted_above u.name t us q both.1 (rest_above low u.name (names_of us) up))
-
-front_case : (b : Bool) (t u : PropType) (us : List PropType) → is_before u.name t.name ≡ b → other_name t u ≡ true
-    → ascend_above u.name (names_of us) ≡ true → (text_cmp u.name t.name ≡ Less → ascend_above u.name (names_of (inserted_in_order name_before t us)) ≡ true)
-    → texts_ascend (names_of (if b then u ∷ inserted_in_order name_before t us else t ∷ u ∷ us)) ≡ true
-front_case true t u us e other up more = more (less_if (text_cmp u.name t.name) e)
-  where
-    less_if : (o : Ordering) → is_lt o ≡ true → o ≡ Less
-    less_if Less h = refl
-    less_if Equal h = absurd (cc)
-    less_if Greater h = absurd (cc)
-front_case false t u us e other up more =
-    and_from (is_lt (text_cmp t.name u.name)) (ascend_above u.name (names_of us)) (ap is_lt (name_case (text_cmp u.name t.name) t u refl other e)) up
-
-inserted_ascends : (t : PropType) (us : List PropType) → list_all (other_name t) us ≡ true → texts_ascend (names_of us) ≡ true → texts_ascend (names_of (inserted_in_order name_before t us)) ≡ true
-inserted_ascends t [] other up = refl
-inserted_ascends t (u ∷ us) other up =
-    let both = and_parts (other_name t u) (list_all (other_name t) us) other in
-    front_case (is_before u.name t.name) t u us refl both.0 up (λ q. inserted_above u.name t us q both.1 up)
+    (names_apart t u both.0, all_apart t us both.1)
 
 -- of properties whose names differ
 others_differ : (before : List (List ℕ)) (p : TypeProperty) (ps : List TypeProperty) → repeated before (names_given (Some ps)) ≡ [] → contains_name before p.name ≡ true
@@ -158,9 +122,9 @@ names_ascend : (before : List (List ℕ)) (ps : List TypeProperty) → repeated 
 names_ascend before [] e = refl
 names_ascend before (p ∷ ps) e =
     let now = none_repeats (contains_name before p.name) p.name (repeated before (names_given (Some ps))) (repeated (p.name ∷ before) (names_given (Some ps))) e in
-    inserted_ascends (property_type p) (stably_sorted name_before (map property_type ps))
-    (sorted_all name_before (other_name (property_type p)) (map property_type ps) (others_differ (p.name ∷ before) p ps now.1 (itself p.name before)))
-    (names_ascend (p.name ∷ before) ps now.1)
+    inserted_ascends (λ (t : PropType). t.name) (property_type p) (stably_sorted name_before (map property_type ps)) (names_ascend (p.name ∷ before) ps now.1)
+    (all_apart (property_type p) (stably_sorted name_before (map property_type ps))
+    (sorted_all name_before (other_name (property_type p)) (map property_type ps) (others_differ (p.name ∷ before) p ps now.1 (itself p.name before))))
 
 properties_ascend : (ps : Option (List TypeProperty)) → repeated [] (names_given ps) ≡ [] → texts_ascend (names_of (properties_meant ps)) ≡ true
 properties_ascend None e = refl

@@ -20,13 +20,14 @@ use Rattle.gql_graph.specs.declared.graph_type.PropType.{PropType}
 use Rattle.gql_graph.specs.declared.graph_type.NodeType.{NodeType}
 use Rattle.gql_graph.specs.declared.graph_type.EdgeType.{EdgeType}
 use Rattle.gql_graph.specs.declared.graph_type.GraphType.{GraphType}
+use Rattle.gql_graph.proofs.CatalogLemmas.{names}
 use Rattle.gql_type.specs.GraphTypes.{is_content_type, is_node_type, is_edge_type, is_graph_type}
 use Rattle.gql_type.specs.Conformance.{PropertyList, same_set, is_allowed, is_provided, has_content, fits_node_type, both_fit, is_end, has_ends, fits_edge_type, node_fits, edge_fits, conforms, first_misfit, is_least_misfit}
 use Rattle.gql_type.specs.Machinery.InOrder.{matches_content, matches_node_type, both_match, end_matches, ends_match, matches_edge_type, node_matches, edge_matches, first_unmatched}
 use Rattle.gql_graph.specs.Machinery.Ascending.{AscendsTo}
 use Rattle.gql_graph.proofs.GraphLemmas.{first_true}
 use Rattle.gql_type.proofs.SetLemmas.{same_names-in_order}
-use Rattle.gql_type.proofs.MatchingLemmas.{names_of, names_in, are_matched-in_order}
+use Rattle.gql_type.proofs.MatchingLemmas.{names_of, are_matched-in_order}
 
 -- two tests that agree on all items that pass a third
 module _ {A : Type 0} (p f h : A → Bool) (agree : (x : A) → p x ≡ true → f x ≡ h x) where
@@ -60,8 +61,8 @@ module _ (labels : List (List ℕ)) (body : List PropType) (ls : List (List ℕ)
   content_matches =
       let type_parts = and_parts (texts_ascend labels) (texts_ascend (names_of body)) kind in
       let own_parts = and_parts (texts_ascend ls) (are_properties ps) own in
-      let names = (and_parts (texts_ascend (names_in ps)) (list_all (λ (p : List ℕ × Datum). is_property p.1) ps) own_parts.1).0 in
-      (λ i. same_names-in_order ls labels own_parts.0 type_parts.0 i && are_matched-in_order body ps type_parts.1 names i)
+      let rising = (and_parts (texts_ascend (names ps)) (list_all (λ (p : List ℕ × Datum). is_property p.1) ps) own_parts.1).0 in
+      (λ i. same_names-in_order ls labels own_parts.0 type_parts.0 i && are_matched-in_order body ps type_parts.1 rising i)
       ∙ regroup (same_set ls labels) (list_all (is_allowed body) ps) (list_all (is_provided ps) body)
     where
       regroup : (a b c : Bool) → (a && (b && c)) ≡ ((a && b) && c)

@@ -1,10 +1,12 @@
 mod ConformanceExamples
+pub mod SortedTexts
 mod SetLemmas
 mod MatchingLemmas
 mod ConformanceLemmas
 mod BodyLemmas
 mod FaultLemmas
 mod BodyExamples
+pub mod LabelListLaws
 pub mod TypeLaws
 mod TypeExamples
 mod NumberLemmas

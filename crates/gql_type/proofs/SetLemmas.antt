@@ -3,14 +3,11 @@ use Rattle.std.proofs.Common.{◌≡◌, ◌≢◌, ℕ, suc, Bool, true, false,
 use Rattle.std.specs.List.{list_all}
 use Rattle.std.specs.declared.cmp.Ordering.{Ordering}
 use Rattle.std.specs.declared.cmp.Ordering.TheVariants.{Less, Equal, Greater}
-use Rattle.std.specs.Ordering.{is_lt, nat_cmp, ordering_reverse, is_eq}
-use Rattle.std.specs.Cmp.Lexicographic.{slice_cmp, texts_ties}
-use Rattle.std.proofs.lemmas.Bool.{and_from, and_parts}
-use Rattle.std.proofs.lemmas.Cmp.{nat_list_cmp_total}
 use Rattle.std.proofs.lemmas.Map.Lookups.{exact_bytes}
 use Rattle.gql_values3.specs.Texts.{same_text, ascend_above, texts_ascend}
 use Rattle.gql_type.specs.Conformance.{contains_name, same_set}
 use Rattle.gql_type.specs.Machinery.InOrder.{same_names}
+use Rattle.gql_graph.proofs.AscendingTexts.{text_cmp, first_above, lower, above_rest, above_ascends, turned, apart, apart_turned, tied}
 
 pub same_names-lengths : (xs ys : List (List ℕ)) → length xs ≢ length ys → false ≡ same_names xs ys
 same_names-lengths [] [] h = absurd (h refl)
@@ -21,51 +18,6 @@ same_names-lengths (x ∷ xs) (y ∷ ys) h = both_fail (same_text x y) (same_nam
     both_fail : (a b : Bool) → false ≡ b → false ≡ (a && b)
     both_fail true b e = e
     both_fail false b e = refl
-
--- the order of texts by bytes
-abbrev pub text_cmp : List ℕ → List ℕ → Ordering
-text_cmp a b = slice_cmp nat_cmp a b
-
-less_if : (o : Ordering) → is_lt o ≡ true → o ≡ Less
-less_if Less p = refl
-less_if Equal p = absurd (cc)
-less_if Greater p = absurd (cc)
-
--- the first text is above the bound
-pub first_above : (low k : List ℕ) (ks : List (List ℕ)) → ascend_above low (k ∷ ks) ≡ true → text_cmp low k ≡ Less
-first_above low k ks h = less_if (text_cmp low k) ((and_parts (is_lt (text_cmp low k)) (ascend_above k ks) h).0)
-
--- the others are above the first
-pub rest_above : (low k : List ℕ) (ks : List (List ℕ)) → ascend_above low (k ∷ ks) ≡ true → ascend_above k ks ≡ true
-rest_above low k ks h = (and_parts (is_lt (text_cmp low k)) (ascend_above k ks) h).1
-
--- a lower bound serves too
-pub lower : (low k : List ℕ) (ks : List (List ℕ)) → text_cmp low k ≡ Less → ascend_above k ks ≡ true → ascend_above low ks ≡ true
-lower low k [] p h = refl
-lower low k (j ∷ js) p h =
-    and_from (is_lt (text_cmp low j)) (ascend_above j js) (ap is_lt (nat_list_cmp_total.trans low k j p (first_above k j js h)))
-    ((and_parts (is_lt (text_cmp k j)) (ascend_above j js) h).1)
-
--- so the bound of a list bounds its rest
-pub above_rest : (low k : List ℕ) (ks : List (List ℕ)) → ascend_above low (k ∷ ks) ≡ true → ascend_above low ks ≡ true
-above_rest low k ks h = lower low k ks (first_above low k ks h) (rest_above low k ks h)
-
-pub above_ascends : (low : List ℕ) (ks : List (List ℕ)) → ascend_above low ks ≡ true → texts_ascend ks ≡ true
-above_ascends low [] h = refl
-above_ascends low (k ∷ ks) h = rest_above low k ks h
-
--- a text below another, one that is not below, and the same text
-pub turned : (a b : List ℕ) → text_cmp a b ≡ Greater → text_cmp b a ≡ Less
-turned a b p = nat_list_cmp_total.antisymm b a ∙ ap ordering_reverse p
-
-pub apart : (a b : List ℕ) → text_cmp a b ≡ Less → same_text a b ≡ false
-apart a b p = texts_ties a b ∙ ap is_eq p
-
-pub apart_turned : (a b : List ℕ) → text_cmp a b ≡ Less → same_text b a ≡ false
-apart_turned a b p = texts_ties b a ∙ ap is_eq (nat_list_cmp_total.antisymm b a ∙ ap ordering_reverse p)
-
-pub tied : (a b : List ℕ) → text_cmp a b ≡ Equal → same_text a b ≡ true
-tied a b p = texts_ties a b ∙ ap is_eq p
 
 -- a text below all of a list is not in it
 pub is_below : (a : List ℕ) (ks : List (List ℕ)) → ascend_above a ks ≡ true → contains_name ks a ≡ false

@@ -11,7 +11,8 @@ use Rattle.gql_ast.specs.declared.graph_type.TypeElement.TheVariants as element
 use Rattle.gql_front.specs.Reading.{many, sequence}
 use Rattle.gql_parts.specs.Machinery.FillerReaders.{variable_of}
 use Rattle.gql_front.specs.Reading.{maybe}
-use Rattle.gql_type.specs.Machinery.TypeReaders.{required_of, list_kind_of, kind_of, property_of, properties_of, braced_properties_of, other_label_of, label_names_of, optional_labels_of, content_of, type_node_of, end_of, bracketed_of, edge_of, segment_of, element_of, type_body_of}
+use Rattle.gql_type.specs.Machinery.LabelListReaders.{other_label_of, label_names_of, optional_labels_of}
+use Rattle.gql_type.specs.Machinery.TypeReaders.{required_of, list_kind_of, kind_of, property_of, properties_of, braced_properties_of, content_of, type_node_of, end_of, bracketed_of, edge_of, segment_of, element_of, type_body_of}
 
 abbrev sign : ℕ → Lexeme
 sign n = lex.Sign n

@@ -16,9 +16,8 @@ use Rattle.gql_ast.specs.declared.graph_type.TypeElement.TheVariants as element
 use Rattle.gql_ast.specs.declared.graph_type.TypeBody.{TypeBody}
 use Rattle.gql_front.specs.Longest.{Longest}
 use Rattle.gql_front.specs.Tables.{Begins}
-use Rattle.gql_front.specs.Reading.{◌>>=◌, is_sign, is_word, name_in, any_name_in, after, op_at, opted, many}
+use Rattle.gql_front.specs.Reading.{◌>>=◌, is_sign, is_word, name_in, any_name_in, after, op_at, opted}
 use Rattle.gql_front.proofs.Agree.{is_longest}
-use Rattle.gql_front.proofs.Chains.{Many}
 use Rattle.gql_front.proofs.Found.{Sound, exact, is_there}
 use Rattle.gql_front.proofs.TableLemmas.{begins_read, read_begins, begins_shorter, word_row}
 use Rattle.gql_parts.specs.Parts.{Passes, IsOptional, IsListOf}
@@ -27,12 +26,14 @@ use Rattle.gql_parts.specs.Machinery.PartReaders.{listed, past}
 use Rattle.gql_parts.specs.Machinery.FillerReaders.{variable_of}
 use Rattle.gql_parts.proofs.PartLaws.{Stops, Led, left_stops, right_stops, nothing, bind_then, finish, passes_after, after_passes, passes_shorter, may_pass_shorter, stops_after, stops_op, word_apart, sign_apart, passes_stops, begins_stops, optional_stops, optional_shorter, led_sound, led_exact, past_sound, past_exact}
 use Rattle.gql_parts.proofs.ListLaws.{listed_sound, listed_exact, list_shorter}
-use Rattle.gql_parts.proofs.ManyLaws.{many_sound, many_exact, many_shorter}
 use Rattle.gql_parts.proofs.FillerLaws.{is_name, variable_sound, variable_exact, colon_apart}
 use Rattle.gql_type.specs.declared.segment.TypeSegment.{TypeSegment}
 use Rattle.gql_type.specs.TypeWords.{scalar_words, scalar_word, is_typed, arrow_sign, closing_of}
-use Rattle.gql_type.specs.TypeGrammar.{IsRequired, IsKind, IsProperty, AreProperties, BearsProperties, AreMoreLabels, AreLabels, BearsLabels, IsContent, IsEnd, IsSegment, IsElement, IsTypeBody}
-use Rattle.gql_type.specs.Machinery.TypeReaders.{not_null_of, required_or, required_of, list_kind_of, kind_or, kind_of, property_of, empty_or_properties, properties_of, braced_properties_of, other_label_of, label_names_of, optional_labels_of, content_of, type_node_of, end_of, bracketed_of, edge_of, segment_of, is_alone, segment_behind, made_element, element_of, type_body_of}
+use Rattle.gql_type.specs.LabelList.{BearsLabels}
+use Rattle.gql_type.specs.TypeGrammar.{IsRequired, IsKind, IsProperty, AreProperties, BearsProperties, IsContent, IsEnd, IsSegment, IsElement, IsTypeBody}
+use Rattle.gql_type.specs.Machinery.LabelListReaders.{optional_labels_of}
+use Rattle.gql_type.specs.Machinery.TypeReaders.{not_null_of, required_or, required_of, list_kind_of, kind_or, kind_of, property_of, empty_or_properties, properties_of, braced_properties_of, content_of, type_node_of, end_of, bracketed_of, edge_of, segment_of, is_alone, segment_behind, made_element, element_of, type_body_of}
+use Rattle.gql_type.proofs.LabelListLaws.{labels_sound, labels_exact, labels_shorter}
 
 -- [NOT NULL]
 
@@ -207,67 +208,6 @@ braced_exact ps ts s h stop = led_exact (is_sign opening_brace) properties_of Be
 
 bears_shorter : (ps : List TypeProperty) (ts r : List Lexeme) → BearsProperties ps ts r → length r < length ts
 bears_shorter ps ts r h = omega (arith, passes_shorter (is_sign opening_brace) ts h.0 h.1, properties_shorter ps h.0 r (h.2, h.3, h.4))
-
--- Labels
-
-abbrev OtherLabel : List ℕ → List Lexeme → List Lexeme → Type 0
-OtherLabel l ts r = (a : List Lexeme) × Passes (is_sign ampersand) ts a × Begins any_name_in l a r
-
-others_are : Many OtherLabel AreMoreLabels
-others_are = record { none = λ r. refl; is_none = λ ts r h. h; more = more; is_more = is_more }
-  where
-    more : (l : List ℕ) (ls : List (List ℕ)) (ts m r : List Lexeme) → OtherLabel l ts m → AreMoreLabels ls m r → AreMoreLabels (l ∷ ls) ts r
-    more l ls ts m r h k = (h.0, h.1, m, h.2, k)
-
-    is_more : (l : List ℕ) (ls : List (List ℕ)) (ts r : List Lexeme) → AreMoreLabels (l ∷ ls) ts r → (m : List Lexeme) × OtherLabel l ts m × AreMoreLabels ls m r
-    is_more l ls ts r h = (h.2, (h.0, h.1, h.3), h.4)
-
-other_label_sound : Sound OtherLabel other_label_of
-unfolding other_label_of
-other_label_sound ts l r e = bind_then (after (is_sign ampersand) ts) _ (l, r) e (λ a p e. (a, after_passes (is_sign ampersand) ts a p, read_begins any_name_in a l r e))
-
-other_label_exact : (l : List ℕ) (ts s : List Lexeme) → OtherLabel l ts s → other_label_of ts ≡ Some (l, s)
-unfolding other_label_of
-other_label_exact l ts s h = rw (passes_after (is_sign ampersand) ts h.0 h.1) (begins_read any_name_in l h.0 s h.2)
-
-other_label_shorter : (l : List ℕ) (ts r : List Lexeme) → OtherLabel l ts r → length r < length ts
-other_label_shorter l ts r h = omega (arith, passes_shorter (is_sign ampersand) ts h.0 h.1, begins_shorter any_name_in l h.0 r h.2)
-
-no_ampersand : (s : List Lexeme) → Stops (is_sign ampersand) s → other_label_of s ≡ None
-unfolding other_label_of
-no_ampersand s stop = rw (stops_after (is_sign ampersand) s stop) refl
-
-label_names_sound : Sound AreLabels label_names_of
-unfolding label_names_of
-label_names_sound ts ls r e =
-    bind_then (op_at any_name_in ts) _ (ls, r) e (λ x p e.
-    let others = many other_label_of (length x.1) x.1 in
-    finish (λ ls r. AreLabels ls ts r) (x.0 ∷ others.0) others.1 ls r e
-    (x.1, read_begins any_name_in ts x.0 x.1 p, many_sound other_label_of OtherLabel AreMoreLabels others_are other_label_sound (length x.1) x.1))
-
-label_names_exact : (ls : List (List ℕ)) (ts s : List Lexeme) → AreLabels ls ts s → Stops (is_sign ampersand) s → label_names_of ts ≡ Some (ls, s)
-unfolding label_names_of
-label_names_exact [] ts s h stop = absurd h
-label_names_exact (l ∷ ls) ts s h stop =
-    let others = many_exact other_label_of OtherLabel AreMoreLabels others_are other_label_shorter other_label_exact ls (length h.0) h.0 s (omega arith) h.2 (no_ampersand s stop) in
-    rw (begins_read any_name_in l ts h.0 h.1) (ap (λ (z : List (List ℕ) × List Lexeme). Some (l ∷ z.0, z.1)) others)
-
-label_names_shorter : (ls : List (List ℕ)) (ts r : List Lexeme) → AreLabels ls ts r → length r < length ts
-label_names_shorter [] ts r h = absurd h
-label_names_shorter (l ∷ ls) ts r h =
-    omega (arith, begins_shorter any_name_in l ts h.0 h.1, many_shorter other_label_of OtherLabel AreMoreLabels others_are other_label_shorter ls h.0 r h.2)
-
-labels_sound : Sound (IsOptional BearsLabels) optional_labels_of
-unfolding optional_labels_of
-labels_sound = led_sound is_colon label_names_of BearsLabels AreLabels (λ x ts r h. h) (λ x ts r h. h) label_names_sound
-
-labels_exact : (ls : Option (List (List ℕ))) (ts s : List Lexeme) → IsOptional BearsLabels ls ts s → Stops is_colon s → Stops (is_sign ampersand) s → optional_labels_of ts ≡ Some (ls, s)
-unfolding optional_labels_of
-labels_exact ls ts s h stop end =
-    led_exact is_colon label_names_of BearsLabels AreLabels (λ x ts r h. h) (λ x ts r h. h) ls ts s (λ x a k. label_names_exact x a s k end) h stop
-
-labels_shorter : (ls : Option (List (List ℕ))) (ts r : List Lexeme) → IsOptional BearsLabels ls ts r → length r ≤ length ts
-labels_shorter = optional_shorter BearsLabels (λ l ts r h. omega (arith, passes_shorter is_colon ts h.0 h.1, label_names_shorter l h.0 r h.2))
 
 -- Content
 

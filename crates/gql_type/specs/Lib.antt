@@ -5,5 +5,6 @@ pub mod SoundCatalog
 pub mod BodyFaults
 pub mod BodyMeaning
 pub mod TypeWords
+pub mod LabelList
 pub mod TypeGrammar
 pub mod Machinery

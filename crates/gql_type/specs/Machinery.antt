@@ -1,3 +1,4 @@
 -- What mirrors the code for its proofs; a reader of the promises may skip it.
 pub mod InOrder
+pub mod LabelListReaders
 pub mod TypeReaders

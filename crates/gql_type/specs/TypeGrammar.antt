@@ -10,7 +10,7 @@
 --   Scalar   = BOOL; BOOLEAN; INT; INTEGER; INT64; STRING
 use Rattle.std.specs.Prelude.{◌≡◌, ℕ, Bool, true, false, List, [], ◌∷◌}
 use Rattle.gql_lexer.specs.declared.lexeme.Lexeme.{Lexeme}
-use Rattle.gql_lexer.specs.SymbolPlaces.{opening, closing, opening_bracket, closing_bracket, opening_brace, closing_brace, ampersand, less, greater}
+use Rattle.gql_lexer.specs.SymbolPlaces.{opening, closing, opening_bracket, closing_bracket, opening_brace, closing_brace, less, greater}
 use Rattle.gql_lexer.specs.WordPlaces as word
 use Rattle.gql_values3.specs.declared.prop_kind.PropKind.{PropKind}
 use Rattle.gql_values3.specs.declared.prop_kind.PropKind.TheVariants as kind
@@ -23,7 +23,7 @@ use Rattle.gql_ast.specs.declared.graph_type.TypeBody.{TypeBody}
 use Rattle.gql_front.specs.Tables.{Begins}
 use Rattle.gql_front.specs.Reading.{is_sign, is_word, name_in, any_name_in}
 use Rattle.gql_parts.specs.Parts.{Passes, MayPass, IsOptional, IsListOf}
-use Rattle.gql_parts.specs.PartWords.{is_colon}
+use Rattle.gql_type.specs.LabelList.{BearsLabels}
 use Rattle.gql_type.specs.TypeWords.{scalar_word, is_typed, arrow_sign, closing_of}
 
 -- [NOT NULL]
@@ -53,21 +53,6 @@ AreProperties (p ∷ ps) ts r = IsListOf IsProperty (p ∷ ps) ts r
 abbrev pub BearsProperties : List TypeProperty → List Lexeme → List Lexeme → Type 0
 BearsProperties ps ts r =
     (a : List Lexeme) × Passes (is_sign opening_brace) ts a × (b : List Lexeme) × AreProperties ps a b × Passes (is_sign closing_brace) b r
-
--- {"&" Any}*
-abbrev pub AreMoreLabels : List (List ℕ) → List Lexeme → List Lexeme → Type 0
-AreMoreLabels [] ts r = ts ≡ r
-AreMoreLabels (l ∷ ls) ts r =
-    (a : List Lexeme) × Passes (is_sign ampersand) ts a × (b : List Lexeme) × Begins any_name_in l a b × AreMoreLabels ls b r
-
--- Any {"&" Any}*
-abbrev pub AreLabels : List (List ℕ) → List Lexeme → List Lexeme → Type 0
-AreLabels [] ts r = ⊥
-AreLabels (l ∷ ls) ts r = (a : List Lexeme) × Begins any_name_in l ts a × AreMoreLabels ls a r
-
--- (":" or IS) Labels
-abbrev pub BearsLabels : List (List ℕ) → List Lexeme → List Lexeme → Type 0
-BearsLabels ls ts r = (a : List Lexeme) × Passes is_colon ts a × AreLabels ls a r
 
 -- Content
 abbrev pub IsContent : ElementBody → List Lexeme → List Lexeme → Type 0

@@ -10,6 +10,7 @@ mod content;
 mod element;
 mod ends;
 mod kinds;
+mod label_list;
 mod laws;
 mod matching;
 mod meaning;
@@ -27,6 +28,7 @@ mod type_property;
 
 pub use aliases::wrong_alias;
 pub use element::{edge_fits, node_fits};
+pub use label_list::optional_labels;
 pub use laws::the_longest_type_is_read;
 pub use meaning::graph_type;
 pub use misfit::{Misfit, fits};

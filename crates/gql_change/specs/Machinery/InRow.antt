@@ -1,5 +1,5 @@
 -- What a prepared part of a clause gives in a row.
-use Rattle.std.specs.Prelude.{ℕ, List, Result, Ok}
+use Rattle.std.specs.Prelude.{ℕ, List, [], Result, Ok}
 use Rattle.gql_values3.specs.Datum.{Datum}
 use Rattle.gql_values3.specs.PropertyGraph.{PropertyGraph}
 use Rattle.gql_ast.specs.Meaning.{tree_of}
@@ -23,7 +23,7 @@ pub record NamedPreparation : Type 0 where
 
 -- the property, prepared under columns and with parameters
 abbrev pub named_preparation : ColumnList → List (List ℕ × Datum) → List ℕ → Expr → NamedPreparation
-named_preparation columns params x e = record { name = x; value = record { columns = columns; params = params; tree = tree_of e } }
+named_preparation columns params x e = record { name = x; value = record { columns = columns; names = []; params = params; tree = tree_of e } }
 
 -- the value of an expression
 abbrev pub value_in : Preparation → InRow Datum

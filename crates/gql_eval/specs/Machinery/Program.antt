@@ -1,5 +1,5 @@
 -- Programs: what an expression is made into once, and what its steps do to a stack of values.
-use Rattle.std.specs.Prelude.{ℕ, zero, suc, pos, Bool, true, false, cond, List, [], ◌∷◌, ◌++◌, length, map, Option, Some, None, Result, Ok, Err}
+use Rattle.std.specs.Prelude.{ℕ, zero, suc, pos, Bool, true, false, cond, List, [], ◌∷◌, ◌++◌, length, map, Option, Some, None, option_map, unwrap_or, Result, Ok, Err}
 use Rattle.gql_values3.specs.Datum.{Datum, null, boolean, integer}
 use Rattle.gql_values3.specs.Integers.{value_of_digits}
 use Rattle.gql_values3.specs.PropertyGraph.{PropertyGraph}
@@ -9,7 +9,7 @@ use Rattle.gql_values3.specs.Meaning.{datum_of}
 use Rattle.gql_ast.specs.ClauseColumns.{ColumnList}
 use Rattle.gql_ast.specs.Tree.{Tree, Links, constant, unknown, number, parameter, name, property, paren, listing, count_all, aggregate, call, modulo, coalesce, signed, product, sum, comparing, test, label_test, end_test, negation, conjunction, disjunction, link, no_links, more_links}
 use Rattle.gql_ast.specs.Faults.{◌>>=◌}
-use Rattle.gql_ast.specs.Scope.{Entry, entry_of, datum_of_name}
+use Rattle.gql_ast.specs.Scope.{Entry, entry_of}
 use Rattle.gql_ast.specs.Operators.{operated}
 use Rattle.gql_ast.specs.TruthValues.{truth_in, datum_of_truth}
 use Rattle.gql_ast.specs.ElementTests.{property_value}
@@ -18,20 +18,22 @@ use Rattle.gql_ast.specs.declared.fault.DataFault.{DataFault}
 use Rattle.gql_ast.specs.declared.fault.DataFault.TheVariants as fault
 use Rattle.gql_ast.specs.declared.words.Operator.{Operator}
 use Rattle.gql_ast.specs.declared.words.Operator.TheVariants as operator
-use Rattle.gql_eval.specs.Bound.{bound_scope}
+use Rattle.gql_eval.specs.Bound.{bound_datum}
 use Rattle.gql_eval.specs.Machinery.JoinedTruth.{joined_truth}
 use Rattle.gql_eval.specs.Machinery.Operations.{of_operand, of_operands}
-use Rattle.gql_eval.specs.Machinery.Places.{place_among}
+use Rattle.gql_eval.specs.Machinery.Places.{places_among}
 use Rattle.gql_eval.specs.Machinery.ScopeMeaning.{item_entry, scope_of}
+use Rattle.gql_values3.specs.declared.table.Binding.{Binding}
+use Rattle.gql_eval.specs.declared.places.Places.{Places}
 use Rattle.gql_eval.specs.declared.scope.Scope.{Scope}
 
 -- a step; the top of the stack is its first datum
 pub data Op : Type 0 where
   -- puts a datum on top
   fixed : Datum → Op
-  -- puts what a name stands for, and a property of it; with the place of the name's first column
-  held_name : Option ℕ → List ℕ → Op
-  held_property : Option ℕ → List ℕ → List ℕ → Op
+  -- puts what a name stands for, and a property of it; with the name's places
+  held_name : Places → List ℕ → Op
+  held_property : Places → List ℕ → List ℕ → Op
   -- puts what an expression makes of its operand, or of its two, which stand on top
   of_one : Tree → Op
   of_two : Tree → Op
@@ -60,9 +62,20 @@ first_held (Some e) o d = e.datum
 first_held None (Some v) d = v
 first_held None None d = d
 
--- what a name stands for, whose first column has a place
-abbrev pub held_at : Scope → Option ℕ → List ℕ → Datum
-held_at s o x = first_held (entry_of (map item_entry s.front.now) x) (value_there (map datum_of s.row.now) o) (datum_of_name (bound_scope s.bound.now) x)
+-- what stands at a place among what the names of a match stand for, where there is something
+abbrev pub binding_there : List Binding → Option ℕ → Option Binding
+binding_there bs None = None
+binding_there [] (Some i) = None
+binding_there (b ∷ bs) (Some zero) = Some b
+binding_there (b ∷ bs) (Some (suc i)) = binding_there bs (Some i)
+
+-- its value, or NULL
+abbrev pub bound_there : List Binding → Option ℕ → Datum
+bound_there bs o = unwrap_or (option_map bound_datum (binding_there bs o)) null
+
+-- what a name of these places stands for
+abbrev pub held_at : Scope → Places → List ℕ → Datum
+held_at s p x = first_held (entry_of (map item_entry s.front.now) x) (value_there (map datum_of s.row.now) p.column) (bound_there s.bound.now p.bound)
 
 -- a datum that is given, put on top
 abbrev pub pushed : List Datum → Result Datum DataFault → Result (List Datum) DataFault
@@ -143,7 +156,7 @@ is_xor _ = false
 abbrev pub any_side : Operator → List Op → List Op
 any_side op steps = cond (is_xor op) steps (skip_if true (length steps) ∷ steps)
 
-module _ (columns : ColumnList) (params : List (List ℕ × Datum)) where
+module _ (columns : ColumnList) (names : List (List ℕ)) (params : List (List ℕ × Datum)) where
   abbrev mutual
     -- the steps that put the value of an expression
     pub compiled : Tree → List Op
@@ -151,8 +164,8 @@ module _ (columns : ColumnList) (params : List (List ℕ × Datum)) where
     compiled unknown = fixed null ∷ []
     compiled (number n) = fixed (integer (pos (value_of_digits n))) ∷ []
     compiled (parameter p) = fixed (parameter_value params p) ∷ []
-    compiled (name x) = held_name (place_among columns x) x ∷ []
-    compiled (property x p) = held_property (place_among columns x) x p ∷ []
+    compiled (name x) = held_name (places_among columns names x) x ∷ []
+    compiled (property x p) = held_property (places_among columns names x) x p ∷ []
     compiled (paren e) = compiled e
     compiled (listing es) = whole (listing es) ∷ []
     compiled count_all = fixed null ∷ []

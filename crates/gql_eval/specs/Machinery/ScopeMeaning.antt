@@ -4,7 +4,7 @@ use Rattle.gql_values3.specs.Datum.{Datum}
 use Rattle.gql_values3.specs.declared.table.ColumnKind.{ColumnKind}
 use Rattle.gql_values3.specs.Meaning.{datum_of}
 use Rattle.gql_ast.specs.Scope.{Scope as Entries, Entry, row_scope, holds_group}
-use Rattle.gql_eval.specs.Bound.{bound_scope}
+use Rattle.gql_eval.specs.Bound.{match_scope}
 use Rattle.gql_eval.specs.declared.scope.Header.{Header}
 use Rattle.gql_eval.specs.declared.scope.Header.TheVariants as header
 use Rattle.gql_eval.specs.declared.scope.Item.{Item}
@@ -28,7 +28,7 @@ column_entry (c ∷ cs) (d ∷ ds) (suc i) = column_entry cs ds i
 
 -- the row under its columns, and then the names of a match
 unfoldable pub rest_of : Scope → Entries
-rest_of s = row_scope (columns_of s.header) (map datum_of s.row.now) ++ bound_scope s.bound.now
+rest_of s = row_scope (columns_of s.header) (map datum_of s.row.now) ++ match_scope s.names.now s.bound.now
 
 -- the items in front, and then the rest
 unfoldable pub scope_of : Scope → Entries

@@ -1,4 +1,5 @@
 use Rattle.std.proofs.Common.{◌≡◌, Some, sym, subst, arith}
+use Rattle.gql_lexer.specs.SymbolPlaces.{comma}
 use Rattle.gql_ast.specs.Tree.{link}
 use Rattle.gql_ast.specs.Meaning.{tree_of}
 use Rattle.gql_front.specs.Gives.{Fails}
@@ -6,7 +7,8 @@ use Rattle.gql_front.proofs.Found.{no_operator, no_operand, one_step}
 use Rattle.gql_front.proofs.Loops.{with_front}
 use Rattle.gql_exprs.specs.Machinery.LeafReaders.{comma_op, operand}
 use Rattle.gql_exprs.specs.Machinery.Readers.{operator_in, side_of, steps_of, read_expr}
-use Rattle.gql_exprs.proofs.ExprLoops.{steps_from, steps_stop, steps_next, list_from, others_from, others_stop, others_next, comma_none, comma_some}
+use Rattle.gql_exprs.proofs.ChainLoops.{symbol_none, symbol_some}
+use Rattle.gql_exprs.proofs.ExprLoops.{steps_from, steps_stop, steps_next, list_from, others_from, others_stop, others_next}
 use Rattle.gql_exprs.proofs.+expr.Goals as goal
 
 pub brackets::list-more-preserved : goal.brackets::list-more-preserved
@@ -14,7 +16,7 @@ brackets::list-more-preserved t c =
     let rest = c.more.rest.now in
     let x = tree_of c.in-Ok-expression.expr in
     let behind = c.in-Ok-expression.behind.now in
-    let one = one_step comma_op read_expr operand rest tt c.in-Ok.behind.now x behind (comma_some rest c.in-Ok.behind.now c.in-Ok.ensures.given) c.in-Ok-expression.ensures.given in
+    let one = one_step comma_op read_expr operand rest tt c.in-Ok.behind.now x behind (symbol_some comma rest c.in-Ok.behind.now c.in-Ok.ensures.given) c.in-Ok-expression.ensures.given in
     record {
       so_far = subst (λ z. list_from c.args.start.now ≡ Some (with_front z (others_from behind))) (sym c.in_ok-push-in-Ok-expression.ensures.ok)
           (others_next c.more.exprs rest x behind (list_from c.args.start.now) one c.more.invariant.so_far);
@@ -27,7 +29,7 @@ brackets::list-returns-in-Err-Syntax t c =
     let none = subst (λ e. Fails e (read_expr c.in-Ok.behind.now)) c.in-Err-Syntax.field-0-is c.in-Err-Syntax.ensures.given in
     record {
       given = others_stop c.more.exprs rest (list_from c.args.start.now)
-          (no_operand comma_op read_expr operand rest tt c.in-Ok.behind.now (comma_some rest c.in-Ok.behind.now c.in-Ok.ensures.given) none) c.more.invariant.so_far;
+          (no_operand comma_op read_expr operand rest tt c.in-Ok.behind.now (symbol_some comma rest c.in-Ok.behind.now c.in-Ok.ensures.given) none) c.more.invariant.so_far;
       shorter = c.more.invariant.within;
     }
 
@@ -35,7 +37,7 @@ pub brackets::list-returns : goal.brackets::list-returns
 brackets::list-returns t c =
     let rest = c.more.rest.now in
     record {
-      given = others_stop c.more.exprs rest (list_from c.args.start.now) (no_operator comma_op read_expr operand rest (comma_none rest c.in_default.ensures.given)) c.more.invariant.so_far;
+      given = others_stop c.more.exprs rest (list_from c.args.start.now) (no_operator comma_op read_expr operand rest (symbol_none comma rest c.in_default.ensures.given)) c.more.invariant.so_far;
       shorter = c.more.invariant.within;
     }
 

@@ -1,4 +1,4 @@
--- What is asked of the nodes and edges of an INSERT, and the first refusal among them in the order of the text.
+-- What is asked of the nodes and edges of an INSERT and of their maps, and the first refusal among them in the order of the text.
 use Rattle.std.specs.Prelude.{List, [], ◌∷◌, ◌++◌, Option, None}
 use Rattle.std.specs.Option.{option_or}
 use Rattle.gql_values3.specs.declared.table.ColumnKind.{ColumnKind}
@@ -17,19 +17,18 @@ use Rattle.gql_ast.specs.declared.refusal.Refusal.{Refusal}
 use Rattle.gql_ast.specs.declared.refusal.Refusal.TheVariants as refusal
 use Rattle.gql_scope.specs.declared.insert_maps.MapQuestion.{MapQuestion}
 use Rattle.gql_scope.specs.declared.insert_maps.MapQuestion.TheVariants as map_question
-use Rattle.gql_scope.specs.declared.insert_spots.SpotQuestion.{SpotQuestion}
-use Rattle.gql_scope.specs.declared.insert_spots.SpotQuestion.TheVariants as spot_question
 
--- the refusal of a node or an edge, under the incoming columns and those so far
-abbrev pub spot_refusal : SpotQuestion → ColumnList → ColumnList → ColumnKind → Fill → Option Refusal
-spot_refusal spot_question.Names incoming columns k f = refusal_of_first refusal.Variable (misplaced columns k f f.variable ++ unknown_in_map incoming f.map)
-spot_refusal spot_question.Kinds incoming columns k f = refusal_of_first refusal.Kind (wrong_endpoint columns k f.variable)
+-- what is refused of a node or an edge by E08, under the incoming columns and those so far, and by E09
+abbrev pub unknown_at : ColumnList → ColumnList → ColumnKind → Fill → Option Refusal
+unknown_at incoming columns k f = refusal_of_first refusal.Variable (misplaced columns k f f.variable ++ unknown_in_map incoming f.map)
+
+abbrev pub wrong_at : ColumnList → ColumnKind → Fill → Option Refusal
+wrong_at columns k f = refusal_of_first refusal.Kind (wrong_endpoint columns k f.variable)
 
 -- the first under columns that grow by each variable
-abbrev pub first_in_spots : SpotQuestion → ColumnList → ColumnList → Spots → Option Refusal
-first_in_spots q incoming columns [] = None
-first_in_spots q incoming columns (s ∷ ss) =
-    option_or (spot_refusal q incoming columns s.0 s.1) (first_in_spots q incoming (with_variable columns s.0 s.1.variable) ss)
+abbrev pub first_in_spots : (ColumnList → ColumnKind → Fill → Option Refusal) → ColumnList → Spots → Option Refusal
+first_in_spots asks columns [] = None
+first_in_spots asks columns (s ∷ ss) = option_or (asks columns s.0 s.1) (first_in_spots asks (with_variable columns s.0 s.1.variable) ss)
 
 -- the refusal of a map
 abbrev pub map_refusal : MapQuestion → Option (List MapItem) → Option Refusal

@@ -1,5 +1,5 @@
 -- ChangeReaders: reading INSERT, SET, REMOVE and DELETE, each behind its first word.
-use Rattle.std.specs.Prelude.{ℕ, List, ◌∷◌, length, Option, Some, None}
+use Rattle.std.specs.Prelude.{ℕ, List, length, Option, Some, None}
 use Rattle.gql_lexer.specs.declared.lexeme.Lexeme.{Lexeme}
 use Rattle.gql_ast.specs.declared.change.Arrow.{Arrow}
 use Rattle.gql_ast.specs.declared.change.ChangeClause.{ChangeClause}
@@ -14,40 +14,17 @@ use Rattle.gql_ast.specs.declared.change.RemoveItem.TheVariants as remove_item
 use Rattle.gql_ast.specs.declared.change.SetItem.{SetItem}
 use Rattle.gql_ast.specs.declared.change.SetItem.TheVariants as set_item
 use Rattle.gql_ast.specs.declared.filler.MapItem.{MapItem}
-use Rattle.gql_lexer.specs.SymbolPlaces.{opening, closing, opening_bracket, closing_bracket, opening_brace, ampersand, dot, equal}
+use Rattle.gql_lexer.specs.SymbolPlaces.{opening, closing, opening_bracket, closing_bracket, opening_brace, dot, equal}
 use Rattle.gql_lexer.specs.WordPlaces.{DELETE}
 use Rattle.gql_front.specs.Reading.{◌>>=◌, Reader, is_sign, is_word, name_in, any_name_in, after, op_at, many}
 use Rattle.gql_statements.specs.declared.change_word.ChangeWord.{ChangeWord}
 use Rattle.gql_statements.specs.declared.change_word.ChangeWord.TheVariants as changes
+use Rattle.gql_type.specs.Machinery.LabelListReaders.{optional_labels_of}
 use Rattle.gql_type.specs.TypeWords.{arrow_sign, closing_of}
 use Rattle.gql_parts.specs.PartWords.{is_colon}
 use Rattle.gql_parts.specs.Machinery.PartReaders.{read_value, led, listed}
 use Rattle.gql_parts.specs.Machinery.FillerReaders.{map_of, variable_of}
 use Rattle.gql_statements.specs.Machinery.ReturnReaders.{names_of}
-
--- "&" Any
-unfoldable pub other_label_of : Reader (List ℕ)
-other_label_of ts = do
-  a ← after (is_sign ampersand) ts
-  op_at any_name_in a
-
--- {"&" Any}*
-unfoldable pub other_labels_of : List Lexeme → List (List ℕ) × List Lexeme
-other_labels_of ts = many other_label_of (length ts) ts
-
--- a label and the further ones, behind it
-abbrev pub labels_from : List ℕ → List Lexeme → List (List ℕ) × List Lexeme
-labels_from x ts = (x ∷ (other_labels_of ts).0, (other_labels_of ts).1)
-
--- Any {"&" Any}*
-unfoldable pub label_names_of : Reader (List (List ℕ))
-label_names_of ts = do
-  x ← op_at any_name_in ts
-  Some (labels_from x.0 x.1)
-
--- [(":" or IS) Labels]
-unfoldable pub fill_labels_of : Reader (Option (List (List ℕ)))
-fill_labels_of ts = led is_colon label_names_of ts
 
 -- [Map]
 unfoldable pub fill_map_of : Reader (Option (List MapItem))
@@ -56,7 +33,7 @@ fill_map_of ts = led (is_sign opening_brace) map_of ts
 unfoldable pub fill_of : Reader Fill
 fill_of ts = do
   x ← variable_of ts
-  l ← fill_labels_of x.1
+  l ← optional_labels_of x.1
   m ← fill_map_of l.1
   Some (record { variable = x.0; labels = l.0; map = m.0 }, m.1)
 

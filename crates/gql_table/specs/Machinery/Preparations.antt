@@ -18,7 +18,7 @@ use Rattle.gql_table.specs.Paging.{Sortable}
 
 -- an expression prepared under columns
 abbrev pub prepared_under : ColumnList → List (List ℕ × Datum) → Tree → Preparation
-prepared_under columns params e = record { columns = columns; params = params; tree = e }
+prepared_under columns params e = record { columns = columns; names = []; params = params; tree = e }
 
 -- the items of LET, each under the columns that it sees
 abbrev pub prepared_lets : ColumnList → List (List ℕ × Datum) → List LetItem → List Preparation

@@ -1,7 +1,7 @@
 -- Reading the body of a graph type.
-use Rattle.std.specs.Prelude.{ℕ, Bool, true, false, not, ◌&&◌, if◌then◌else◌, List, [], ◌∷◌, length, Option, Some, None, is_some}
+use Rattle.std.specs.Prelude.{ℕ, Bool, true, false, not, ◌&&◌, if◌then◌else◌, List, [], Option, Some, None, is_some}
 use Rattle.gql_lexer.specs.declared.lexeme.Lexeme.{Lexeme}
-use Rattle.gql_lexer.specs.SymbolPlaces.{opening, closing, opening_bracket, closing_bracket, opening_brace, closing_brace, ampersand, less, greater}
+use Rattle.gql_lexer.specs.SymbolPlaces.{opening, closing, opening_bracket, closing_bracket, opening_brace, closing_brace, less, greater}
 use Rattle.gql_lexer.specs.WordPlaces as word
 use Rattle.gql_values3.specs.declared.prop_kind.Scalar.{Scalar}
 use Rattle.gql_values3.specs.declared.prop_kind.PropKind.{PropKind}
@@ -12,10 +12,10 @@ use Rattle.gql_ast.specs.declared.graph_type.ElementBody.{ElementBody}
 use Rattle.gql_ast.specs.declared.graph_type.TypeElement.{TypeElement}
 use Rattle.gql_ast.specs.declared.graph_type.TypeElement.TheVariants as element
 use Rattle.gql_ast.specs.declared.graph_type.TypeBody.{TypeBody}
-use Rattle.gql_front.specs.Reading.{◌>>=◌, Reader, is_sign, is_word, name_in, any_name_in, after, op_at, opted, many}
-use Rattle.gql_parts.specs.PartWords.{is_colon}
+use Rattle.gql_front.specs.Reading.{◌>>=◌, Reader, is_sign, is_word, name_in, any_name_in, after, op_at, opted}
 use Rattle.gql_parts.specs.Machinery.PartReaders.{led, listed, past}
 use Rattle.gql_parts.specs.Machinery.FillerReaders.{variable_of}
+use Rattle.gql_type.specs.Machinery.LabelListReaders.{optional_labels_of}
 use Rattle.gql_type.specs.TypeWords.{scalar_word, is_typed, arrow_sign, closing_of}
 use Rattle.gql_type.specs.declared.segment.TypeSegment.{TypeSegment}
 
@@ -67,21 +67,7 @@ properties_of ts = empty_or_properties ts (after (is_sign closing_brace) ts)
 unfoldable pub braced_properties_of : Reader (Option (List TypeProperty))
 braced_properties_of ts = led (is_sign opening_brace) properties_of ts
 
--- "&" Any
-unfoldable pub other_label_of : Reader (List ℕ)
-other_label_of ts = do
-  a ← after (is_sign ampersand) ts
-  op_at any_name_in a
-
-unfoldable pub label_names_of : Reader (List (List ℕ))
-label_names_of ts = do
-  x ← op_at any_name_in ts
-  Some (x.0 ∷ (many other_label_of (length x.1) x.1).0, (many other_label_of (length x.1) x.1).1)
-
--- [(":" or IS) Labels]
-unfoldable pub optional_labels_of : Reader (Option (List (List ℕ)))
-optional_labels_of ts = led is_colon label_names_of ts
-
+-- Content
 unfoldable pub content_of : Reader ElementBody
 content_of ts = do
   l ← optional_labels_of ts

@@ -2,8 +2,8 @@ use Rattle.std.proofs.Common.{◌≡◌, ◌∙◌, ◌++◌, ◌∷◌, [], map
 use Rattle.std.proofs.lemmas.List.{map_push}
 use Rattle.gql_values3.specs.Meaning.{datum_of}
 use Rattle.gql_values3.specs.Lookup.{properties_of}
+use Rattle.gql_graph.proofs.CatalogLemmas.{names}
 use Rattle.gql_change.proofs.PlaceLemmas.{shown}
-use Rattle.gql_change.proofs.StoringLemmas.{names}
 use Rattle.gql_change.proofs.CopyLemmas.{property_taken, found_value, all_taken, names_over, copied_none, names_fit}
 use Rattle.gql_change.proofs.copying.copy_properties.Goals as goal
 

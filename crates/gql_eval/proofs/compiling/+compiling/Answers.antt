@@ -25,8 +25,8 @@ any_sides-put_any_side-requires t c =
 
 pub all_sides-overflow_sub-count : goal.all_sides-overflow_sub-count
 all_sides-overflow_sub-count t c =
-    let side = compiled (columns_of c.args.header) c.args.params.now (tree_of c.index-steps-i.result.operand) in
-    let rest = compiled_all (columns_of c.args.header) c.args.params.now (sides_from c.args.steps.now c.loop-i.i) in
+    let side = compiled (columns_of c.args.header) c.args.names.now c.args.params.now (tree_of c.index-steps-i.result.operand) in
+    let rest = compiled_all (columns_of c.args.header) c.args.names.now c.args.params.now (sides_from c.args.steps.now c.loop-i.i) in
     let split = c.in_ok-compile.ensures ∙ ap (λ p. side ++ p) (c.in_ok-put.ensures ∙ ap (λ p. join_all ∷ p) c.loop-i.invariant)
     ∙ sym (append_assoc side (join_all ∷ rest) (program_of c.args.program.now.items)) in
     let lost = none_lost (side ++ join_all ∷ rest) c.compile.new.program.items c.args.program.now.items split in
@@ -37,35 +37,35 @@ all_sides-loop-i-preserved t c =
     let below : c.loop-i.i - 1 < length c.args.steps.now = omega arith in
     let next : c.loop-i.i - 1 + 1 ≡ c.loop-i.i = omega arith in
     let same : c.len.result - c.len-behind.result ≡ length c.compile.new.program.items - length c.args.program.now.items = omega arith in
-    let side = compiled (columns_of c.args.header) c.args.params.now (tree_of c.index-steps-i.result.operand) in
-    let rest = compiled_all (columns_of c.args.header) c.args.params.now (sides_from c.args.steps.now c.loop-i.i) in
+    let side = compiled (columns_of c.args.header) c.args.names.now c.args.params.now (tree_of c.index-steps-i.result.operand) in
+    let rest = compiled_all (columns_of c.args.header) c.args.names.now c.args.params.now (sides_from c.args.steps.now c.loop-i.i) in
     let split = c.in_ok-compile.ensures ∙ ap (λ p. side ++ p) (c.in_ok-put.ensures ∙ ap (λ p. join_all ∷ p) c.loop-i.invariant)
     ∙ sym (append_assoc side (join_all ∷ rest) (program_of c.args.program.now.items)) in
     let step = sides_step c.args.steps.now (c.loop-i.i - 1) c.index-steps-i.result below c.index-steps-i.is in
     c.in_ok-put-2.ensures
     ∙ skips_them false (c.len.result - c.len-behind.result) (side ++ join_all ∷ rest) c.compile.new.program.items c.args.program.now.items split same
-    ∙ ap (λ ls. compiled_all (columns_of c.args.header) c.args.params.now ls ++ program_of c.args.program.now.items)
+    ∙ ap (λ ls. compiled_all (columns_of c.args.header) c.args.names.now c.args.params.now ls ++ program_of c.args.program.now.items)
     (sym (step ∙ ap (λ n. more_links (link_of c.index-steps-i.result) (sides_from c.args.steps.now n)) next))
 
 pub put_any_side-overflow_sub-count : goal.put_any_side-overflow_sub-count
 put_any_side-overflow_sub-count t c =
-    let side = compiled (columns_of c.args.header) c.args.params.now (tree_of c.args.side.now) in
+    let side = compiled (columns_of c.args.header) c.args.names.now c.args.params.now (tree_of c.args.side.now) in
     let split = c.in_ok-compile.ensures ∙ ap (λ p. side ++ p) c.in_ok-put.ensures ∙ sym (append_assoc side (join_any c.args.operator ∷ []) (program_of c.args.program.now.items)) in
     let lost = none_lost (side ++ join_any c.args.operator ∷ []) c.compile.new.program.items c.args.program.now.items split in
     omega (arith, lost)
 
 pub put_any_side-returns-then-is_xor : goal.put_any_side-returns-then-is_xor
 put_any_side-returns-then-is_xor t c =
-    let side = compiled (columns_of c.args.header) c.args.params.now (tree_of c.args.side.now) ++ join_any c.args.operator ∷ [] in
-    let split = c.in_ok-compile.ensures ∙ ap (λ p. compiled (columns_of c.args.header) c.args.params.now (tree_of c.args.side.now) ++ p) c.in_ok-put.ensures
-    ∙ sym (append_assoc (compiled (columns_of c.args.header) c.args.params.now (tree_of c.args.side.now)) (join_any c.args.operator ∷ []) (program_of c.args.program.now.items)) in
+    let side = compiled (columns_of c.args.header) c.args.names.now c.args.params.now (tree_of c.args.side.now) ++ join_any c.args.operator ∷ [] in
+    let split = c.in_ok-compile.ensures ∙ ap (λ p. compiled (columns_of c.args.header) c.args.names.now c.args.params.now (tree_of c.args.side.now) ++ p) c.in_ok-put.ensures
+    ∙ sym (append_assoc (compiled (columns_of c.args.header) c.args.names.now c.args.params.now (tree_of c.args.side.now)) (join_any c.args.operator ∷ []) (program_of c.args.program.now.items)) in
     split ∙ ap (λ b. cond b side (skip_if true (length side) ∷ side) ++ program_of c.args.program.now.items) c.if-is_xor.ensures
 
 pub put_any_side-returns : goal.put_any_side-returns
 put_any_side-returns t c =
     let same : c.len.result - c.len-behind.result ≡ length c.compile.new.program.items - length c.args.program.now.items = omega arith in
-    let side = compiled (columns_of c.args.header) c.args.params.now (tree_of c.args.side.now) ++ join_any c.args.operator ∷ [] in
-    let split = c.in_ok-compile.ensures ∙ ap (λ p. compiled (columns_of c.args.header) c.args.params.now (tree_of c.args.side.now) ++ p) c.in_ok-put.ensures
-    ∙ sym (append_assoc (compiled (columns_of c.args.header) c.args.params.now (tree_of c.args.side.now)) (join_any c.args.operator ∷ []) (program_of c.args.program.now.items)) in
+    let side = compiled (columns_of c.args.header) c.args.names.now c.args.params.now (tree_of c.args.side.now) ++ join_any c.args.operator ∷ [] in
+    let split = c.in_ok-compile.ensures ∙ ap (λ p. compiled (columns_of c.args.header) c.args.names.now c.args.params.now (tree_of c.args.side.now) ++ p) c.in_ok-put.ensures
+    ∙ sym (append_assoc (compiled (columns_of c.args.header) c.args.names.now c.args.params.now (tree_of c.args.side.now)) (join_any c.args.operator ∷ []) (program_of c.args.program.now.items)) in
     c.in_ok-put-2.ensures ∙ skips_them true (c.len.result - c.len-behind.result) side c.compile.new.program.items c.args.program.now.items split same
     ∙ ap (λ b. cond b side (skip_if true (length side) ∷ side) ++ program_of c.args.program.now.items) c.if-is_xor.ensures

@@ -32,10 +32,10 @@ abbrev pub decreases-put_any_side : goal.decreases-put_any_side
 decreases-put_any_side l = 4 * height_of (tree_of l.side.now) + 1
 
 abbrev pub invariant-chain-loop-i : goal.invariant-chain-loop-i
-invariant-chain-loop-i l = program_of l.program.items ≡ compiled_chain (columns_of l.fn.header) l.params (sides_from l.steps l.i) ++ program_of l.fn.program.items
+invariant-chain-loop-i l = program_of l.program.items ≡ compiled_chain (columns_of l.fn.header) l.names l.params (sides_from l.steps l.i) ++ program_of l.fn.program.items
 
 abbrev pub invariant-all_sides-loop-i : goal.invariant-all_sides-loop-i
-invariant-all_sides-loop-i l = program_of l.program.items ≡ compiled_all (columns_of l.fn.header) l.params (sides_from l.steps l.i) ++ program_of l.fn.program.items
+invariant-all_sides-loop-i l = program_of l.program.items ≡ compiled_all (columns_of l.fn.header) l.names l.params (sides_from l.steps l.i) ++ program_of l.fn.program.items
 
 abbrev pub invariant-any_sides-loop-i : goal.invariant-any_sides-loop-i
-invariant-any_sides-loop-i l = program_of l.program.items ≡ compiled_any (columns_of l.fn.header) l.params (sides_from l.steps l.i) ++ program_of l.fn.program.items
+invariant-any_sides-loop-i l = program_of l.program.items ≡ compiled_any (columns_of l.fn.header) l.names l.params (sides_from l.steps l.i) ++ program_of l.fn.program.items

@@ -3,8 +3,10 @@ use Rattle.gql_ast.specs.PatternMeaning.{pattern_of}
 use Rattle.gql_front.specs.Gives.{Fails}
 use Rattle.gql_front.specs.Reading.{is_sign, after}
 use Rattle.gql_front.proofs.Loops.{with_front}
-use Rattle.gql_patterns.specs.Machinery.PathReaders.{factor_of, factors_of, term_of, sides_of, read_path}
-use Rattle.gql_patterns.proofs.PathLoops.{factors_from, factors_stop, factors_go_on, sides_from, no_symbol, no_side, one_side}
+use Rattle.gql_exprs.proofs.ChainLoops.{no_symbol, no_side, one_side}
+use Rattle.gql_parts.specs.Machinery.PartReaders.{taken}
+use Rattle.gql_patterns.specs.Machinery.PathReaders.{symbol_of, factor_of, factors_of, term_of, sides_of, read_path}
+use Rattle.gql_patterns.proofs.PathLoops.{factors_from, factors_stop, factors_go_on, term_shrinks, sides_from}
 use Rattle.gql_patterns.proofs.levels.+path.Goals as goal
 
 pub factors-more-preserved : goal.factors-more-preserved
@@ -36,7 +38,7 @@ sides-more-preserved t c =
     let here = subst (λ n. after (is_sign n) rest ≡ Some c.in-Ok.behind.now) c.symbol_of.ensures c.in-Ok.ensures.given in
     record {
       so_far = subst (λ z. with_front z (sides_from k behind) ≡ sides_from k c.args.start.now) (sym c.in_ok-push-in-Ok-term.ensures.ok)
-          (one_side k c.more.others rest (sides_from k c.args.start.now) c.more.invariant.so_far c.in-Ok.behind.now x behind here c.in-Ok-term.ensures.given);
+          (one_side (symbol_of k) (term_of read_path) taken term_shrinks c.more.others rest (sides_from k c.args.start.now) c.more.invariant.so_far c.in-Ok.behind.now x behind here c.in-Ok-term.ensures.given);
       within = omega (arith, c.in-Ok-term.ensures.shorter, c.in-Ok.ensures.shorter, c.more.invariant.within);
     }
 
@@ -47,7 +49,7 @@ sides-returns-in-Err-Syntax t c =
     let rest = c.more.rest.now in
     let here = subst (λ n. after (is_sign n) rest ≡ Some c.in-Ok.behind.now) c.symbol_of.ensures c.in-Ok.ensures.given in
     record {
-      given = no_side k c.more.others rest (sides_from k c.args.start.now) c.more.invariant.so_far c.in-Ok.behind.now here
+      given = no_side (symbol_of k) (term_of read_path) taken term_shrinks c.more.others rest (sides_from k c.args.start.now) c.more.invariant.so_far c.in-Ok.behind.now here
           (subst (λ e. Fails e (term_of read_path c.in-Ok.behind.now)) c.in-Err-Syntax.field-0-is c.in-Err-Syntax.ensures.given);
       shorter = c.more.invariant.within;
     }
@@ -57,7 +59,7 @@ unfolding sides_of
 sides-returns t c =
     let k = c.args.chain in
     record {
-      given = no_symbol k c.more.others c.more.rest.now (sides_from k c.args.start.now) c.more.invariant.so_far
+      given = no_symbol (symbol_of k) (term_of read_path) taken term_shrinks c.more.others c.more.rest.now (sides_from k c.args.start.now) c.more.invariant.so_far
           (subst (λ n. after (is_sign n) c.more.rest.now ≡ None) c.symbol_of.ensures c.in_default.ensures.given);
       shorter = c.more.invariant.within;
     }
