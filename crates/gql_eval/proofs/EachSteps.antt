@@ -81,9 +81,6 @@ module _ {A B : Type 0} (f : A → Result B DataFault) where
   each_fails xs x rest error.OutOfMemory then p q = tt
   each_fails xs x rest (error.Fault e) then p q = each_fault xs x rest e then p q
 
-  pub each_end : (xs : List A) (done : List B) → xs ≡ [] → next (each f xs) (λ ys. Ok (done ++ ys)) ≡ Ok done
-  each_end xs done p = ap (λ (l : List A). next (each f l) (λ ys. Ok (done ++ ys))) p ∙ ap Ok (append-nil done)
-
 -- what is left from an index on
 pub drop_here : {A : Type 0} (xs : List A) (i : ℕ) (x : A) → i < length xs → x ≡ get_or xs i x → drop i xs ≡ x ∷ drop (i + 1) xs
 drop_here xs i x h here = rw add-one (drop-cons xs i x h ∙ ap (λ y. y ∷ drop (suc i) xs) (sym here))

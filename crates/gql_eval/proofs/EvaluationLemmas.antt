@@ -1,10 +1,10 @@
 -- Steps of the loops of evaluation.
-use Rattle.std.proofs.Common.{◌≡◌, ℕ, ◌+◌, ◌<◌, List, [], ◌∷◌, ◌++◌, length, map, drop, get_or, Some, Result, Ok, Err, refl, ap, sym, ◌∙◌, arith, append_assoc}
+use Rattle.std.proofs.Common.{◌≡◌, ℕ, ◌+◌, ◌<◌, List, [], ◌∷◌, ◌++◌, length, map, drop, get_or, Some, None, Result, Ok, Err, refl, ap, sym, ◌∙◌, arith, append_assoc}
 use Rattle.gql_eval.specs.Gives.{Gives, Fails}
 use Rattle.gql_eval.specs.declared.error.EvalError.{EvalError}
 use Rattle.gql_eval.specs.declared.error.EvalError.TheVariants as error
 use Rattle.std.proofs.lemmas.Grind.{common_steps}
-use Rattle.gql_values3.specs.Datum.{Datum}
+use Rattle.gql_values3.specs.Datum.{Datum, null}
 use Rattle.gql_values3.specs.Meaning.{datum_of}
 use Rattle.gql_values3.specs.PropertyGraph.{PropertyGraph}
 use Rattle.gql_values3.specs.declared.value.Value.{Value}
@@ -47,11 +47,6 @@ pub with_more : (front : List Datum) (r : Result Datum DataFault) (d : Datum) (m
 with_more front r d (Ok ys) given = ap Ok (append_assoc front (d ∷ []) ys) ∙ sym (ap (λ s. with_values front (s >>= λ y. Ok (y ∷ ys))) given)
 with_more front r d (Err e) given = sym (ap (λ s. with_values front (s >>= λ (y : Datum). Err e)) given)
 
--- what is given of two steps, where the first is
-pub gives_next : {A X Y : Type 0} (view : X → Y) (answer : Result X EvalError) (r : Result A DataFault) (a : A) (f : A → Result Y DataFault)
-    → r ≡ Ok a → Gives view answer (f a) → Gives view answer (r >>= f)
-gives_next view answer r a f given then = rw given then
-
 -- a fault of the first is one of both
 pub fails_next : {A Y : Type 0} (e : EvalError) (r : Result A DataFault) (f : A → Result Y DataFault) → Fails e r → Fails e (r >>= f)
 fails_next error.OutOfMemory r f given = tt
@@ -61,14 +56,6 @@ fails_next (error.Fault x) r f given = ap (λ s. s >>= f) given
 pub fails_with : (e : EvalError) (front : List Datum) (r : Result (List Datum) DataFault) → Fails e r → Fails e (with_values front r)
 fails_with e front r given = fails_next e r (λ ds. Ok (front ++ ds)) given
 
--- the same of three
-pub gives_third : {A B X Y : Type 0} (view : X → Y) (answer : Result X EvalError) (r : Result A DataFault) (a : A) (h : A → Result B DataFault) (f : B → Result Y DataFault)
-    → r ≡ Ok a → Gives view answer (h a >>= f) → Gives view answer (r >>= h >>= f)
-gives_third view answer r a h f given then = rw given then
-
-pub next_ok : {A B : Type 0} (r : Result A DataFault) (a : A) (f : A → Result B DataFault) (b : Result B DataFault) → r ≡ Ok a → f a ≡ b → next r f ≡ b
-next_ok r a f b given then = ap (λ s. next s f) given ∙ then
-
 -- an aggregate over the group of a name
 pub aggregate_is : (g : PropertyGraph) (params : List (List ℕ × Datum)) (scope : Scope) (word : Aggregate) (quantifier : SetQuantifier) (e : Tree) (x : List ℕ) (items : List Datum)
     → Some x ≡ group_of scope e → items ≡ group_items (datum_of_name scope x)
@@ -77,6 +64,13 @@ unfolding value_of
 aggregate_is g params scope word quantifier e x items found same =
     ap (λ o. over_group o (λ y. each (λ item. value_of g params (with_item scope y item) e) (group_items (datum_of_name scope y)) >>= λ ds. aggregated word (considered quantifier ds))) (sym found)
     ∙ ap (λ is. each (λ item. value_of g params (with_item scope x item) e) is >>= λ ds. aggregated word (considered quantifier ds)) (sym same)
+
+-- there is none where no name is a group's
+pub no_aggregate : (g : PropertyGraph) (params : List (List ℕ × Datum)) (scope : Scope) (word : Aggregate) (quantifier : SetQuantifier) (e : Tree)
+    → group_of scope e ≡ None → value_of g params scope (aggregate word quantifier e) ≡ Ok null
+unfolding value_of
+no_aggregate g params scope word quantifier e none =
+    ap (λ o. over_group o (λ y. each (λ item. value_of g params (with_item scope y item) e) (group_items (datum_of_name scope y)) >>= λ ds. aggregated word (considered quantifier ds))) none
 
 -- the same, with the values of its items
 pub aggregate_then : (g : PropertyGraph) (params : List (List ℕ × Datum)) (scope : Scope) (word : Aggregate) (quantifier : SetQuantifier) (e : Tree) (x : List ℕ) (items ds : List Datum)

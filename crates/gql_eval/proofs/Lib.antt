@@ -5,7 +5,6 @@ pub mod HeadingLemmas
 pub mod NameLemmas
 pub mod JoiningLemmas
 pub mod ScopeLemmas
-pub mod OperationLemmas
 pub mod PartLemmas
 pub mod AggregateLemmas
 pub mod EvaluationLemmas
@@ -16,4 +15,8 @@ pub mod RowFits
 pub mod TurnedLemmas
 pub mod TopLemmas
 pub mod SideLemmas
+pub mod PlaceLemmas
+pub mod ConstantLemmas
+pub mod HeldNameLemmas
+pub mod ArgumentLemmas
 pub mod ProgramLemmas

@@ -3,31 +3,26 @@
 use Rattle.std.proofs.Common.{◌≡◌, ℕ, zero, suc, ◌-◌, ◌<◌, ◌≤◌, Bool, true, false, cond, List, [], ◌∷◌, ◌++◌, length, map, take, get_or, Option, Some, None, Result, Ok, Err, refl, ap, sym, ◌∙◌, arith, append_assoc}
 use Rattle.std.specs.Prelude.{option_map, pos}
 use Rattle.gql_values3.specs.Integers.{value_of_digits}
-use Rattle.gql_values3.specs.Datum.{Datum, null, integer}
-use Rattle.gql_values3.specs.Meaning.{datum_of}
-use Rattle.gql_values3.specs.Texts.{same_text}
+use Rattle.gql_values3.specs.Datum.{Datum, null, boolean, integer, text, list, node, edge, path, no_data, items_of, data_of}
 use Rattle.gql_values3.specs.PropertyGraph.{PropertyGraph}
 use Rattle.gql_values3.specs.Truth.{negated, both}
 use Rattle.gql_values3.specs.declared.truth.Truth.{Truth}
 use Rattle.gql_values3.specs.declared.truth.Truth.TheVariants as truth
-use Rattle.gql_values3.specs.declared.table.ColumnKind.{ColumnKind}
-use Rattle.gql_values3.specs.declared.value.Value.{Value}
 use Rattle.gql_ast.specs.declared.fault.DataFault.{DataFault}
 use Rattle.gql_ast.specs.declared.words.Operator.{Operator}
 use Rattle.gql_ast.specs.declared.words.Operator.TheVariants as operator
 use Rattle.gql_ast.specs.Faults.{◌>>=◌}
-use Rattle.gql_ast.specs.Operators.{operated}
+use Rattle.gql_ast.specs.Operators.{made_list, operated}
 use Rattle.gql_ast.specs.TruthValues.{truth_in, datum_of_truth}
 use Rattle.gql_ast.specs.ElementTests.{property_value}
-use Rattle.gql_ast.specs.Scope.{Entry, entry_of, row_scope, datum_in, datum_of_name, holds_group}
-use Rattle.gql_ast.specs.Tree.{Tree, Links, constant, unknown, number, parameter, name, property, paren, listing, count_all, aggregate, call, modulo, coalesce, signed, product, sum, comparing, test, label_test, end_test, negation, conjunction, disjunction, link, no_links, more_links}
-use Rattle.gql_ast.specs.Evaluation.{value_of, chained, all_of, any_of, and_then, or_then, parameter_value}
-use Rattle.gql_eval.specs.Bound.{match_scope}
+use Rattle.gql_ast.specs.Scope.{datum_of_name}
+use Rattle.gql_ast.specs.Tree.{Tree, Trees, Links, constant, unknown, number, parameter, name, property, paren, listing, count_all, aggregate, call, modulo, coalesce, signed, product, sum, comparing, test, label_test, end_test, negation, conjunction, disjunction, link, no_trees, more_trees, no_links, more_links}
+use Rattle.gql_ast.specs.Evaluation.{value_of, values_of, first_value, unless_null, chained, all_of, any_of, and_then, or_then, parameter_value}
 use Rattle.gql_eval.specs.Machinery.JoinedTruth.{joined_truth}
 use Rattle.gql_eval.specs.Machinery.Operations.{of_operand, of_operands}
-use Rattle.gql_eval.specs.Machinery.Places.{place_among, places_among}
-use Rattle.gql_eval.specs.Machinery.ScopeMeaning.{item_entry, scope_of, rest_of, columns_of}
-use Rattle.gql_eval.specs.Machinery.Program.{Op, fixed, held_name, held_property, of_one, of_two, join_side, as_truth, join_all, join_any, skip_if, whole, held_at, value_there, first_held, pushed, join_by, skipped, acted, ran, ran_past, top_of, all_side, any_side, compiled, compiled_chain, compiled_all, compiled_any}
+use Rattle.gql_eval.specs.Machinery.Places.{places_among}
+use Rattle.gql_eval.specs.Machinery.ScopeMeaning.{scope_of, columns_of}
+use Rattle.gql_eval.specs.Machinery.Program.{Op, fixed, held_name, held_property, of_one, of_two, join_side, as_truth, join_all, join_any, skip_if, start_list, add_item, end_list, or_else, over_group, pushed, join_by, skipped, acted, ran, ran_past, top_of, all_side, any_side, other_side, listing_steps, aggregate_steps, constant_list, compiled, compiled_items, compiled_others, compiled_chain, compiled_all, compiled_any}
 use Rattle.gql_eval.specs.declared.scope.Scope.{Scope}
 use Rattle.gql_eval.specs.CowValue.{cow_datum}
 use Rattle.gql_eval.specs.Gives.{Fails, Gives}
@@ -36,8 +31,11 @@ use Rattle.gql_eval.specs.Machinery.InstructionMeaning.{op_of, program_of}
 use Rattle.gql_eval.specs.declared.cow.CowValue.{CowValue}
 use Rattle.gql_eval.specs.declared.error.EvalError.{EvalError}
 use Rattle.gql_eval.specs.declared.instruction.Instruction.{Instruction}
-use Rattle.gql_eval.proofs.EvaluationLemmas.{fails_next, all_of_false}
-use Rattle.gql_eval.proofs.ScopeLemmas.{entry_append, first, append_none, bound_placed}
+use Rattle.gql_eval.proofs.EvaluationLemmas.{fails_next, all_of_false, with_values, with_none}
+use Rattle.gql_eval.proofs.ItemLemmas.{items_again}
+use Rattle.gql_eval.proofs.ConstantLemmas.{constant_list_value}
+use Rattle.gql_eval.proofs.PlaceLemmas.{held_is}
+use Rattle.gql_eval.proofs.ScopeLemmas.{append_none}
 use Rattle.gql_eval.proofs.TurnedLemmas.{turned_more}
 
 -- one step after another
@@ -48,6 +46,17 @@ bind_same (Err e) f h same = refl
 bind_assoc : {A B C : Type 0} (r : Result A DataFault) (f : A → Result B DataFault) (h : B → Result C DataFault) → (r >>= f >>= h) ≡ (r >>= λ a. f a >>= h)
 bind_assoc (Ok a) f h = refl
 bind_assoc (Err e) f h = refl
+
+-- NULL in the place of NULL
+null_again : (d : Datum) → unless_null d (Ok null) ≡ Ok d
+null_again null = refl
+null_again (boolean b) = refl
+null_again (integer z) = refl
+null_again (text x) = refl
+null_again (list ds) = refl
+null_again (node n) = refl
+null_again (edge n) = refl
+null_again (path p) = refl
 
 ok_again : {A : Type 0} (r : Result A DataFault) → (r >>= λ d. Ok d) ≡ r
 ok_again (Ok d) = refl
@@ -64,51 +73,6 @@ truth_again : (t : Truth) → truth_in (datum_of_truth t) ≡ Ok t
 truth_again truth.False = refl
 truth_again truth.Unknown = refl
 truth_again truth.True = refl
-
--- a name by its place is the name in the scope
-there : (b : Bool) (c : List ℕ × ColumnKind) (d : Datum) (ds : List Datum) (o : Option ℕ) (e : Option Entry)
-    → value_there ds o ≡ option_map (λ (w : Entry). w.datum) e
-    → value_there (d ∷ ds) (cond b (Some 0) (option_map suc o)) ≡ option_map (λ (w : Entry). w.datum) (cond b (Some (record { name = c.0; is_group = holds_group c.1; datum = d })) e)
-there true c d ds o e same = refl
-there false c d ds None e same = same
-there false c d ds (Some i) e same = same
-
-nowhere : (o : Option ℕ) → value_there [] o ≡ None
-nowhere None = refl
-nowhere (Some i) = refl
-
-pub value_placed : (cs : List (List ℕ × ColumnKind)) (ds : List Datum) (x : List ℕ)
-    → value_there ds (place_among cs x) ≡ option_map (λ (w : Entry). w.datum) (entry_of (row_scope cs ds) x)
-value_placed [] ds x = refl
-value_placed (c ∷ cs) [] x = nowhere (place_among (c ∷ cs) x)
-value_placed (c ∷ cs) (d ∷ ds) x = there (same_text x c.0) c d ds (place_among cs x) (entry_of (row_scope cs ds) x) (value_placed cs ds x)
-
-held_first : (a b c : Option Entry) → first_held a (option_map (λ (w : Entry). w.datum) b) (datum_in c) ≡ datum_in (first a (first b c))
-held_first (Some e) b c = refl
-held_first None (Some e) c = refl
-held_first None None c = refl
-
-pub held_is : (s : Scope) (x : List ℕ) → held_at s (places_among (columns_of s.header) s.names.now x) x ≡ datum_of_name (scope_of s) x
-unfolding scope_of rest_of
-held_is s x =
-    let front = map item_entry s.front.now in
-    let row = row_scope (columns_of s.header) (map datum_of s.row.now) in
-    let behind = match_scope s.names.now s.bound.now in
-    ap (λ d. first_held (entry_of front x) (value_there (map datum_of s.row.now) (place_among (columns_of s.header) x)) d) (bound_placed s.names.now s.bound.now x)
-    ∙ ap (λ o. first_held (entry_of front x) o (datum_of_name behind x)) (value_placed (columns_of s.header) (map datum_of s.row.now) x)
-    ∙ held_first (entry_of front x) (entry_of row x) (entry_of behind x)
-    ∙ ap datum_in (ap (first (entry_of front x)) (sym (entry_append row behind x)) ∙ sym (entry_append front (row ++ behind) x))
-
--- what stands at a place of a row
-pub value_at_place : (row : List Value) (i : ℕ) (v : Value) → i < length row → v ≡ get_or row i v → value_there (map datum_of row) (Some i) ≡ Some (datum_of v)
-value_at_place [] i v h p = absurd (omega arith)
-value_at_place (x ∷ xs) zero v h p = ap (λ z. Some (datum_of z)) (sym p)
-value_at_place (x ∷ xs) (suc i) v h p = value_at_place xs i v (omega arith) p
-
-pub no_value_at_place : (row : List Value) (i : ℕ) → length row ≤ i → value_there (map datum_of row) (Some i) ≡ None
-no_value_at_place [] i h = refl
-no_value_at_place (x ∷ xs) zero h = absurd (omega arith)
-no_value_at_place (x ∷ xs) (suc i) h = no_value_at_place xs i (omega arith)
 
 module _ (g : PropertyGraph) (params : List (List ℕ × Datum)) (s : Scope) where
   abbrev run : List Op → List Datum → Result (List Datum) DataFault
@@ -175,10 +139,10 @@ module _ (g : PropertyGraph) (params : List (List ℕ × Datum)) (s : Scope) whe
       ∙ sym (bind_assoc r (f x) (λ z. run os (z ∷ st)))
 
   -- two operands, and then a step on both
-  two : (e a b : Tree) → Runs (code a) (value a) → Runs (code b) (value b) → Runs (code a ++ (code b ++ of_two e ∷ [])) (value a >>= λ x. value b >>= of_operands e x)
-  two e a b first second =
-      then_on (code a) (code b ++ of_two e ∷ []) (value a) (λ x. value b >>= of_operands e x) first
-      (side_on (code b) (of_two e) (value b) (of_operands e) second (λ st. refl) (λ x y st. refl))
+  two : (e : Tree) (steps more : List Op) (r t : Result Datum DataFault) → Runs steps r → Runs more t → Runs (steps ++ (more ++ of_two e ∷ [])) (r >>= λ x. t >>= of_operands g e x)
+  two e steps more r t first second =
+      then_on steps (more ++ of_two e ∷ []) r (λ x. t >>= of_operands g e x) first
+      (side_on more (of_two e) t (of_operands g e) second (λ st. refl) (λ x y st. refl))
 
   -- a side, a step of the datum on top with it, and then more
   side_then : (steps more : List Op) (op : Operator) (r : Result Datum DataFault) (h : Datum → Result Datum DataFault) → Runs steps r → RunsOn more h
@@ -263,6 +227,56 @@ module _ (g : PropertyGraph) (params : List (List ℕ × Datum)) (s : Scope) whe
   any_step operator.Multiply steps more r h runs on = or_step operator.Multiply steps more r h runs on (λ side. refl) (λ side. refl) (λ side. refl)
   any_step operator.Divide steps more r h runs on = or_step operator.Divide steps more r h runs on (λ side. refl) (λ side. refl) (λ side. refl)
 
+  -- what a name stands for
+  name_runs : (x : List ℕ) → Runs (held_name (places_among (columns_of s.header) s.names.now x) x ∷ []) (Ok (datum_of_name (scope_of s) x))
+  name_runs x = lone (held_name (places_among (columns_of s.header) s.names.now x) x) (Ok (datum_of_name (scope_of s) x)) (λ st. refl) (λ st. ap (λ d. pushed st (Ok d)) (held_is s x))
+
+  -- a step that puts a value and skips the steps behind it
+  past_then : (r : Result Datum DataFault) (steps os : List Op) (st : List Datum) → (pushed st r >>= λ after. ran_past g params s (steps ++ os) (length steps) after) ≡ (r >>= λ d. run os (d ∷ st))
+  past_then (Ok d) steps os st = past_all steps os (d ∷ st)
+  past_then (Err e) steps os st = refl
+
+  -- COALESCE: what it goes on to behind NULL, and skips behind any other datum
+  other_on : (steps : List Op) (r : Result Datum DataFault) → Runs steps r → RunsOn (other_side steps) (λ d. unless_null d r)
+  other_on steps r runs os st null = runs os st
+  other_on steps r runs os st (boolean b) = past_all steps os (boolean b ∷ st)
+  other_on steps r runs os st (integer z) = past_all steps os (integer z ∷ st)
+  other_on steps r runs os st (text x) = past_all steps os (text x ∷ st)
+  other_on steps r runs os st (list ds) = past_all steps os (list ds ∷ st)
+  other_on steps r runs os st (node n) = past_all steps os (node n ∷ st)
+  other_on steps r runs os st (edge n) = past_all steps os (edge n ∷ st)
+  other_on steps r runs os st (path p) = past_all steps os (path p ∷ st)
+
+  -- steps that put items behind those of a list on top
+  abbrev RunsOnList : List Op → Result (List Datum) DataFault → Type 0
+  RunsOnList steps more = (os : List Op) (st ds : List Datum) → run (steps ++ os) (list (data_of ds) ∷ st) ≡ (with_values ds more >>= λ all. run os (list (data_of all) ∷ st))
+
+  -- an item, and more behind it
+  item_then : (ds : List Datum) (r : Result Datum DataFault) (more : Result (List Datum) DataFault) (os : List Op) (st : List Datum)
+      → (r >>= λ d. with_values (ds ++ d ∷ []) more >>= λ all. run os (list (data_of all) ∷ st)) ≡ (with_values ds (r >>= λ d. more >>= λ es. Ok (d ∷ es)) >>= λ all. run os (list (data_of all) ∷ st))
+  item_then ds (Err e) more os st = refl
+  item_then ds (Ok d) (Err e) os st = refl
+  item_then ds (Ok d) (Ok es) os st = ap (λ all. run os (list (data_of all) ∷ st)) (append_assoc ds (d ∷ []) es)
+
+  item_run : (steps items : List Op) (r : Result Datum DataFault) (more : Result (List Datum) DataFault) → Runs steps r → RunsOnList items more
+      → RunsOnList (steps ++ add_item ∷ items) (r >>= λ d. more >>= λ es. Ok (d ∷ es))
+  item_run steps items r more runs on os st ds =
+      ap (λ p. run p (list (data_of ds) ∷ st)) (append_assoc steps (add_item ∷ items) os) ∙ runs (add_item ∷ (items ++ os)) (list (data_of ds) ∷ st)
+      ∙ bind_same r (λ d. run (add_item ∷ (items ++ os)) (d ∷ list (data_of ds) ∷ st)) (λ d. with_values (ds ++ d ∷ []) more >>= λ all. run os (list (data_of all) ∷ st))
+      (λ d. ap (λ is. run (items ++ os) (list (data_of (is ++ d ∷ [])) ∷ st)) (items_again ds) ∙ on os st (ds ++ d ∷ []))
+      ∙ item_then ds r more os st
+
+  -- a list of its items, which may be known
+  list_runs : (o : Option Datum) (items : List Op) (r : Result (List Datum) DataFault) → ((l : Datum) → o ≡ Some l → (r >>= made_list) ≡ Ok l) → RunsOnList items r
+      → Runs (listing_steps o items) (r >>= made_list)
+  list_runs (Some l) items r known on os st = ap (λ v. v >>= λ d. run os (d ∷ st)) (sym (known l refl))
+  list_runs None items r known on os st =
+      ap (λ p. run p (list no_data ∷ st)) (append_assoc items (end_list ∷ []) os) ∙ on (end_list ∷ os) st []
+      ∙ ap (λ v. v >>= λ all. run (end_list ∷ os) (list (data_of all) ∷ st)) (with_none r)
+      ∙ bind_same r (λ ds. run (end_list ∷ os) (list (data_of ds) ∷ st)) (λ ds. made_list ds >>= λ d. run os (d ∷ st))
+      (λ ds. pushed_then (made_list (items_of (data_of ds))) os st ∙ ap (λ is. made_list is >>= λ d. run os (d ∷ st)) (items_again ds))
+      ∙ sym (bind_assoc r made_list (λ d. run os (d ∷ st)))
+
   mutual
     unfolding value_of
 
@@ -272,24 +286,24 @@ module _ (g : PropertyGraph) (params : List (List ℕ × Datum)) (s : Scope) whe
     runs unknown = lone (fixed null) (Ok null) (λ st. refl) (λ st. refl)
     runs (number n) = lone (fixed (integer (pos (value_of_digits n)))) (Ok (integer (pos (value_of_digits n)))) (λ st. refl) (λ st. refl)
     runs (parameter p) = lone (fixed (parameter_value params p)) (Ok (parameter_value params p)) (λ st. refl) (λ st. refl)
-    runs (name x) = lone (held_name (places_among (columns_of s.header) s.names.now x) x) (Ok (datum_of_name (scope_of s) x)) (λ st. refl) (λ st. ap (λ d. pushed st (Ok d)) (held_is s x))
+    runs (name x) = name_runs x
     runs (property x p) = lone (held_property (places_among (columns_of s.header) s.names.now x) x p) (property_value g (datum_of_name (scope_of s) x) p) (λ st. refl) (λ st. ap (λ d. pushed st (property_value g d p)) (held_is s x))
     runs (paren e) = runs e
-    runs (listing es) = lone (whole (listing es)) (value (listing es)) (λ st. refl) (λ st. refl)
+    runs (listing es) = list_runs (constant_list params es) (compiled_items (columns_of s.header) s.names.now params es) (values_of g params (scope_of s) es) (λ l known. constant_list_value g params (scope_of s) es l known) (items_run es)
     runs count_all = lone (fixed null) (Ok null) (λ st. refl) (λ st. refl)
-    runs (aggregate a q e) = lone (whole (aggregate a q e)) (value (aggregate a q e)) (λ st. refl) (λ st. refl)
-    runs (call f e) = one_then (code e) (of_one (call f e)) (value e) (of_operand g (scope_of s) (call f e)) (runs e) (λ st. refl) (λ d st. refl)
-    runs (modulo a b) = two (modulo a b) a b (runs a) (runs b)
-    runs (coalesce e es) = lone (whole (coalesce e es)) (value (coalesce e es)) (λ st. refl) (λ st. refl)
-    runs (signed n e) = one_then (code e) (of_one (signed n e)) (value e) (of_operand g (scope_of s) (signed n e)) (runs e) (λ st. refl) (λ d st. refl)
+    runs (aggregate a q e) = λ os st. past_then (value (aggregate a q e)) (code e) os st
+    runs (call f e) = one_then (code e) (of_one (call f e)) (value e) (of_operand g (call f e)) (runs e) (λ st. refl) (λ d st. refl)
+    runs (modulo a b) = two (modulo a b) (code a) (code b) (value a) (value b) (runs a) (runs b)
+    runs (coalesce e es) = then_on (code e) (compiled_others (columns_of s.header) s.names.now params es) (value e) (λ d. unless_null d (first_value g params (scope_of s) es)) (runs e) (others_run es)
+    runs (signed n e) = one_then (code e) (of_one (signed n e)) (value e) (of_operand g (signed n e)) (runs e) (λ st. refl) (λ d st. refl)
     runs (product e ls) = then_on (code e) (compiled_chain (columns_of s.header) s.names.now params ls) (value e) (λ d. chained g params (scope_of s) d ls) (runs e) (chain_runs ls)
     runs (sum e ls) = then_on (code e) (compiled_chain (columns_of s.header) s.names.now params ls) (value e) (λ d. chained g params (scope_of s) d ls) (runs e) (chain_runs ls)
-    runs (comparing op a b) = two (comparing op a b) a b (runs a) (runs b)
-    runs (test e n q) = one_then (code e) (of_one (test e n q)) (value e) (of_operand g (scope_of s) (test e n q)) (runs e) (λ st. refl) (λ d st. refl)
-    runs (label_test e n l) = one_then (code e) (of_one (label_test e n l)) (value e) (of_operand g (scope_of s) (label_test e n l)) (runs e) (λ st. refl) (λ d st. refl)
-    runs (end_test e n which x) = one_then (code e) (of_one (end_test e n which x)) (value e) (of_operand g (scope_of s) (end_test e n which x)) (runs e) (λ st. refl) (λ d st. refl)
+    runs (comparing op a b) = two (comparing op a b) (code a) (code b) (value a) (value b) (runs a) (runs b)
+    runs (test e n q) = one_then (code e) (of_one (test e n q)) (value e) (of_operand g (test e n q)) (runs e) (λ st. refl) (λ d st. refl)
+    runs (label_test e n l) = one_then (code e) (of_one (label_test e n l)) (value e) (of_operand g (label_test e n l)) (runs e) (λ st. refl) (λ d st. refl)
+    runs (end_test e n which x) = two (end_test e n which x) (code e) (held_name (places_among (columns_of s.header) s.names.now x) x ∷ []) (value e) (Ok (datum_of_name (scope_of s) x)) (runs e) (name_runs x)
     runs (negation e) = λ os st.
-        one_then (code e) (of_one (negation e)) (value e) (of_operand g (scope_of s) (negation e)) (runs e) (λ st. refl) (λ d st. refl) os st
+        one_then (code e) (of_one (negation e)) (value e) (of_operand g (negation e)) (runs e) (λ st. refl) (λ d st. refl) os st
         ∙ ap (λ r. r >>= λ d. run os (d ∷ st)) (sym (bind_assoc (value e) truth_in (λ t. Ok (datum_of_truth (negated t)))))
     runs (conjunction e ls) = λ os st.
         then_on (code e) (as_truth ∷ compiled_all (columns_of s.header) s.names.now params ls) (value e) (λ d. truth_in d >>= λ t. all_of g params (scope_of s) t ls >>= λ u. Ok (datum_of_truth u)) (runs e)
@@ -299,6 +313,18 @@ module _ (g : PropertyGraph) (params : List (List ℕ × Datum)) (s : Scope) whe
         then_on (code e) (as_truth ∷ compiled_any (columns_of s.header) s.names.now params ls) (value e) (λ d. truth_in d >>= λ t. any_of g params (scope_of s) t ls >>= λ u. Ok (datum_of_truth u)) (runs e)
         (read_on (compiled_any (columns_of s.header) s.names.now params ls) (λ t. any_of g params (scope_of s) t ls) (any_runs ls)) os st
         ∙ ap (λ r. r >>= λ d. run os (d ∷ st)) (sym (bind_assoc (value e) truth_in (λ t. any_of g params (scope_of s) t ls >>= λ u. Ok (datum_of_truth u))))
+
+    -- the items of a list
+    pub items_run : (es : Trees) → RunsOnList (compiled_items (columns_of s.header) s.names.now params es) (values_of g params (scope_of s) es)
+    items_run no_trees = λ os st ds. ap (λ all. run os (list (data_of all) ∷ st)) (sym (append_none ds))
+    items_run (more_trees e es) = item_run (code e) (compiled_items (columns_of s.header) s.names.now params es) (value e) (values_of g params (scope_of s) es) (runs e) (items_run es)
+
+    -- what COALESCE goes on to
+    pub others_run : (es : Trees) → RunsOn (compiled_others (columns_of s.header) s.names.now params es) (λ d. unless_null d (first_value g params (scope_of s) es))
+    others_run no_trees = λ os st d. ap (λ r. r >>= λ y. run os (y ∷ st)) (sym (null_again d))
+    others_run (more_trees e es) =
+        other_on (code e ++ compiled_others (columns_of s.header) s.names.now params es) (first_value g params (scope_of s) (more_trees e es))
+        (then_on (code e) (compiled_others (columns_of s.header) s.names.now params es) (value e) (λ d. unless_null d (first_value g params (scope_of s) es)) (runs e) (others_run es))
 
     -- the sides of a chain
     pub chain_runs : (ls : Links) → RunsOn (compiled_chain (columns_of s.header) s.names.now params ls) (λ d. chained g params (scope_of s) d ls)

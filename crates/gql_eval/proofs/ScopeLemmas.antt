@@ -32,23 +32,6 @@ find_append p (x ∷ xs) ys = kept (p x) x (find p (xs ++ ys)) (find p xs) (find
 pub entry_append : (xs ys : Scope) (x : List ℕ) → entry_of (xs ++ ys) x ≡ first (entry_of xs x) (entry_of ys x)
 entry_append xs ys x = find_append (λ (e : Entry). same_text x e.name) xs ys
 
--- the columns from i on
-abbrev pub column_from : List (List ℕ × ColumnKind) → List Value → List ℕ → ℕ → Option Entry
-column_from columns row x i = entry_of (row_scope (drop i columns) (map datum_of (drop i row))) x
-
-pub column_step : (columns : List (List ℕ × ColumnKind)) (row : List Value) (x : List ℕ) (i : ℕ) (c : List ℕ × ColumnKind) (v : Value)
-    → i < length columns → i < length row → c ≡ get_or columns i c → v ≡ get_or row i v
-    → column_from columns row x i ≡ cond (same_text x c.0) (Some (record { name = c.0; is_group = holds_group c.1; datum = datum_of v })) (column_from columns row x (i + 1))
-column_step columns row x i c v h k p q = grind (arith, common_steps)
-
--- where one of the lists is over, no column is left
-pub column_end : (columns : List (List ℕ × ColumnKind)) (row : List Value) (x : List ℕ) (i : ℕ) → i ≡ min (length columns) (length row) → column_from columns row x i ≡ None
-column_end [] row x i p = grind (arith, common_steps)
-column_end (n ∷ ns) [] x zero p = refl
-column_end (n ∷ ns) [] x (suc i) p = absurd (omega arith)
-column_end (n ∷ ns) (v ∷ vs) x zero p = absurd (omega arith)
-column_end (n ∷ ns) (v ∷ vs) x (suc i) p = column_end ns vs x i (omega arith)
-
 -- what the names of a match stand for, by their places
 no_binding : (o : Option ℕ) → binding_there [] o ≡ None
 no_binding None = refl
@@ -158,16 +141,3 @@ placed_below false (Some j) n i h below = let e : suc j ≡ i = cc in omega (ari
 pub place_below : (cs : List (List ℕ × ColumnKind)) (x : List ℕ) (i : ℕ) → place_among cs x ≡ Some i → i < length cs
 place_below [] x i h = absurd (cc)
 place_below (c ∷ cs) x i h = placed_below (same_text x c.0) (place_among cs x) (length cs) i h (λ j p. place_below cs x j p)
-
-pub entry_there : (cs : List (List ℕ × ColumnKind)) (row : List Value) (i : ℕ) (c : List ℕ × ColumnKind) (v : Value) → i < length cs → i < length row → c ≡ get_or cs i c → v ≡ get_or row i v
-    → column_entry cs (map datum_of row) i ≡ Some (record { name = c.0; is_group = holds_group c.1; datum = datum_of v })
-entry_there [] row i c v h k p q = absurd (omega arith)
-entry_there (x ∷ xs) [] i c v h k p q = absurd (omega arith)
-entry_there (x ∷ xs) (y ∷ ys) zero c v h k p q = rw (p, q) refl
-entry_there (x ∷ xs) (y ∷ ys) (suc i) c v h k p q = entry_there xs ys i c v (omega arith) (omega arith) p q
-
-pub no_entry : (cs : List (List ℕ × ColumnKind)) (row : List Value) (i : ℕ) → length row ≤ i → column_entry cs (map datum_of row) i ≡ None
-no_entry [] row i h = refl
-no_entry (x ∷ xs) [] i h = refl
-no_entry (x ∷ xs) (y ∷ ys) zero h = absurd (omega arith)
-no_entry (x ∷ xs) (y ∷ ys) (suc i) h = no_entry xs ys i (omega arith)

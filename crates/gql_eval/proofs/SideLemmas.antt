@@ -1,8 +1,8 @@
--- The steps of a side that may be skipped: how many they are.
-use Rattle.std.proofs.Common.{◌≡◌, ℕ, ◌+◌, ◌-◌, ◌≤◌, Bool, List, ◌∷◌, ◌++◌, length, ap, sym, ◌∙◌, arith}
+-- Steps that may be skipped, or that an aggregate does itself: how many they are.
+use Rattle.std.proofs.Common.{◌≡◌, ℕ, ◌+◌, ◌-◌, ◌≤◌, List, ◌∷◌, ◌++◌, length, ap, sym, ◌∙◌, arith}
 use Rattle.std.proofs.lemmas.List.{length-append}
 use Rattle.gql_eval.specs.Machinery.InstructionMeaning.{op_of, program_of}
-use Rattle.gql_eval.specs.Machinery.Program.{Op, skip_if}
+use Rattle.gql_eval.specs.Machinery.Program.{Op}
 use Rattle.gql_eval.specs.declared.instruction.Instruction.{Instruction}
 use Rattle.gql_eval.proofs.TurnedLemmas.{length_turned}
 
@@ -17,10 +17,10 @@ count_of steps all behind split =
 pub none_lost : (steps : List Op) (all behind : List Instruction) → program_of all ≡ steps ++ program_of behind → length behind ≤ length all
 none_lost steps all behind split = let e = count_of steps all behind split in omega (arith, e)
 
--- a step in front that skips them
-pub skips_them : (b : Bool) (n : ℕ) (steps : List Op) (all behind : List Instruction) → program_of all ≡ steps ++ program_of behind → n ≡ length all - length behind
-    → skip_if b n ∷ program_of all ≡ (skip_if b (length steps) ∷ steps) ++ program_of behind
-skips_them b n steps all behind split same =
+-- a step in front that has their number
+pub counts_them : (step : ℕ → Op) (n : ℕ) (steps : List Op) (all behind : List Instruction) → program_of all ≡ steps ++ program_of behind → n ≡ length all - length behind
+    → step n ∷ program_of all ≡ (step (length steps) ∷ steps) ++ program_of behind
+counts_them step n steps all behind split same =
     let e = count_of steps all behind split in
     let count : n ≡ length steps = omega (arith, e, same) in
-    ap (λ k. skip_if b k ∷ program_of all) count ∙ ap (λ p. skip_if b (length steps) ∷ p) split
+    ap (λ k. step k ∷ program_of all) count ∙ ap (λ p. step (length steps) ∷ p) split

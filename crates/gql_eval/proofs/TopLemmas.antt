@@ -2,7 +2,6 @@
 use Rattle.std.proofs.Common.{◌≡◌, ◌-◌, Bool, List, [], ◌∷◌, ◌++◌, length, Some, slice_get, sym, ap, ◌∙◌, arith}
 use Rattle.std.specs.Prelude.{unwrap_or}
 use Rattle.gql_values3.specs.Datum.{Datum}
-use Rattle.gql_eval.specs.Machinery.Program.{is_boolean, has_on_top}
 use Rattle.gql_eval.specs.Machinery.Turned.{turned}
 
 some_same : (x y : Datum) → Some x ≡ Some y → x ≡ y
@@ -15,7 +14,7 @@ top_at : (x : Datum) (xs : List Datum) (d : Datum) → Some d ≡ slice_get (x �
 top_at x [] d e = ([], ap (λ z. z ∷ []) (sym (some_same d x e)))
 top_at x (y ∷ ys) d e = let k = top_at y ys d e in (k.0 ++ x ∷ [], ap (λ zs. zs ++ x ∷ []) k.1)
 
--- whether it is a boolean
-pub top_is : (b : Bool) (xs : List Datum) (d : Datum) → Some d ≡ slice_get xs (length xs - 1) → is_boolean b d ≡ has_on_top b (turned (λ (e : Datum). e) xs)
-top_is b [] d e = absurd cc
-top_is b (x ∷ xs) d e = let k = top_at x xs d (e ∙ at_end x xs) in sym (ap (has_on_top b) k.1)
+-- what is asked of it
+pub top_is : (asked : List Datum → Bool) (xs : List Datum) (d : Datum) → Some d ≡ slice_get xs (length xs - 1) → (rest : List Datum) × (asked (turned (λ (e : Datum). e) xs) ≡ asked (d ∷ rest))
+top_is asked [] d e = absurd cc
+top_is asked (x ∷ xs) d e = let k = top_at x xs d (e ∙ at_end x xs) in (k.0, ap asked k.1)

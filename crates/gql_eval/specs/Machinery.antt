@@ -10,3 +10,4 @@ pub mod Ranked
 pub mod Turned
 pub mod Program
 pub mod InstructionMeaning
+pub mod HeldGroup

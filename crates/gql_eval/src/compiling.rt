@@ -1,19 +1,20 @@
 //! From an expression to its program.
 
 ghost use Rattle.std.specs.Prelude.{◌≡◌, [], ◌∷◌, ◌++◌, map, OnOk};
-ghost use Rattle.gql_ast.specs.Tree.{links_of};
+ghost use Rattle.gql_ast.specs.Tree.{trees_of, links_of};
 ghost use Rattle.gql_ast.specs.Meaning.{tree_of, link_of};
 ghost use Rattle.gql_eval.specs.CowValue.{cow_datum};
-ghost use Rattle.gql_eval.specs.Machinery.Program.{compiled, compiled_chain, compiled_all, compiled_any, any_side, is_xor, as_truth, join_any, of_one, of_two};
+ghost use Rattle.gql_eval.specs.Machinery.Program.{compiled, compiled_items, compiled_others, listing_steps, constant_list, aggregate_steps, compiled_chain, compiled_all, compiled_any, any_side, is_xor, as_truth, join_any, of_one, of_two};
 ghost use Rattle.gql_eval.specs.Machinery.ScopeMeaning.{columns_of};
 ghost use Rattle.gql_eval.specs.Machinery.InstructionMeaning.{op_of, program_of};
 
+use crate::constants::constant_list;
 use crate::cow::CowValue;
 use crate::instruction::Instruction;
 use crate::leaves::{number_within, parameter};
 use crate::places::places_in;
 use crate::scope::Header;
-use gql_ast::{Expr, Operator, Step};
+use gql_ast::{Aggregate, Expr, Operator, SetQuantifier, Step};
 use gql_values3::{OutOfMemory, Params, Text, Value};
 
 // A program is made and kept from its last step on.
@@ -49,15 +50,34 @@ pub fn compile<'a>(
             Instruction::Property(places_in(header, names, name), name, key),
         ),
         Expr::Paren(part) => compile(header, names, params, part.expr(), program),
-        Expr::List(_) | Expr::Aggregate(_, _, _) | Expr::Coalesce(_, _) => put(
-            program,
-            Instruction::Whole(expr),
-        ),
+        Expr::List(parts) => list(header, names, params, parts.as_slice(), program),
+        Expr::Aggregate(word, quantifier, part) => {
+            over_group(
+                header,
+                names,
+                params,
+                *word,
+                *quantifier,
+                part.expr(),
+                program,
+            )
+        }
+        Expr::Coalesce(first, rest) => {
+            others(header, names, params, rest.as_slice(), program)?;
+            compile(header, names, params, first.expr(), program)
+        }
+        Expr::IsEnd(part, _, _, edge) => {
+            put(program, Instruction::OfTwo(expr))?;
+            put(
+                program,
+                Instruction::Name(places_in(header, names, edge), edge),
+            )?;
+            compile(header, names, params, part.expr(), program)
+        }
         Expr::Call(_, part)
         | Expr::Signed(_, part)
         | Expr::Is(part, _, _)
         | Expr::IsLabeled(part, _, _)
-        | Expr::IsEnd(part, _, _, _)
         | Expr::Not(part) => operation(header, names, params, expr, part.expr(), program),
         Expr::Mod(a, b) | Expr::Compare(_, a, b) => {
             binary(header, names, params, expr, a.expr(), b.expr(), program)
@@ -124,6 +144,90 @@ fn binary<'a>(
     put(program, Instruction::OfTwo(expr))?;
     compile(header, names, params, b, program)?;
     compile(header, names, params, a, program)
+}
+
+/// Puts the steps of a list; one of constants alone is made here.
+#[inline(never)]
+#[cycle(compiling)]
+fn list<'a>(
+    header: Header<'a>,
+    names: &'a [Text],
+    params: &'a Params,
+    parts: &'a [Expr],
+    program: &mut Vec<Instruction<'a>>,
+) -> Result<(), OutOfMemory>
+    ensures { OnOk result (program_of program.new.items ≡ listing_steps (constant_list params.now (trees_of (map tree_of parts.now))) (compiled_items (columns_of header.entry) names.now params.now (trees_of (map tree_of parts.now))) ++ program_of program.old.items) }
+{
+    let alloc = *program.allocator();
+    if let Some(value) = constant_list(alloc, params, parts)? {
+        return put(program, Instruction::Fixed(CowValue::Owned(value)));
+    }
+    put(program, Instruction::EndList)?;
+    items(header, names, params, parts, program)?;
+    put(program, Instruction::StartList)
+}
+
+/// Puts the steps of a list's items.
+#[inline(never)]
+#[cycle(compiling)]
+fn items<'a>(
+    header: Header<'a>,
+    names: &'a [Text],
+    params: &'a Params,
+    parts: &'a [Expr],
+    program: &mut Vec<Instruction<'a>>,
+) -> Result<(), OutOfMemory>
+    ensures { OnOk result (program_of program.new.items ≡ compiled_items (columns_of header.entry) names.now params.now (trees_of (map tree_of parts.now)) ++ program_of program.old.items) }
+{
+    for i in (0..parts.len()).rev() {
+        put(program, Instruction::AddItem)?;
+        compile(header, names, params, &parts[i], program)?;
+    }
+    Ok(())
+}
+
+/// Puts the steps of what COALESCE goes on to behind the first.
+#[inline(never)]
+#[cycle(compiling)]
+fn others<'a>(
+    header: Header<'a>,
+    names: &'a [Text],
+    params: &'a Params,
+    parts: &'a [Expr],
+    program: &mut Vec<Instruction<'a>>,
+) -> Result<(), OutOfMemory>
+    ensures { OnOk result (program_of program.new.items ≡ compiled_others (columns_of header.entry) names.now params.now (trees_of (map tree_of parts.now)) ++ program_of program.old.items) }
+{
+    let behind = program.len();
+    for i in (0..parts.len()).rev() {
+        compile(header, names, params, &parts[i], program)?;
+        let count = program.len() - behind;
+        put(program, Instruction::OrElse(count))?;
+    }
+    Ok(())
+}
+
+/// Puts the steps of an aggregate over a group.
+#[inline(never)]
+#[cycle(compiling)]
+fn over_group<'a>(
+    header: Header<'a>,
+    names: &'a [Text],
+    params: &'a Params,
+    word: Aggregate,
+    quantifier: SetQuantifier,
+    part: &'a Expr,
+    program: &mut Vec<Instruction<'a>>,
+) -> Result<(), OutOfMemory>
+    ensures { OnOk result (program_of program.new.items ≡ aggregate_steps word quantifier (tree_of part.now) (compiled (columns_of header.entry) names.now params.now (tree_of part.now)) ++ program_of program.old.items) }
+{
+    let behind = program.len();
+    compile(header, names, params, part, program)?;
+    let count = program.len() - behind;
+    put(
+        program,
+        Instruction::OverGroup(word, quantifier, part, count),
+    )
 }
 
 #[inline(never)]

@@ -2,7 +2,7 @@
 
 use crate::cow::CowValue;
 use crate::places::Places;
-use gql_ast::{Expr, Operator};
+use gql_ast::{Aggregate, Expr, Operator, SetQuantifier};
 use gql_values3::Text;
 
 /// A step over a stack of values. Its meaning is `op_of`; what it does is said in `specs/Machinery/Program.antt`.
@@ -28,6 +28,14 @@ pub enum Instruction<'a> {
     JoinAny(Operator),
     /// Skips so many of the steps behind it where the boolean stands on top.
     SkipIf(bool, usize),
-    /// Puts the value of the expression.
-    Whole(&'a Expr),
+    /// Puts a list without items.
+    StartList,
+    /// Puts the top behind the items of the list below it.
+    AddItem,
+    /// Makes a value of the list on top, where it is within the limits.
+    EndList,
+    /// Takes the top away where it is NULL; where it is not, skips so many of the steps behind it.
+    OrElse(usize),
+    /// Puts an aggregate over a group; so many steps behind it are those of its argument, and are skipped.
+    OverGroup(Aggregate, SetQuantifier, &'a Expr, usize),
 }

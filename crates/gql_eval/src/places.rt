@@ -50,7 +50,7 @@ fn place_of(columns: &[(Text, ColumnKind)], name: &str) -> Option<usize>
 }
 
 /// The place of the first of these names that is the name.
-pub fn name_in(names: &[Text], name: &Text) -> Option<usize>
+fn name_in(names: &[Text], name: &Text) -> Option<usize>
     ensures { result ≡ name_among names.now name.now }
 {
     position_of(names, name.as_str())

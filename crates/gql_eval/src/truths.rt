@@ -1,13 +1,10 @@
 //! Truths, and values as truths.
 
 ghost use Rattle.std.specs.Prelude.{◌≡◌, Ok, Err};
-ghost use Rattle.std.specs.Bool.{OnTrue, OnFalse};
 ghost use Rattle.gql_values3.specs.declared.truth.Truth.{Truth};
-ghost use Rattle.gql_ast.specs.declared.fault.DataFault.{DataFault};
-ghost use Rattle.gql_ast.specs.Faults.{Given};
 ghost use Rattle.gql_values3.specs.Meaning.{datum_of};
 ghost use Rattle.gql_ast.specs.TruthValues.{truth_in, datum_of_truth};
-ghost use Rattle.gql_ast.specs.Evaluation.{sensed, is_truth, or_then};
+ghost use Rattle.gql_ast.specs.Evaluation.{sensed, is_truth};
 ghost use Rattle.gql_eval.specs.Machinery.JoinedTruth.{joined_truth};
 ghost use Rattle.gql_eval.specs.Gives.{GivesExactly};
 
@@ -58,15 +55,6 @@ pub fn names_truth(quality: Quality, truth: Truth) -> bool
         (Quality::Unknown, Truth::Unknown) => true,
         _ => false,
     }
-}
-
-/// Whether OR skips its next side.
-pub fn is_skipped(operator: Operator, truth: Truth) -> bool
-    ensures yes { OnTrue result ((side : Given Truth) → or_then operator truth side ≡ Ok truth) }
-    ensures no { OnFalse result ((side : Truth) → or_then operator truth (Ok side) ≡ Ok (joined_truth operator truth side)) }
-    ensures fault { OnFalse result ((f : DataFault) → or_then operator truth (Err f) ≡ Err f) }
-{
-    truth == Truth::True && operator != Operator::Xor
 }
 
 /// OR or XOR of the sides so far and one more.

@@ -1,5 +1,5 @@
 -- The laws of fillers, of maps and of WHERE.
-use Rattle.std.proofs.Common.{◌≡◌, ◌<◌, ◌≤◌, Bool, true, false, ◌||◌, ℕ, List, [], ◌∷◌, length, Option, Some, None, option_map, refl, sym, ap, subst, ◌∙◌, arith}
+use Rattle.std.proofs.Common.{◌≡◌, ◌<◌, ◌≤◌, Bool, false, ℕ, List, length, Option, Some, None, option_map, refl, ap, arith}
 use Rattle.gql_lexer.specs.declared.lexeme.Lexeme.{Lexeme}
 use Rattle.gql_lexer.specs.declared.lexeme.Lexeme.TheVariants as lex
 use Rattle.gql_ast.specs.declared.expr.Expr.{Expr}
@@ -8,33 +8,28 @@ use Rattle.gql_ast.specs.declared.filler.Condition.{Condition}
 use Rattle.gql_ast.specs.declared.filler.Condition.TheVariants as condition
 use Rattle.gql_ast.specs.declared.filler.Filler.{Filler}
 use Rattle.gql_ast.specs.declared.filler.MapItem.{MapItem}
-use Rattle.gql_lexer.specs.SymbolPlaces.{closing, opening_brace, closing_brace, colon, comma}
+use Rattle.gql_lexer.specs.SymbolPlaces.{opening_brace, closing_brace, colon}
 use Rattle.gql_lexer.specs.WordPlaces.{IS, WHERE}
 use Rattle.gql_front.specs.Tables.{Begins}
 use Rattle.gql_front.specs.Reading.{is_sign, is_word, name_in, any_name_in, after, op_at, maybe, opted}
 use Rattle.gql_front.proofs.Found.{Sound, is_there}
 use Rattle.gql_front.proofs.TableLemmas.{begins_read, read_begins, begins_shorter}
 use Rattle.gql_exprs.proofs.ExprLists.{goes_or}
-use Rattle.gql_exprs.proofs.LabelLevels.{goes_label}
-use Rattle.gql_parts.specs.Parts.{Passes, IsOptional, IsListOf}
+use Rattle.gql_parts.specs.Parts.{IsOptional}
 use Rattle.gql_parts.specs.Values.{IsValue, IsLabels}
 use Rattle.gql_parts.specs.PartWords.{is_colon}
-use Rattle.gql_parts.specs.FillerGrammar.{IsWhere, IsMapItem, AreMapItems, IsCondition, AsksLabels, IsFiller}
-use Rattle.gql_parts.specs.Machinery.PartReaders.{read_value, read_labels, listed}
-use Rattle.gql_parts.specs.Machinery.FillerReaders.{where_of, map_item_of, map_items_of, empty_or_items, map_of, as_condition, map_or_where, condition_of, variable_of, filler_labels_of, filler_of}
-use Rattle.gql_parts.proofs.PartLaws.{Stops, Apart, bind_then, finish, passes_after, after_passes, passes_shorter, stops_after, stops_op, word_apart, sign_apart, passes_stops, begins_stops, optional_stops, optional_shorter, led_sound, led_exact}
-use Rattle.gql_parts.proofs.ListLaws.{listed_sound, listed_exact, list_shorter}
-use Rattle.gql_parts.proofs.ValueLaws.{value_sound, value_exact, value_shorter, labels_sound, labels_exact, labels_shorter}
+use Rattle.gql_parts.specs.FillerGrammar.{IsWhere, IsMapItem, IsCondition, AsksLabels, IsFiller}
+use Rattle.gql_parts.specs.Machinery.PartReaders.{read_value, read_labels}
+use Rattle.gql_parts.specs.Machinery.FillerReaders.{where_of, map_item_of, map_of, as_condition, map_or_where, condition_of, variable_of, filler_labels_of, filler_of}
+use Rattle.gql_parts.proofs.PartLaws.{Stops, Apart, bind_then, finish, passes_after, after_passes, passes_shorter, word_apart, sign_apart, begins_stops, optional_shorter, maybe_sound, said_exact, either_apart, says_no_sign, led_sound}
+use Rattle.gql_parts.proofs.BraceLaws.{ToBrace, to_brace_sound, to_brace_exact, to_brace_shorter}
+use Rattle.gql_parts.proofs.ValueLaws.{value_sound, value_exact, value_shorter, labels_sound, labels_shorter}
 
 -- [WHERE Expr]
 
 pub where_sound : Sound (IsOptional IsWhere) where_of
 unfolding where_of
 where_sound = led_sound (is_word WHERE) read_value IsWhere IsValue (λ x ts r h. h) (λ x ts r h. h) value_sound
-
-pub where_exact : (e : Option Expr) (ts s : List Lexeme) → IsOptional IsWhere e ts s → Stops (is_word WHERE) s → Stops goes_or s → where_of ts ≡ Some (e, s)
-unfolding where_of
-where_exact e ts s h stop end = led_exact (is_word WHERE) read_value IsWhere IsValue (λ x ts r h. h) (λ x ts r h. h) e ts s (λ x a k. value_exact x a s k end) h stop
 
 pub where_shorter : (e : Option Expr) (ts r : List Lexeme) → IsOptional IsWhere e ts r → length r ≤ length ts
 where_shorter = optional_shorter IsWhere (λ e ts r h. omega (arith, passes_shorter (is_word WHERE) ts h.0 h.1, value_shorter e h.0 r h.2))
@@ -60,47 +55,21 @@ map_item_shorter i ts r h = omega (arith, begins_shorter any_name_in i.name ts h
 
 -- what stands behind the opening brace
 abbrev pub MapRest : List MapItem → List Lexeme → List Lexeme → Type 0
-MapRest is ts r = (b : List Lexeme) × AreMapItems is ts b × Passes (is_sign closing_brace) b r
-
-as_items : (is : List MapItem) (ts r : List Lexeme) → IsListOf IsMapItem is ts r → AreMapItems is ts r
-as_items [] ts r h = absurd h
-as_items (i ∷ is) ts r h = h
+MapRest = ToBrace IsMapItem
 
 pub map_sound : Sound MapRest map_of
-unfolding map_of map_items_of
-map_sound ts is r e = go (after (is_sign closing_brace) ts) refl e
-  where
-    go : (o : Option (List Lexeme)) → after (is_sign closing_brace) ts ≡ o → empty_or_items ts o ≡ Some (is, r) → MapRest is ts r
-    go (Some a) p k = finish (λ is r. MapRest is ts r) [] a is r k (ts, refl, after_passes (is_sign closing_brace) ts a p)
-    go None p k =
-        bind_then (listed map_item_of ts) _ (is, r) k (λ l q k.
-        bind_then (after (is_sign closing_brace) l.1) _ (is, r) k (λ a j k.
-        finish (λ is r. MapRest is ts r) l.0 a is r k
-        (l.1, as_items l.0 ts l.1 (listed_sound map_item_of IsMapItem map_item_sound ts l.0 l.1 q), after_passes (is_sign closing_brace) l.1 a j)))
+unfolding map_of
+map_sound = to_brace_sound map_item_of IsMapItem map_item_sound
 
-name_no_sign : (place : ℕ) (t : Lexeme) (x : List ℕ) → any_name_in t ≡ Some x → is_sign place t ≡ true → ⊥
-name_no_sign place (lex.Sign n) x e i = cc
-name_no_sign place (lex.Name y) x e i = cc
-name_no_sign place (lex.Word w y) x e i = cc
-name_no_sign place (lex.Chars y) x e i = cc
-name_no_sign place (lex.Number y) x e i = cc
-name_no_sign place (lex.Param y) x e i = cc
+map_item_starts : (i : MapItem) (ts r : List Lexeme) → IsMapItem i ts r → Stops (is_sign closing_brace) ts
+map_item_starts i ts r h = begins_stops any_name_in (is_sign closing_brace) (says_no_sign any_name_in closing_brace refl) i.name ts h.0 h.1
 
 pub map_exact : (is : List MapItem) (ts s : List Lexeme) → MapRest is ts s → map_of ts ≡ Some (is, s)
-unfolding map_of map_items_of
-map_exact [] ts s h =
-    ap (empty_or_items ts) (passes_after (is_sign closing_brace) ts s (subst (λ z. Passes (is_sign closing_brace) z s) (sym h.1) h.2))
-map_exact (i ∷ is) ts s h =
-    let list = h.1 in
-    let begins = begins_stops any_name_in (is_sign closing_brace) (name_no_sign closing_brace) i.name ts list.1.0 list.1.1 in
-    let read = listed_exact map_item_of IsMapItem goes_or refl map_item_shorter map_item_exact (i ∷ is) ts h.0 list
-    (passes_stops (is_sign closing_brace) goes_or (sign_apart closing_brace goes_or refl) h.0 s h.2)
-    (passes_stops (is_sign closing_brace) (is_sign comma) (sign_apart closing_brace (is_sign comma) refl) h.0 s h.2) in
-    ap (empty_or_items ts) (stops_after (is_sign closing_brace) ts begins) ∙ rw (read, passes_after (is_sign closing_brace) h.0 s h.2) refl
+unfolding map_of
+map_exact = to_brace_exact map_item_of IsMapItem map_item_shorter goes_or refl refl map_item_exact map_item_starts
 
 pub map_shorter : (is : List MapItem) (ts r : List Lexeme) → MapRest is ts r → length r < length ts
-map_shorter [] ts r h = omega (arith, ap length h.1, passes_shorter (is_sign closing_brace) h.0 r h.2)
-map_shorter (i ∷ is) ts r h = omega (arith, list_shorter map_item_of IsMapItem map_item_shorter (i ∷ is) ts h.0 h.1, passes_shorter (is_sign closing_brace) h.0 r h.2)
+map_shorter = to_brace_shorter map_item_of IsMapItem map_item_shorter
 
 -- [Map; WHERE Expr]
 
@@ -125,23 +94,6 @@ condition_sound ts c r e = go (after (is_sign opening_brace) ts) refl e
         bind_then (where_of ts) _ (c, r) k (λ w q k.
         finish (λ c r. IsOptional IsCondition c ts r) (option_map condition.Where w.0) w.1 c r k (held w.0 w.1 (where_sound ts w.0 w.1 q)))
 
-condition_exact : (c : Option Condition) (ts s : List Lexeme) → IsOptional IsCondition c ts s → Stops (is_sign opening_brace) s → Stops (is_word WHERE) s → Stops goes_or s
-    → condition_of ts ≡ Some (c, s)
-unfolding condition_of
-condition_exact None ts s h brace word end =
-    subst (λ z. map_or_where z (after (is_sign opening_brace) z) ≡ Some (None, s)) (sym h)
-    (ap (map_or_where s) (stops_after (is_sign opening_brace) s brace) ∙ rw (where_exact None s s refl word end) refl)
-condition_exact (Some (condition.Map is)) ts s h brace word end =
-    ap (map_or_where ts) (passes_after (is_sign opening_brace) ts h.0 h.1) ∙ rw (map_exact is h.0 s (h.2, h.3, h.4)) refl
-condition_exact (Some (condition.Where e)) ts s h brace word end =
-    let begins = passes_stops (is_word WHERE) (is_sign opening_brace) (word_apart WHERE (is_sign opening_brace) (λ x. refl)) ts h.0 h.1 in
-    ap (map_or_where ts) (stops_after (is_sign opening_brace) ts begins) ∙ rw (where_exact (Some e) ts s h word end) refl
-
-condition_stops : (g : Lexeme → Bool) → Apart (is_sign opening_brace) g → Apart (is_word WHERE) g → (c : Option Condition) (m s : List Lexeme) → IsOptional IsCondition c m s → Stops g s → Stops g m
-condition_stops g brace word None m s h stop = subst (λ z. Stops g z) (sym h) stop
-condition_stops g brace word (Some (condition.Map is)) m s h stop = passes_stops (is_sign opening_brace) g brace m h.0 h.1
-condition_stops g brace word (Some (condition.Where e)) m s h stop = passes_stops (is_word WHERE) g word m h.0 h.1
-
 pub condition_shorter : (c : Option Condition) (ts r : List Lexeme) → IsOptional IsCondition c ts r → length r ≤ length ts
 condition_shorter None ts r h = omega (arith, ap length h)
 condition_shorter (Some (condition.Map is)) ts r h = omega (arith, passes_shorter (is_sign opening_brace) ts h.0 h.1, map_shorter is h.0 r (h.2, h.3, h.4))
@@ -153,36 +105,23 @@ abbrev pub is_name : Lexeme → Bool
 is_name t = is_there (name_in t)
 
 pub variable_sound : Sound (IsOptional (Begins name_in)) variable_of
-unfolding variable_of maybe
-variable_sound ts x r e = go (op_at name_in ts) refl e
-  where
-    go : (o : Option (List ℕ × List Lexeme)) → op_at name_in ts ≡ o → Some (opted ts o) ≡ Some (x, r) → IsOptional (Begins name_in) x ts r
-    go None p k = finish (λ x r. IsOptional (Begins name_in) x ts r) None ts x r k refl
-    go (Some y) p k = finish (λ x r. IsOptional (Begins name_in) x ts r) (Some y.0) y.1 x r k (read_begins name_in ts y.0 y.1 p)
+unfolding variable_of
+variable_sound = maybe_sound (op_at name_in) (Begins name_in) (read_begins name_in)
 
 pub variable_exact : (x : Option (List ℕ)) (ts s : List Lexeme) → IsOptional (Begins name_in) x ts s → Stops is_name s → variable_of ts ≡ Some (x, s)
 unfolding variable_of maybe
-variable_exact None ts s h stop = subst (λ z. Some (opted z (op_at name_in z)) ≡ Some (None, s)) (sym h) (ap (λ o. Some (opted s o)) (stops_op name_in s stop))
-variable_exact (Some x) ts s h stop = ap (λ o. Some (opted ts o)) (begins_read name_in x ts s h)
+variable_exact x ts s h stop = ap Some (said_exact name_in x ts s h stop)
 
 -- [(":" or IS) LabelExpr]
 
 pub colon_apart : (g : Lexeme → Bool) → g (lex.Sign colon) ≡ false → ((x : List ℕ) → g (lex.Word IS x) ≡ false) → Apart is_colon g
-colon_apart g sign word t p h = go (is_sign colon t) refl p
-  where
-    go : (b : Bool) → is_sign colon t ≡ b → (b || is_word IS t) ≡ true → ⊥
-    go true e q = sign_apart colon g sign t e h
-    go false e q = word_apart IS g word t q h
+colon_apart g sign word = either_apart (is_sign colon) (is_word IS) g (sign_apart colon g sign) (word_apart IS g word)
 
-pub filler_labels_sound : Sound (IsOptional AsksLabels) filler_labels_of
+filler_labels_sound : Sound (IsOptional AsksLabels) filler_labels_of
 unfolding filler_labels_of
 filler_labels_sound = led_sound is_colon read_labels AsksLabels IsLabels (λ x ts r h. h) (λ x ts r h. h) labels_sound
 
-filler_labels_exact : (l : Option LabelExpr) (ts s : List Lexeme) → IsOptional AsksLabels l ts s → Stops is_colon s → Stops goes_label s → filler_labels_of ts ≡ Some (l, s)
-unfolding filler_labels_of
-filler_labels_exact l ts s h stop end = led_exact is_colon read_labels AsksLabels IsLabels (λ x ts r h. h) (λ x ts r h. h) l ts s (λ x a k. labels_exact x a s k end) h stop
-
-pub filler_labels_shorter : (l : Option LabelExpr) (ts r : List Lexeme) → IsOptional AsksLabels l ts r → length r ≤ length ts
+filler_labels_shorter : (l : Option LabelExpr) (ts r : List Lexeme) → IsOptional AsksLabels l ts r → length r ≤ length ts
 filler_labels_shorter = optional_shorter AsksLabels (λ l ts r h. omega (arith, passes_shorter is_colon ts h.0 h.1, labels_shorter l h.0 r h.2))
 
 -- Fillers
@@ -195,21 +134,6 @@ filler_sound ts f r e =
     bind_then (condition_of l.1) _ (f, r) e (λ c k e.
     finish (λ f r. IsFiller f ts r) (record { variable = x.0; labels = l.0; condition = c.0 }) c.1 f r e
     (x.1, variable_sound ts x.0 x.1 p, l.1, filler_labels_sound x.1 l.0 l.1 q, condition_sound l.1 c.0 c.1 k))))
-
--- a filler stands before a closing parenthesis
-pub filler_exact : (f : Filler) (ts s r : List Lexeme) → IsFiller f ts s → Passes (is_sign closing) s r → filler_of ts ≡ Some (f, s)
-unfolding filler_of
-filler_exact f ts s r h end =
-    let at_end : (g : Lexeme → Bool) → g (lex.Sign closing) ≡ false → Stops g s = λ g e. passes_stops (is_sign closing) g (sign_apart closing g e) s r end in
-    let behind_labels : (g : Lexeme → Bool) → g (lex.Sign closing) ≡ false → g (lex.Sign opening_brace) ≡ false → ((x : List ℕ) → g (lex.Word WHERE x) ≡ false) → Stops g h.2 =
-    λ g e brace word. condition_stops g (sign_apart opening_brace g brace) (word_apart WHERE g word) f.condition h.2 s h.4 (at_end g e) in
-    let behind_name : Stops is_name h.0 =
-    optional_stops AsksLabels is_name f.labels h.0 h.2 (λ x k. passes_stops is_colon is_name (colon_apart is_name refl (λ x. refl)) h.0 k.0 k.1) h.3 (behind_labels is_name refl refl (λ x. refl)) in
-    rw (
-      variable_exact f.variable ts h.0 h.1 behind_name,
-      filler_labels_exact f.labels h.0 h.2 h.3 (behind_labels is_colon refl refl (λ x. refl)) (behind_labels goes_label refl refl (λ x. refl)),
-      condition_exact f.condition h.2 s h.4 (at_end (is_sign opening_brace) refl) (at_end (is_word WHERE) refl) (at_end goes_or refl),
-    ) refl
 
 pub filler_shorter : (f : Filler) (ts r : List Lexeme) → IsFiller f ts r → length r ≤ length ts
 filler_shorter f ts r h =

@@ -3,6 +3,8 @@ pub mod ManyLaws
 pub mod ManyLoops
 pub mod ListLaws
 pub mod ListLoops
+pub mod BraceLaws
+pub mod MeantLaws
 pub mod ValueLaws
 pub mod FillerLaws
 pub mod LongestLaws

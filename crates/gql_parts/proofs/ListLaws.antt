@@ -1,31 +1,21 @@
 -- Lists between commas.
-use Rattle.std.proofs.Common.{◌≡◌, ◌<◌, ◌≤◌, Bool, true, false, ℕ, zero, suc, List, [], ◌∷◌, length, Option, Some, None, refl, sym, ap, subst, ◌∙◌, arith}
+use Rattle.std.proofs.Common.{◌≡◌, ◌<◌, ◌≤◌, Bool, false, ℕ, zero, suc, List, [], ◌∷◌, length, Option, Some, refl, sym, ap, subst, ◌∙◌, arith}
 use Rattle.gql_lexer.specs.declared.lexeme.Lexeme.{Lexeme}
 use Rattle.gql_lexer.specs.declared.lexeme.Lexeme.TheVariants as lex
 use Rattle.gql_lexer.specs.SymbolPlaces.{comma}
-use Rattle.gql_front.specs.Reading.{◌>>=◌, Reader, is_sign, op_at, step, many, sequence}
+use Rattle.gql_front.specs.Reading.{◌>>=◌, Reader, is_sign, step, many, sequence}
 use Rattle.gql_front.proofs.Found.{Sound, StepIs, step_sound, no_operator, one_step}
 use Rattle.gql_front.proofs.Chains.{Many, sequence_read}
 use Rattle.gql_front.proofs.LexemeTests.{cond_some_is}
 use Rattle.gql_exprs.specs.Machinery.LeafReaders.{comma_op}
-use Rattle.gql_parts.specs.Parts.{Passes, AreOthers, IsListOf}
+use Rattle.gql_exprs.proofs.ChainLoops.{symbol_none, symbol_some}
+use Rattle.gql_parts.specs.Parts.{AreOthers, IsListOf}
 use Rattle.gql_parts.specs.Machinery.PartReaders.{taken, listed}
-use Rattle.gql_parts.proofs.PartLaws.{Stops, sign_apart, passes_stops}
+use Rattle.gql_parts.proofs.PartLaws.{Stops, passes_after, stops_after, sign_apart, passes_stops}
 use Rattle.gql_parts.proofs.ManyLaws.{many_none, many_next}
 
-no_comma : (ts : List Lexeme) → Stops (is_sign comma) ts → op_at comma_op ts ≡ None
-no_comma [] stop = refl
-no_comma (t ∷ ts) stop = go (is_sign comma t) refl
-  where
-    go : (b : Bool) → is_sign comma t ≡ b → op_at comma_op (t ∷ ts) ≡ None
-    go true e = absurd (stop e)
-    go false e = rw e refl
-
-one_comma : (ts a : List Lexeme) → Passes (is_sign comma) ts a → op_at comma_op ts ≡ Some (tt, a)
-one_comma ts a h = ap (op_at comma_op) h.2 ∙ rw h.1 refl
-
 module _ {A : Type 0} (item : Reader A) (P : A → List Lexeme → List Lexeme → Type 0) where
-  others_are : Many (StepIs comma_op P taken) (AreOthers P)
+  pub others_are : Many (StepIs comma_op P taken) (AreOthers P)
   others_are = record { none = λ r. refl; is_none = λ ts r h. h; more = more; is_more = is_more }
     where
       more : (c : A) (cs : List A) (ts m r : List Lexeme) → StepIs comma_op P taken c ts m → AreOthers P cs m r → AreOthers P (c ∷ cs) ts r
@@ -50,11 +40,11 @@ module _ {A : Type 0} (item : Reader A) (P : A → List Lexeme → List Lexeme �
     others_exact : (xs : List A) (b : ℕ) (ts s : List Lexeme) → length ts ≤ b → AreOthers P xs ts s → Stops g s → Stops (is_sign comma) s
         → many (step comma_op item taken) b ts ≡ (xs, s)
     others_exact [] b ts s le h stop end =
-        subst (λ z. many (step comma_op item taken) b z ≡ ([], s)) (sym h) (many_none (step comma_op item taken) b s (no_operator comma_op item taken s (no_comma s end)))
+        subst (λ z. many (step comma_op item taken) b z ≡ ([], s)) (sym h) (many_none (step comma_op item taken) b s (no_operator comma_op item taken s (symbol_none comma s (stops_after (is_sign comma) s end))))
     others_exact (x ∷ xs) zero ts s le h stop end = absurd (omega (arith, ap length h.1.2))
     others_exact (x ∷ xs) (suc b) ts s le h stop end =
         let read = exact x h.0 h.2 h.3 (others_stop xs h.2 s h.4 stop) in
-        many_next (step comma_op item taken) b ts x h.2 xs s (one_step comma_op item taken ts tt h.0 x h.2 (one_comma ts h.0 h.1) read)
+        many_next (step comma_op item taken) b ts x h.2 xs s (one_step comma_op item taken ts tt h.0 x h.2 (symbol_some comma ts h.0 (passes_after (is_sign comma) ts h.0 h.1)) read)
         (others_exact xs b h.2 s (omega (arith, ap length h.1.2, shorter x h.0 h.2 h.3)) h.4 stop end)
 
     pub listed_exact : (xs : List A) (ts s : List Lexeme) → IsListOf P xs ts s → Stops g s → Stops (is_sign comma) s → listed item ts ≡ Some (xs, s)

@@ -1,11 +1,10 @@
 -- Each reader gives the longest front that derives its part. What is derived is read, or more is, and then the next lexeme
 -- is one with which the part may go on.
-use Rattle.std.proofs.Common.{◌≡◌, ◌≤◌, Bool, ◌||◌, ℕ, List, length, Option, Some, None, option_map, refl, ap, subst, ◌∙◌, arith}
+use Rattle.std.proofs.Common.{◌≡◌, ◌≤◌, Bool, false, ◌||◌, ℕ, List, length, Option, Some, None, option_map, refl, ap, subst, ◌∙◌, arith}
 use Rattle.gql_lexer.specs.declared.lexeme.Lexeme.{Lexeme}
+use Rattle.gql_lexer.specs.declared.lexeme.Lexeme.TheVariants as lex
 use Rattle.gql_lexer.specs.SymbolPlaces.{opening_brace}
 use Rattle.gql_lexer.specs.WordPlaces.{WHERE}
-use Rattle.gql_ast.specs.LabelMeaning.{label_of, label_expr_of}
-use Rattle.gql_ast.specs.Meaning.{tree_of, expr_of}
 use Rattle.gql_ast.specs.declared.expr.Expr.{Expr}
 use Rattle.gql_ast.specs.declared.label.LabelExpr.{LabelExpr}
 use Rattle.gql_ast.specs.declared.filler.Condition.{Condition}
@@ -14,61 +13,36 @@ use Rattle.gql_ast.specs.declared.filler.Filler.{Filler}
 use Rattle.gql_ast.specs.declared.filler.MapItem.{MapItem}
 use Rattle.gql_front.specs.Longest.{Longest}
 use Rattle.gql_front.specs.Tables.{Begins}
-use Rattle.gql_front.specs.Reading.{◌>>=◌, is_sign, is_word, name_in, after, op_at, maybe, opted}
+use Rattle.gql_front.specs.Reading.{is_sign, is_word, name_in, after, op_at, maybe, opted}
 use Rattle.gql_front.proofs.Agree.{is_longest}
-use Rattle.gql_front.proofs.Found.{Goes, Goes-left, Goes-right, Found, exact, longer, Shrinks}
+use Rattle.gql_front.proofs.Found.{Goes, Goes-left, Goes-right, Found, exact, longer, exact_at}
 use Rattle.gql_front.proofs.TableLemmas.{begins_read, read_begins, begins_shorter, begins_goes}
-use Rattle.gql_exprs.specs.Machinery.LabelReaders.{read_label}
-use Rattle.gql_exprs.specs.Machinery.Readers.{read_expr}
 use Rattle.gql_exprs.proofs.ExprLists.{goes_or}
-use Rattle.gql_exprs.proofs.ExprRead.{expr_complete}
-use Rattle.gql_exprs.proofs.LabelLevels.{goes_label, label_complete}
-use Rattle.gql_parts.specs.Parts.{IsOptional}
+use Rattle.gql_exprs.proofs.LabelLevels.{goes_label}
+use Rattle.gql_parts.specs.Parts.{Passes, IsOptional}
 use Rattle.gql_parts.specs.Values.{IsValue, IsLabels}
 use Rattle.gql_parts.specs.PartWords.{is_colon}
 use Rattle.gql_parts.specs.FillerGrammar.{IsWhere, IsCondition, AsksLabels, IsFiller}
 use Rattle.gql_parts.specs.Machinery.PartReaders.{read_value, read_labels}
 use Rattle.gql_parts.specs.Machinery.FillerReaders.{where_of, map_of, as_condition, map_or_where, condition_of, variable_of, filler_labels_of, filler_of}
-use Rattle.gql_parts.proofs.PartLaws.{Apart, passes_after, after_passes, passes_shorter, passes_goes, stops_after, word_apart, sign_apart, passes_stops, led_found}
-use Rattle.gql_parts.proofs.ValueLaws.{value_sound, value_is, value_shorter, labels_sound, labels_are, labels_shorter}
-use Rattle.gql_parts.proofs.FillerLaws.{where_sound, map_sound, map_exact, map_shorter, is_name, colon_apart, filler_labels_sound, filler_labels_shorter, filler_sound}
+use Rattle.gql_parts.proofs.PartLaws.{Apart, nothing, opted_found, always_given, passes_after, after_passes, passes_shorter, passes_goes, stops_after, word_apart, sign_apart, passes_stops, led_found}
+use Rattle.gql_parts.proofs.ValueLaws.{value_sound, value_found, value_shrinks, labels_sound, labels_found, labels_shrink}
+use Rattle.gql_parts.proofs.FillerLaws.{where_sound, map_sound, map_exact, map_shorter, is_name, colon_apart, filler_sound}
 
 -- Expressions and label expressions
 
-value_found : (e : Expr) (ts s : List Lexeme) → IsValue e ts s → Found (read_value ts) goes_or e s
-unfolding read_value
-value_found e ts s h = go (expr_complete (length ts) (tree_of e) ts s (omega arith) h)
-  where
-    go : Found (read_expr ts) goes_or (tree_of e) s → Found (read_value ts) goes_or e s
-    go (exact q) = exact (value_is ts e s q)
-    go (longer x r q l i) = longer (expr_of x) r (rw q refl) l i
-
-value_shrinks : Shrinks read_value
-value_shrinks ts x r e = value_shorter x ts r (value_sound ts x r e)
-
 pub value_longest : (ts : List Lexeme) → Longest IsValue ts (read_value ts)
 value_longest ts = is_longest IsValue goes_or ts (read_value ts) (value_sound ts) (λ y s h. value_found y ts s h)
-
-labels_found : (l : LabelExpr) (ts s : List Lexeme) → IsLabels l ts s → Found (read_labels ts) goes_label l s
-unfolding read_labels
-labels_found l ts s h = go (label_complete (length ts) (label_of l) ts s (omega arith) h)
-  where
-    go : Found (read_label ts) goes_label (label_of l) s → Found (read_labels ts) goes_label l s
-    go (exact q) = exact (labels_are ts l s q)
-    go (longer x r q k i) = longer (label_expr_of x) r (rw q refl) k i
-
-labels_shrink : Shrinks read_labels
-labels_shrink ts x r e = labels_shorter x ts r (labels_sound ts x r e)
 
 pub labels_longest : (ts : List Lexeme) → Longest IsLabels ts (read_labels ts)
 labels_longest ts = is_longest IsLabels goes_label ts (read_labels ts) (labels_sound ts) (λ y s h. labels_found y ts s h)
 
 -- WHERE
 
-abbrev goes_where : Lexeme → Bool
+abbrev pub goes_where : Lexeme → Bool
 goes_where t = goes_or t || is_word WHERE t
 
-where_found : (e : Option Expr) (ts s : List Lexeme) → IsOptional IsWhere e ts s → Found (where_of ts) goes_where e s
+pub where_found : (e : Option Expr) (ts s : List Lexeme) → IsOptional IsWhere e ts s → Found (where_of ts) goes_where e s
 unfolding where_of
 where_found e ts s h = led_found (is_word WHERE) read_value IsWhere IsValue (λ x ts r h. h) (λ x ts r h. h) goes_or value_shrinks e ts s (λ x a k. value_found x a s k) h
 
@@ -77,23 +51,19 @@ where_longest ts = is_longest (IsOptional IsWhere) goes_where ts (where_of ts) (
 
 -- Labels behind a colon or IS
 
-abbrev goes_colon : Lexeme → Bool
+abbrev pub goes_colon : Lexeme → Bool
 goes_colon t = goes_label t || is_colon t
 
 filler_labels_found : (l : Option LabelExpr) (ts s : List Lexeme) → IsOptional AsksLabels l ts s → Found (filler_labels_of ts) goes_colon l s
 unfolding filler_labels_of
 filler_labels_found l ts s h = led_found is_colon read_labels AsksLabels IsLabels (λ x ts r h. h) (λ x ts r h. h) goes_label labels_shrink l ts s (λ x a k. labels_found x a s k) h
 
--- there is always an answer
 filler_labels_given : (ts : List Lexeme) → (y : Option LabelExpr × List Lexeme) × (filler_labels_of ts ≡ Some y) × (length y.1 ≤ length ts)
-unfolding filler_labels_of
-filler_labels_given ts =
-    let y : Option LabelExpr × List Lexeme = opted ts (after is_colon ts >>= read_labels) in
-    (y, refl, filler_labels_shorter y.0 ts y.1 (filler_labels_sound ts y.0 y.1 refl))
+filler_labels_given ts = always_given (filler_labels_of ts) goes_colon None ts (filler_labels_found None ts ts refl)
 
 -- A map, or WHERE
 
-abbrev goes_condition : Lexeme → Bool
+abbrev pub goes_condition : Lexeme → Bool
 goes_condition t = goes_where t || is_sign opening_brace t
 
 as_where : Option Expr × List Lexeme → Option Condition × List Lexeme
@@ -132,13 +102,8 @@ condition_found (Some (condition.Where e)) ts s h =
     let begins = passes_stops (is_word WHERE) (is_sign opening_brace) (word_apart WHERE (is_sign opening_brace) (λ x. refl)) ts h.0 h.1 in
     no_brace ts (Some e) s (stops_after (is_sign opening_brace) ts begins) (where_found (Some e) ts s h)
 
--- there is always an answer
 condition_given : (ts : List Lexeme) → (y : Option Condition × List Lexeme) × (condition_of ts ≡ Some y) × (length y.1 ≤ length ts)
-condition_given ts = go (condition_found None ts ts refl)
-  where
-    go : Found (condition_of ts) goes_condition None ts → (y : Option Condition × List Lexeme) × (condition_of ts ≡ Some y) × (length y.1 ≤ length ts)
-    go (exact e) = ((None, ts), e, omega arith)
-    go (longer x r e l i) = ((x, r), e, omega arith)
+condition_given ts = always_given (condition_of ts) goes_condition None ts (condition_found None ts ts refl)
 
 -- what begins with none of g is missing
 no_condition : (g : Lexeme → Bool) → Apart (is_sign opening_brace) g → Apart (is_word WHERE) g → (c : Option Condition) (m s : List Lexeme) → IsOptional IsCondition c m s → Goes g m → m ≡ s
@@ -154,16 +119,11 @@ no_labels (Some l) m s h i = absurd (passes_stops is_colon is_name (colon_apart 
 
 variable_found : (x : Option (List ℕ)) (ts s : List Lexeme) → IsOptional (Begins name_in) x ts s → Found (variable_of ts) is_name x s
 unfolding variable_of maybe
-variable_found (Some x) ts s h = exact (ap (λ (o : Option (List ℕ × List Lexeme)). Some (opted ts o)) (begins_read name_in x ts s h))
-variable_found None ts s h = subst (λ z. Found (variable_of ts) is_name None z) h (go (op_at name_in ts) refl)
-  where
-    go : (o : Option (List ℕ × List Lexeme)) → op_at name_in ts ≡ o → Found (variable_of ts) is_name None ts
-    go None e = exact (ap (λ (o : Option (List ℕ × List Lexeme)). Some (opted ts o)) e)
-    go (Some x) e =
-        let begins = read_begins name_in ts x.0 x.1 e in
-        longer (Some x.0) x.1 (ap (λ (o : Option (List ℕ × List Lexeme)). Some (opted ts o)) e) (begins_shorter name_in x.0 ts x.1 begins) (begins_goes name_in x.0 ts x.1 begins)
+variable_found x ts s h =
+    opted_found (op_at name_in) (Begins name_in) nothing is_name (λ ts x r e. begins_shorter name_in x ts r (read_begins name_in ts x r e))
+    (λ ts x r e. begins_goes name_in x ts r (read_begins name_in ts x r e)) x ts s (λ x k. exact (begins_read name_in x ts s k)) h
 
-abbrev goes_filler : Lexeme → Bool
+abbrev pub goes_filler : Lexeme → Bool
 goes_filler t = is_name t || (goes_colon t || goes_condition t)
 
 module _ (f : Filler) (ts s : List Lexeme) (h : IsFiller f ts s) where
@@ -204,3 +164,9 @@ module _ (f : Filler) (ts s : List Lexeme) (h : IsFiller f ts s) where
 
 pub filler_longest : (ts : List Lexeme) → Longest IsFiller ts (filler_of ts)
 filler_longest ts = is_longest IsFiller goes_filler ts (filler_of ts) (filler_sound ts) (λ f s h. filler_found f ts s h)
+
+-- a filler before a symbol with which it doesn't go on is read exactly
+pub filler_exact : (place : ℕ) → goes_filler (lex.Sign place) ≡ false → (f : Filler) (ts s r : List Lexeme) → IsFiller f ts s → Passes (is_sign place) s r
+    → filler_of ts ≡ Some (f, s)
+filler_exact place none f ts s r h end =
+    exact_at (filler_of ts) goes_filler f s (filler_found f ts s h) (passes_stops (is_sign place) goes_filler (sign_apart place goes_filler none) s r end)

@@ -4,9 +4,10 @@ use Rattle.std.proofs.Common.{◌≡◌, ◌<◌, ◌≤◌, inl, inr, Bool, tru
 use Rattle.gql_lexer.specs.declared.lexeme.Lexeme.{Lexeme}
 use Rattle.gql_lexer.specs.declared.lexeme.Lexeme.TheVariants as lex
 use Rattle.gql_front.specs.Tables.{Begins}
-use Rattle.gql_front.specs.Reading.{◌>>=◌, Reader, is_sign, is_word, before, after, op_at, opted}
+use Rattle.gql_front.specs.Reading.{◌>>=◌, Reader, is_sign, is_word, before, after, op_at, opted, maybe}
 use Rattle.gql_front.proofs.Found.{Goes, Goes-left, Goes-right, Found, exact, longer, Sound, Shrinks, is_there, some_is}
 use Rattle.gql_front.proofs.LexemeTests.{sign_is, word_is, after_is}
+use Rattle.gql_front.proofs.TableLemmas.{begins_read}
 use Rattle.gql_parts.specs.Parts.{Passes, MayPass, IsOptional}
 use Rattle.gql_parts.specs.Machinery.PartReaders.{led, behind_or, past}
 
@@ -75,11 +76,21 @@ stops_op {A} says (t ∷ ts) stop = go (says t) refl
     go None e = refl
     go (Some x) e = absurd (stop (ap is_there e))
 
+pub either_apart : (test other g : Lexeme → Bool) → Apart test g → Apart other g → Apart (λ t. test t || other t) g
+either_apart test other g apart others t p h = go (test t) refl p
+  where
+    go : (b : Bool) → test t ≡ b → (b || other t) ≡ true → ⊥
+    go true e q = apart t e h
+    go false e q = others t q h
+
 pub word_apart : (place : ℕ) (g : Lexeme → Bool) → ((x : List ℕ) → g (lex.Word place x) ≡ false) → Apart (is_word place) g
 word_apart place g none t p h = let w = word_is place t p in let q = ap g w.1 in let f = none w.0 in cc
 
 pub sign_apart : (place : ℕ) (g : Lexeme → Bool) → g (lex.Sign place) ≡ false → Apart (is_sign place) g
 sign_apart place g none t p h = let q = ap g (sign_is place t p) in cc
+
+pub says_no_sign : {A : Type 0} (says : Lexeme → Option A) (place : ℕ) → says (lex.Sign place) ≡ None → (t : Lexeme) (x : A) → says t ≡ Some x → is_sign place t ≡ true → ⊥
+says_no_sign says place none t x e i = let q = sym none ∙ ap says (sym (sign_is place t i)) ∙ e in cc
 
 pub passes_stops : (test g : Lexeme → Bool) → Apart test g → (m r : List Lexeme) → Passes test m r → Stops g m
 passes_stops test g apart m r h = subst (λ z. Stops g z) (sym h.2) (apart h.0 h.1)
@@ -87,6 +98,11 @@ passes_stops test g apart m r h = subst (λ z. Stops g z) (sym h.2) (apart h.0 h
 pub begins_stops : {A : Type 0} (says : Lexeme → Option A) (g : Lexeme → Bool) → ((t : Lexeme) (a : A) → says t ≡ Some a → g t ≡ true → ⊥)
     → (a : A) (m r : List Lexeme) → Begins says a m r → Stops g m
 begins_stops says g apart a m r h = subst (λ z. Stops g z) (sym h.2) (apart h.0 a h.1)
+
+-- a lexeme that may be missing, and says nothing
+pub may_pass_stops : (test g : Lexeme → Bool) → Apart test g → (ts s : List Lexeme) → MayPass test ts s → Stops g s → Stops g ts
+may_pass_stops test g apart ts s (inl h) stop = subst (λ z. Stops g z) (sym h) stop
+may_pass_stops test g apart ts s (inr h) stop = passes_stops test g apart ts s h
 
 -- An optional part
 
@@ -100,6 +116,53 @@ pub optional_shorter : {A : Type 0} (P : A → List Lexeme → List Lexeme → T
 optional_shorter P shorter None ts r h = omega (arith, ap length h)
 optional_shorter P shorter (Some x) ts r h = omega (arith, shorter x ts r h)
 
+-- an item that is read where it is there
+module _ {A : Type 0} (item : Reader A) (P : A → List Lexeme → List Lexeme → Type 0) where
+  pub opted_sound : Sound P item → (ts : List Lexeme) → IsOptional P (opted ts (item ts)).0 ts (opted ts (item ts)).1
+  opted_sound sound ts = go (item ts) refl
+    where
+      go : (o : Option (A × List Lexeme)) → item ts ≡ o → IsOptional P (opted ts o).0 ts (opted ts o).1
+      go None e = refl
+      go (Some x) e = sound ts x.0 x.1 e
+
+  pub maybe_sound : Sound P item → Sound (IsOptional P) (maybe item)
+  unfolding maybe
+  maybe_sound sound ts y r e = finish (λ y r. IsOptional P y ts r) (opted ts (item ts)).0 (opted ts (item ts)).1 y r e (opted_sound sound ts)
+
+  pub opted_exact : (o : Option A) (ts s : List Lexeme) → ((x : A) → P x ts s → item ts ≡ Some (x, s)) → item s ≡ None → IsOptional P o ts s → opted ts (item ts) ≡ (o, s)
+  opted_exact None ts s reads none h = subst (λ z. opted z (item z) ≡ (None, s)) (sym h) (ap (opted s) none)
+  opted_exact (Some x) ts s reads none h = ap (opted ts) (reads x h)
+
+  -- what is derived is read, or more is: behind an item that is there stands what it goes on with, g, and behind one that is
+  -- missing what it begins with, h
+  module _ (g h : Lexeme → Bool) (shrinks : Shrinks item) (begins : (ts : List Lexeme) (x : A) (r : List Lexeme) → item ts ≡ Some (x, r) → Goes h ts) where
+    none_found : (ts : List Lexeme) → Found (Some (opted ts (item ts))) (λ t. g t || h t) None ts
+    none_found ts = go (item ts) refl
+      where
+        go : (o : Option (A × List Lexeme)) → item ts ≡ o → Found (Some (opted ts o)) (λ t. g t || h t) None ts
+        go None e = exact refl
+        go (Some x) e = longer (Some x.0) x.1 refl (shrinks ts x.0 x.1 e) (Goes-right g h ts (begins ts x.0 x.1 e))
+
+    some_found : (x : A) (ts s : List Lexeme) → Found (item ts) g x s → Found (Some (opted ts (item ts))) (λ t. g t || h t) (Some x) s
+    some_found x ts s (exact e) = exact (ap (λ (o : Option (A × List Lexeme)). Some (opted ts o)) e)
+    some_found x ts s (longer y r e l i) = longer (Some y) r (ap (λ (o : Option (A × List Lexeme)). Some (opted ts o)) e) l (Goes-left g h s i)
+
+    pub opted_found : (o : Option A) (ts s : List Lexeme) → ((x : A) → P x ts s → Found (item ts) g x s) → IsOptional P o ts s
+        → Found (Some (opted ts (item ts))) (λ t. g t || h t) o s
+    opted_found None ts s found k = subst (λ z. Found (Some (opted ts (item ts))) (λ t. g t || h t) None z) k (none_found ts)
+    opted_found (Some x) ts s found k = some_found x ts s (found x k)
+
+-- a lexeme that says something, or nothing
+pub said_exact : {A : Type 0} (says : Lexeme → Option A) (o : Option A) (ts s : List Lexeme) → IsOptional (Begins says) o ts s → Stops (λ t. is_there (says t)) s
+    → opted ts (op_at says ts) ≡ (o, s)
+said_exact says o ts s h stop = opted_exact (op_at says) (Begins says) o ts s (λ x k. begins_read says x ts s k) (stops_op says s stop) h
+
+-- there is always an answer where nothing may be derived of no lexemes
+pub always_given : {A : Type 0} (res : Option (A × List Lexeme)) (g : Lexeme → Bool) (y : A) (ts : List Lexeme) → Found res g y ts
+    → (z : A × List Lexeme) × (res ≡ Some z) × (length z.1 ≤ length ts)
+always_given res g y ts (exact e) = ((y, ts), e, omega arith)
+always_given res g y ts (longer x r e l i) = ((x, r), e, omega arith)
+
 -- what a lexeme announces
 abbrev pub Led : {A : Type 0} → (Lexeme → Bool) → (A → List Lexeme → List Lexeme → Type 0) → A → List Lexeme → List Lexeme → Type 0
 Led test Q x ts r = (a : List Lexeme) × Passes test ts a × Q x a r
@@ -107,54 +170,39 @@ Led test Q x ts r = (a : List Lexeme) × Passes test ts a × Q x a r
 -- P is Q behind such a lexeme
 module _ {A : Type 0} (test : Lexeme → Bool) (item : Reader A) (P Q : A → List Lexeme → List Lexeme → Type 0)
     (back : (x : A) (ts r : List Lexeme) → Led test Q x ts r → P x ts r) (forth : (x : A) (ts r : List Lexeme) → P x ts r → Led test Q x ts r) where
-  led_item : (ts a : List Lexeme) → after test ts ≡ Some a → Sound Q item → (y : Option A) (r : List Lexeme) (o : Option (A × List Lexeme)) → item a ≡ o → ◌≡◌ {A = Option (Option A × List Lexeme)} (Some (opted ts o)) (Some (y, r)) → IsOptional P y ts r
-  led_item ts a p sound y r None q k = finish (λ y r. IsOptional P y ts r) None ts y r k refl
-  led_item ts a p sound y r (Some x) q k =
-      finish (λ y r. IsOptional P y ts r) (Some x.0) x.1 y r k (back x.0 ts x.1 (a, after_passes test ts a p, sound a x.0 x.1 q))
+  abbrev announced : Reader A
+  announced ts = after test ts >>= item
+
+  announced_is : (ts a : List Lexeme) → Passes test ts a → announced ts ≡ item a
+  announced_is ts a h = ap (λ (o : Option (List Lexeme)). o >>= item) (passes_after test ts a h)
+
+  announced_sound : Sound Q item → Sound P announced
+  announced_sound sound ts x r e = bind_then (after test ts) item (x, r) e (λ a p k. back x ts r (a, after_passes test ts a p, sound a x r k))
 
   pub led_sound : Sound Q item → Sound (IsOptional P) (led test item)
-  led_sound sound ts y r e = go (after test ts) refl e
-    where
-      go : (o : Option (List Lexeme)) → after test ts ≡ o → ◌≡◌ {A = Option (Option A × List Lexeme)} (Some (opted ts (o >>= item))) (Some (y, r)) → IsOptional P y ts r
-      go None p k = finish (λ y r. IsOptional P y ts r) None ts y r k refl
-      go (Some a) p k = led_item ts a p sound y r (item a) refl k
-
-  led_none : (ts : List Lexeme) → Stops test ts → led test item ts ≡ Some (None, ts)
-  led_none ts stop = ap (λ (o : Option (List Lexeme)). Some (opted ts (o >>= item))) (stops_after test ts stop)
+  led_sound sound ts y r e = finish (λ y r. IsOptional P y ts r) (opted ts (announced ts)).0 (opted ts (announced ts)).1 y r e (opted_sound announced P (announced_sound sound) ts)
 
   pub led_exact : (o : Option A) (ts s : List Lexeme) → ((x : A) (a : List Lexeme) → Q x a s → item a ≡ Some (x, s)) → IsOptional P o ts s → Stops test s
       → led test item ts ≡ Some (o, s)
-  led_exact None ts s reads h stop = subst (λ z. led test item z ≡ Some (None, s)) (sym h) (led_none s stop)
-  led_exact (Some x) ts s reads h stop =
-      let k = forth x ts s h in
-      ap (λ (o : Option (List Lexeme)). Some (opted ts (o >>= item))) (passes_after test ts k.0 k.1) ∙ ap (λ (o : Option (A × List Lexeme)). Some (opted ts o)) (reads x k.0 k.2)
+  led_exact o ts s reads h stop =
+      ap Some
+      (opted_exact announced P o ts s (λ x k. let l = forth x ts s k in announced_is ts l.0 l.1 ∙ reads x l.0 l.2)
+      (ap (λ (o : Option (List Lexeme)). o >>= item) (stops_after test s stop)) h)
+
+  announced_goes : (ts : List Lexeme) (x : A) (r : List Lexeme) → announced ts ≡ Some (x, r) → Goes test ts
+  announced_goes ts x r e = bind_then (after test ts) item (x, r) e (λ a p k. passes_goes test ts a (after_passes test ts a p))
+
+  announced_shrinks : Shrinks item → Shrinks announced
+  announced_shrinks shrinks ts x r e =
+      bind_then (after test ts) item (x, r) e (λ a p k. omega (arith, shrinks a x r k, passes_shorter test ts a (after_passes test ts a p)))
 
   -- what is derived is read, or more is: behind a part that is there stands what its item goes on with, g, and behind one
   -- that is missing the lexeme that announces it
-  module _ (g : Lexeme → Bool) (shrinks : Shrinks item) where
-    none_found : (ts : List Lexeme) → Found (led test item ts) (λ t. g t || test t) None ts
-    none_found ts = go (after test ts) refl
-      where
-        here : (a : List Lexeme) → after test ts ≡ Some a → (o : Option (A × List Lexeme)) → item a ≡ o → Found (Some (opted ts o)) (λ t. g t || test t) None ts
-        here a p None q = exact refl
-        here a p (Some x) q =
-            let passes = after_passes test ts a p in
-            longer (Some x.0) x.1 refl (omega (arith, shrinks a x.0 x.1 q, passes_shorter test ts a passes)) (Goes-right g test ts (passes_goes test ts a passes))
-
-        go : (o : Option (List Lexeme)) → after test ts ≡ o → Found (Some (opted ts (o >>= item))) (λ t. g t || test t) None ts
-        go None p = exact refl
-        go (Some a) p = here a p (item a) refl
-
-    some_found : (x : A) (ts a s : List Lexeme) → after test ts ≡ Some a → Found (item a) g x s → Found (led test item ts) (λ t. g t || test t) (Some x) s
-    some_found x ts a s p (exact e) =
-        exact (ap (λ (o : Option (List Lexeme)). Some (opted ts (o >>= item))) p ∙ ap (λ (o : Option (A × List Lexeme)). Some (opted ts o)) e)
-    some_found x ts a s p (longer y r e l i) =
-        longer (Some y) r (ap (λ (o : Option (List Lexeme)). Some (opted ts (o >>= item))) p ∙ ap (λ (o : Option (A × List Lexeme)). Some (opted ts o)) e) l (Goes-left g test s i)
-
-    pub led_found : (o : Option A) (ts s : List Lexeme) → ((x : A) (a : List Lexeme) → Q x a s → Found (item a) g x s) → IsOptional P o ts s
-        → Found (led test item ts) (λ t. g t || test t) o s
-    led_found None ts s found h = subst (λ z. Found (led test item ts) (λ t. g t || test t) None z) h (none_found ts)
-    led_found (Some x) ts s found h = let k = forth x ts s h in some_found x ts k.0 s (passes_after test ts k.0 k.1) (found x k.0 k.2)
+  pub led_found : (g : Lexeme → Bool) → Shrinks item → (o : Option A) (ts s : List Lexeme) → ((x : A) (a : List Lexeme) → Q x a s → Found (item a) g x s) → IsOptional P o ts s
+      → Found (led test item ts) (λ t. g t || test t) o s
+  led_found g shrinks o ts s found h =
+      opted_found announced P g test (announced_shrinks shrinks) announced_goes o ts s
+      (λ x k. let l = forth x ts s k in subst (λ (z : Option (A × List Lexeme)). Found z g x s) (sym (announced_is ts l.0 l.1)) (found x l.0 l.2)) h
 
   pub led_stops : (g : Lexeme → Bool) → Apart test g → (o : Option A) (m s : List Lexeme) → IsOptional P o m s → Stops g s → Stops g m
   led_stops g apart o m s h stop = optional_stops P g o m s (λ x k. let l = forth x m s k in passes_stops test g apart m l.0 l.1) h stop

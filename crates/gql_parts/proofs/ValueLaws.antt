@@ -1,5 +1,5 @@
 -- Expressions and label expressions as parts of statements.
-use Rattle.std.proofs.Common.{◌≡◌, ◌<◌, List, [], ◌∷◌, ℕ, length, Some, None, refl, sym, ap, subst, ◌∙◌, arith}
+use Rattle.std.proofs.Common.{◌≡◌, ◌<◌, List, [], ◌∷◌, ℕ, length, Some, None, refl, ap, subst, arith}
 use Rattle.gql_lexer.specs.declared.lexeme.Lexeme.{Lexeme}
 use Rattle.gql_lexer.specs.declared.lexeme.Lexeme.TheVariants as lex
 use Rattle.gql_values3.specs.Datum.{Datum, data_of, items_of, Data, no_data, more_data, null, boolean, integer, text, list, node, edge, path}
@@ -20,7 +20,7 @@ use Rattle.gql_lexer.specs.SymbolPlaces.{star}
 use Rattle.gql_lexer.specs.WordPlaces.{ALL, DISTINCT, WHERE}
 use Rattle.gql_front.specs.Reading.{is_word, is_sign, sequence, prefix, suffix}
 use Rattle.gql_front.proofs.LexemeTests.{sign_is, word_is}
-use Rattle.gql_front.proofs.Found.{Found, exact, longer, Sound, exact_at}
+use Rattle.gql_front.proofs.Found.{Found, exact, longer, Sound, Shrinks, exact_at}
 use Rattle.gql_exprs.specs.Grammar.{Is}
 use Rattle.gql_exprs.specs.LabelGrammar.{IsLabel}
 use Rattle.gql_exprs.specs.Machinery.LabelReaders.{read_label}
@@ -32,7 +32,8 @@ use Rattle.gql_exprs.proofs.ExprShorter.{is_shorter}
 use Rattle.gql_exprs.proofs.LabelLevels.{goes_label, label_sound, label_complete, label_consumes}
 use Rattle.gql_parts.specs.Values.{IsValue, IsLabels}
 use Rattle.gql_parts.specs.Machinery.PartReaders.{read_value, read_labels}
-use Rattle.gql_parts.proofs.PartLaws.{Stops, bind_then, finish}
+use Rattle.gql_parts.proofs.PartLaws.{Stops}
+use Rattle.gql_parts.proofs.MeantLaws.{made_sound, made_is, made_found}
 
 -- Each tree is the meaning of an expression
 
@@ -77,20 +78,25 @@ tree_of-expr_of _ = refl
 
 pub value_sound : Sound IsValue read_value
 unfolding read_value
-value_sound ts e r h =
-    bind_then (read_expr ts) (λ x. Some (expr_of x.0, x.1)) (e, r) h
-    (λ x p k. finish (λ e r. IsValue e ts r) (expr_of x.0) x.1 e r k (subst (λ t. Is t ts x.1) (sym (tree_of-expr_of x.0)) (expr_sound ts x.0 x.1 p)))
+value_sound = made_sound read_expr tree_of expr_of Is expr_sound (λ t ts r d. tree_of-expr_of t)
 
 -- what a function of the code read
 pub value_is : (ts : List Lexeme) (e : Expr) (r : List Lexeme) → read_expr ts ≡ Some (tree_of e, r) → read_value ts ≡ Some (e, r)
 unfolding read_value
-value_is ts e r h = rw h refl ∙ ap (λ z. Some (z, r)) (expr_of-tree_of e)
+value_is = made_is read_expr tree_of expr_of expr_of-tree_of
+
+pub value_found : (e : Expr) (ts s : List Lexeme) → IsValue e ts s → Found (read_value ts) goes_or e s
+unfolding read_value
+value_found e ts s h = made_found read_expr tree_of expr_of expr_of-tree_of goes_or ts e s (expr_complete (length ts) (tree_of e) ts s (omega arith) h)
 
 pub value_exact : (e : Expr) (ts s : List Lexeme) → IsValue e ts s → Stops goes_or s → read_value ts ≡ Some (e, s)
-value_exact e ts s h stop = value_is ts e s (exact_at (read_expr ts) goes_or (tree_of e) s (expr_complete (length ts) (tree_of e) ts s (omega arith) h) stop)
+value_exact e ts s h stop = exact_at (read_value ts) goes_or e s (value_found e ts s h) stop
 
 pub value_shorter : (e : Expr) (ts r : List Lexeme) → IsValue e ts r → length r < length ts
 value_shorter e ts r h = is_shorter (tree_of e) ts r h
+
+pub value_shrinks : Shrinks read_value
+value_shrinks ts x r e = value_shorter x ts r (value_sound ts x r e)
 
 -- where nothing is read, no expression stands
 nothing_stands : (e : Expr) (ts r : List Lexeme) → read_expr ts ≡ None → IsValue e ts r → ⊥
@@ -119,17 +125,19 @@ value_begins e (t ∷ ts) r h = (
 
 pub labels_sound : Sound IsLabels read_labels
 unfolding read_labels
-labels_sound ts l r h =
-    bind_then (read_label ts) (λ x. Some (label_expr_of x.0, x.1)) (l, r) h
-    (λ x p k. finish (λ l r. IsLabels l ts r) (label_expr_of x.0) x.1 l r k (subst (λ t. IsLabel t ts x.1) (sym (label_of-label_expr_of x.0)) (label_sound ts x.0 x.1 p)))
+labels_sound = made_sound read_label label_of label_expr_of IsLabel label_sound (λ l ts r d. label_of-label_expr_of l)
 
 -- what a function of the code read
 pub labels_are : (ts : List Lexeme) (l : LabelExpr) (r : List Lexeme) → read_label ts ≡ Some (label_of l, r) → read_labels ts ≡ Some (l, r)
 unfolding read_labels
-labels_are ts l r h = rw h refl ∙ ap (λ z. Some (z, r)) (label_expr_of-label_of l)
+labels_are = made_is read_label label_of label_expr_of label_expr_of-label_of
 
-pub labels_exact : (l : LabelExpr) (ts s : List Lexeme) → IsLabels l ts s → Stops goes_label s → read_labels ts ≡ Some (l, s)
-labels_exact l ts s h stop = labels_are ts l s (exact_at (read_label ts) goes_label (label_of l) s (label_complete (length ts) (label_of l) ts s (omega arith) h) stop)
+pub labels_found : (l : LabelExpr) (ts s : List Lexeme) → IsLabels l ts s → Found (read_labels ts) goes_label l s
+unfolding read_labels
+labels_found l ts s h = made_found read_label label_of label_expr_of label_expr_of-label_of goes_label ts l s (label_complete (length ts) (label_of l) ts s (omega arith) h)
 
 pub labels_shorter : (l : LabelExpr) (ts r : List Lexeme) → IsLabels l ts r → length r < length ts
 labels_shorter l ts r h = label_consumes (label_of l) ts r h
+
+pub labels_shrink : Shrinks read_labels
+labels_shrink ts x r e = labels_shorter x ts r (labels_sound ts x r e)

@@ -3,7 +3,7 @@
 --   Where  = WHERE Expr
 --   Filler = [Name] [(":" or IS) LabelExpr] [Map; Where]
 --   Map    = "{" [list(a name or a reserved word ":" Expr)] "}"
-use Rattle.std.specs.Prelude.{◌≡◌, List, [], ◌∷◌}
+use Rattle.std.specs.Prelude.{List}
 use Rattle.gql_lexer.specs.declared.lexeme.Lexeme.{Lexeme}
 use Rattle.gql_ast.specs.declared.expr.Expr.{Expr}
 use Rattle.gql_ast.specs.declared.label.LabelExpr.{LabelExpr}
@@ -15,7 +15,7 @@ use Rattle.gql_lexer.specs.SymbolPlaces.{opening_brace, closing_brace, colon}
 use Rattle.gql_lexer.specs.WordPlaces.{WHERE}
 use Rattle.gql_front.specs.Tables.{Begins}
 use Rattle.gql_front.specs.Reading.{is_sign, is_word, name_in, any_name_in}
-use Rattle.gql_parts.specs.Parts.{Passes, IsOptional, IsListOf}
+use Rattle.gql_parts.specs.Parts.{Passes, IsOptional, MayList}
 use Rattle.gql_parts.specs.Values.{IsValue, IsLabels}
 use Rattle.gql_parts.specs.PartWords.{is_colon}
 
@@ -29,8 +29,7 @@ IsMapItem i ts r = (a : List Lexeme) × Begins any_name_in i.name ts a × (b : L
 
 -- [list(Any ":" Expr)]
 abbrev pub AreMapItems : List MapItem → List Lexeme → List Lexeme → Type 0
-AreMapItems [] ts r = ts ≡ r
-AreMapItems (i ∷ is) ts r = IsListOf IsMapItem (i ∷ is) ts r
+AreMapItems = MayList IsMapItem
 
 -- "{" and "}", and between them any number of map items, with commas between those
 abbrev pub IsMap : List MapItem → List Lexeme → List Lexeme → Type 0

@@ -26,3 +26,8 @@ AreOthers P (x ∷ xs) ts r = (a : List Lexeme) × Passes (is_sign comma) ts a �
 abbrev pub IsListOf : {A : Type 0} → (A → List Lexeme → List Lexeme → Type 0) → List A → List Lexeme → List Lexeme → Type 0
 IsListOf P [] ts r = ⊥
 IsListOf P (x ∷ xs) ts r = (m : List Lexeme) × P x ts m × AreOthers P xs m r
+
+-- [P {"," P}*]
+abbrev pub MayList : {A : Type 0} → (A → List Lexeme → List Lexeme → Type 0) → List A → List Lexeme → List Lexeme → Type 0
+MayList P [] ts r = ts ≡ r
+MayList P (x ∷ xs) ts r = IsListOf P (x ∷ xs) ts r

@@ -4,14 +4,15 @@ ghost use Rattle.gql_front.specs.Reads.{Reads, MayRead, GoesPast};
 ghost use Rattle.gql_parts.specs.PartWords.{is_colon};
 ghost use Rattle.gql_parts.specs.Machinery.FillerReaders.{where_of, condition_of, variable_of, filler_labels_of, filler_of};
 
-use crate::item::{Item, item_behind_word, item_or_nothing, list};
+use crate::braces::list_to_brace;
+use crate::item::{Item, item_behind_word, item_or_nothing};
 use crate::values::{Parts, value};
 use gql_ast::{Condition, Expr, Filler, LabelExpr, Map, MapItem};
 use gql_front::{NoFront, ParseResult, after_sign, any_name, plain_name};
 use gql_lexer::Lexeme;
-use gql_lexer::symbols::{CLOSING_BRACE, COLON, OPENING_BRACE};
+use gql_lexer::symbols::{COLON, OPENING_BRACE};
 use gql_lexer::words::{IS, WHERE};
-use gql_values3::{Sequence, Text};
+use gql_values3::Text;
 use std::alloc::Global;
 
 impl Item<Parts> for MapItem {
@@ -35,14 +36,9 @@ impl Item<Parts> for Map {
 
     ghost reader = { map_of };
 
-    #[tactic(auto, unfolding(crate::specs::Machinery::FillerReaders::map_of, crate::specs::Machinery::FillerReaders::map_items_of))]
+    #[tactic(auto, unfolding(crate::specs::Machinery::FillerReaders::map_of))]
     fn read<'a>(alloc: Global, rest: &'a [Lexeme]) -> ParseResult<'a, Map> {
-        if let Ok(behind) = after_sign(CLOSING_BRACE, rest) {
-            return Ok((Sequence::new(alloc), behind));
-        }
-        let (items, rest) = list::<Parts, MapItem>(alloc, rest)?;
-        let rest = after_sign(CLOSING_BRACE, rest)?;
-        Ok((items, rest))
+        list_to_brace::<Parts, MapItem>(alloc, rest)
     }
 }
 

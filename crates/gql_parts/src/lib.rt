@@ -5,12 +5,14 @@
 //! go on is left.
 #![tactic(auto)]
 
+mod braces;
 mod fillers;
 mod item;
 mod laws;
 mod repeated;
 mod values;
 
+pub use braces::list_to_brace;
 pub use fillers::{after_colon, filler, variable, where_value};
 pub use item::{Item, item_behind_word, item_or_nothing, list};
 pub use laws::the_longest_part_is_read;

@@ -16,11 +16,11 @@ use Rattle.gql_parts.specs.Parts.{Passes}
 use Rattle.gql_parts.specs.Machinery.FillerReaders.{filler_of}
 use Rattle.gql_parts.proofs.PartLaws.{bind_then, finish, passes_after, after_passes, passes_goes, passes_shorter}
 use Rattle.gql_parts.proofs.FillerLaws.{filler_sound, filler_shorter}
+use Rattle.gql_parts.proofs.LongestLaws.{filler_exact}
 use Rattle.gql_patterns.specs.EdgeGrammar.{empty_filler, IsFullEdge, IsShortEdge, IsEdge}
 use Rattle.gql_patterns.specs.PatternWords.{symbol_before, symbol_behind, short_symbol}
 use Rattle.gql_patterns.specs.Machinery.EdgeReaders.{sign_place, short_edges, short_edge, behind_left_arrow, behind_tilde, behind_minus, behind_left_tilde, full_edges, behind_in, direction_between, full_edge_of, short_edge_of, edge_of}
 use Rattle.gql_patterns.proofs.SignSets.{sign_whole, sign_goes}
-use Rattle.gql_patterns.proofs.FillingLaws.{bracketed_exact}
 
 -- The symbol at the front
 
@@ -147,7 +147,7 @@ full_exact d f ts s h =
     rw (
       place_read (symbol_before d) ts h.0 h.1,
       passes_after (is_sign opening_bracket) h.0 h.2 h.3,
-      bracketed_exact h.5.0 h.2 h.4 h.6 h.5.2 h.7,
+      filler_exact closing_bracket refl h.5.0 h.2 h.4 h.6 h.5.2 h.7,
       passes_after (is_sign closing_bracket) h.4 h.6 h.7,
       place_read (symbol_behind d) h.6 s h.8,
       between d,

@@ -3,49 +3,30 @@ use Rattle.std.proofs.Common.{◌≡◌, ◌≤◌, Bool, true, false, ◌||◌,
 use Rattle.gql_lexer.specs.declared.lexeme.Lexeme.{Lexeme}
 use Rattle.gql_lexer.specs.SymbolPlaces.{comma}
 use Rattle.gql_lexer.specs.WordPlaces.{WHERE}
-use Rattle.gql_ast.specs.Meaning.{tree_of, expr_of}
 use Rattle.gql_ast.specs.declared.expr.Expr.{Expr}
 use Rattle.gql_ast.specs.declared.path.GraphPattern.{GraphPattern}
 use Rattle.gql_ast.specs.declared.path.PathPattern.{PathPattern}
 use Rattle.gql_front.specs.Longest.{Longest}
 use Rattle.gql_front.specs.Reading.{is_sign, is_word, step}
 use Rattle.gql_front.proofs.Agree.{is_longest}
-use Rattle.gql_front.proofs.Found.{Goes, Goes-left, Goes-right, Found, exact, longer, Sound, Shrinks, exact_at, some_is, is_there, StepIs, step_goes, step_sound, step_complete}
+use Rattle.gql_front.proofs.Found.{Goes, Goes-left, Goes-right, Found, exact, longer, Sound, exact_at, some_is, is_there, StepIs, step_goes, step_sound, step_complete}
 use Rattle.gql_front.proofs.LexemeTests.{cond_some_is, sign_is}
-use Rattle.gql_front.proofs.Chains.{Many, operators_apart, sequence_found}
+use Rattle.gql_front.proofs.Chains.{operators_apart, sequence_found}
 use Rattle.gql_exprs.specs.Machinery.LeafReaders.{comma_op}
-use Rattle.gql_exprs.specs.Machinery.Readers.{read_expr}
-use Rattle.gql_exprs.proofs.ExprLists.{goes_or}
-use Rattle.gql_exprs.proofs.ExprRead.{expr_complete}
 use Rattle.gql_parts.specs.Parts.{IsOptional, AreOthers, IsListOf}
-use Rattle.gql_parts.specs.Values.{IsValue}
 use Rattle.gql_parts.specs.FillerGrammar.{IsWhere}
-use Rattle.gql_parts.specs.Machinery.PartReaders.{taken, listed, read_value}
+use Rattle.gql_parts.specs.Machinery.PartReaders.{taken, listed}
 use Rattle.gql_parts.specs.Machinery.FillerReaders.{where_of}
-use Rattle.gql_parts.proofs.PartLaws.{Stops, bind_then, finish, word_apart, passes_stops, led_found}
-use Rattle.gql_parts.proofs.ListLaws.{listed_sound}
-use Rattle.gql_parts.proofs.ValueLaws.{value_sound, value_is, value_shorter}
+use Rattle.gql_parts.proofs.PartLaws.{Stops, bind_then, finish, word_apart, passes_stops, always_given}
+use Rattle.gql_parts.proofs.ListLaws.{others_are, listed_sound}
 use Rattle.gql_parts.proofs.FillerLaws.{where_sound}
+use Rattle.gql_parts.proofs.LongestLaws.{goes_where, where_found}
 use Rattle.gql_patterns.specs.PatternGrammar.{IsPathPattern, IsGraphPattern, Derives}
 use Rattle.gql_patterns.specs.Machinery.PatternReaders.{path_pattern_of, graph_pattern_of}
 use Rattle.gql_patterns.proofs.PathStarts.{goes_path}
 use Rattle.gql_patterns.proofs.PatternLaws.{path_pattern_sound, path_pattern_found, path_pattern_shorter}
 
 -- Lists
-
-abbrev Further : PathPattern → List Lexeme → List Lexeme → Type 0
-Further = StepIs comma_op IsPathPattern taken
-
-further_are : Many Further (AreOthers IsPathPattern)
-further_are = record { none = λ r. refl; is_none = λ ts r h. h; more = more; is_more = is_more }
-  where
-    more : (c : PathPattern) (cs : List PathPattern) (ts m r : List Lexeme) → Further c ts m → AreOthers IsPathPattern cs m r → AreOthers IsPathPattern (c ∷ cs) ts r
-    more c cs ts m r h l =
-        (h.behind, (h.token, (cond_some_is (is_sign comma h.token) tt h.operator h.is_operator).0, h.whole), m, subst (λ z. IsPathPattern z h.behind m) h.made h.derived, l)
-
-    is_more : (c : PathPattern) (cs : List PathPattern) (ts r : List Lexeme) → AreOthers IsPathPattern (c ∷ cs) ts r → (m : List Lexeme) × Further c ts m × AreOthers IsPathPattern cs m r
-    is_more c cs ts r h =
-        (h.2, record { token = h.1.0; behind = h.0; operator = tt; item = c; made = refl; is_operator = rw h.1.1 refl; whole = h.1.2; derived = h.3 }, h.4)
 
 no_comma : (t : Lexeme) (o : Unit {0}) → comma_op t ≡ Some o → goes_path t ≡ true → ⊥
 no_comma t o e h = let q = ap goes_path (sign_is comma t (cond_some_is (is_sign comma t) tt o e).0) in cc
@@ -57,7 +38,7 @@ goes_list t = goes_path t || is_there (comma_op t)
 list_found : (ps : List PathPattern) (ts s : List Lexeme) → IsListOf IsPathPattern ps ts s → Found (listed path_pattern_of ts) goes_list ps s
 list_found [] ts s h = absurd h
 list_found (p ∷ ps) ts s h =
-    sequence_found path_pattern_of (step comma_op path_pattern_of taken) (λ x xs. x ∷ xs) IsPathPattern Further (AreOthers IsPathPattern) further_are
+    sequence_found path_pattern_of (step comma_op path_pattern_of taken) (λ x xs. x ∷ xs) IsPathPattern (StepIs comma_op IsPathPattern taken) (AreOthers IsPathPattern) (others_are path_pattern_of IsPathPattern)
     path_pattern_sound (step_sound comma_op path_pattern_of taken IsPathPattern path_pattern_sound) path_pattern_shorter
     (λ c ts r k. omega (arith, ap length k.whole, path_pattern_shorter k.item k.behind r k.derived)) (length ts) goes_path (λ t. is_there (comma_op t))
     (λ y ts s le k. path_pattern_found y ts s k) (step_complete comma_op path_pattern_of taken (length ts) IsPathPattern goes_path (λ y ts s le k. path_pattern_found y ts s k))
@@ -65,31 +46,8 @@ list_found (p ∷ ps) ts s h =
 
 -- WHERE
 
-value_found : (e : Expr) (ts s : List Lexeme) → IsValue e ts s → Found (read_value ts) goes_or e s
-unfolding read_value
-value_found e ts s h = go (expr_complete (length ts) (tree_of e) ts s (omega arith) h)
-  where
-    go : Found (read_expr ts) goes_or (tree_of e) s → Found (read_value ts) goes_or e s
-    go (exact q) = exact (value_is ts e s q)
-    go (longer x r q l i) = longer (expr_of x) r (rw q refl) l i
-
-value_shrinks : Shrinks read_value
-value_shrinks ts x r e = value_shorter x ts r (value_sound ts x r e)
-
-abbrev pub goes_where : Lexeme → Bool
-goes_where t = goes_or t || is_word WHERE t
-
-where_found : (e : Option Expr) (ts s : List Lexeme) → IsOptional IsWhere e ts s → Found (where_of ts) goes_where e s
-unfolding where_of
-where_found e ts s h = led_found (is_word WHERE) read_value IsWhere IsValue (λ x ts r h. h) (λ x ts r h. h) goes_or value_shrinks e ts s (λ x a k. value_found x a s k) h
-
--- there is always an answer
 where_given : (ts : List Lexeme) → (y : Option Expr × List Lexeme) × (where_of ts ≡ Some y) × (length y.1 ≤ length ts)
-where_given ts = go (where_found None ts ts refl)
-  where
-    go : Found (where_of ts) goes_where None ts → (y : Option Expr × List Lexeme) × (where_of ts ≡ Some y) × (length y.1 ≤ length ts)
-    go (exact e) = ((None, ts), e, omega arith)
-    go (longer x r e l i) = ((x, r), e, omega arith)
+where_given ts = always_given (where_of ts) goes_where None ts (where_found None ts ts refl)
 
 -- a list goes on with no WHERE
 no_where : (c : Option Expr) (m s : List Lexeme) → IsOptional IsWhere c m s → Goes goes_list m → m ≡ s

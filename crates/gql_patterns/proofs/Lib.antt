@@ -1,5 +1,4 @@
 pub mod SignSets
-pub mod MaybeLaws
 pub mod FillingLaws
 pub mod EdgeLaws
 pub mod QuantifierLaws

@@ -6,7 +6,7 @@ use Rattle.gql_lexer.specs.SymbolPlaces.{bar, multiset_bar}
 use Rattle.gql_ast.specs.Pattern.{Pattern, Patterns, patterns_of, items_of_patterns, node, edge, paren, repeated, optional, sequence, alternation, multiset_alternation, no_patterns, more_patterns}
 use Rattle.gql_front.specs.Longest.{Longest}
 use Rattle.gql_front.specs.Reading as reading
-use Rattle.gql_front.specs.Reading.{◌>>=◌, Reader, is_sign, step, one_or}
+use Rattle.gql_front.specs.Reading.{Reader, is_sign, one_or}
 use Rattle.gql_front.proofs.Agree.{agree, is_longest}
 use Rattle.gql_front.proofs.Found.{Goes, Found, exact, longer, Sound, Complete, exact_at, is_there, StepIs, step_goes, step_sound, step_complete}
 use Rattle.gql_front.proofs.LexemeTests.{cond_some_is}

@@ -13,14 +13,14 @@ use Rattle.gql_ast.specs.Pattern.{Pattern, Patterns, patterns_of, items_of_patte
 use Rattle.gql_ast.specs.declared.mode.Mode.{Mode}
 use Rattle.gql_ast.specs.declared.pattern.Direction.{Direction}
 use Rattle.gql_ast.specs.declared.pattern.Direction.TheVariants as direction
-use Rattle.gql_front.specs.Reading.{Reader, is_sign, is_word, after, chosen, either}
+use Rattle.gql_front.specs.Reading.{Reader, is_sign, after, chosen, either}
 use Rattle.gql_front.proofs.Found.{Goes, Found, exact, Sound, Complete, exact_at, SuffixRead, suffix_some, suffix_none, suffix_split}
 use Rattle.gql_front.proofs.Chains.{Consumes}
-use Rattle.gql_exprs.proofs.ExprLists.{goes_or}
 use Rattle.gql_parts.specs.Parts.{Passes, IsOptional}
 use Rattle.gql_parts.specs.Machinery.FillerReaders.{where_of, filler_of}
 use Rattle.gql_parts.proofs.PartLaws.{Stops, nothing, bind_then, finish, passes_after, after_passes, stops_after, word_apart, sign_apart, passes_stops}
-use Rattle.gql_parts.proofs.FillerLaws.{where_sound, where_exact, filler_sound, filler_exact}
+use Rattle.gql_parts.proofs.FillerLaws.{where_sound, filler_sound}
+use Rattle.gql_parts.proofs.LongestLaws.{goes_where, where_found, filler_exact}
 use Rattle.gql_patterns.specs.PatternWords.{symbol_before, short_symbol}
 use Rattle.gql_patterns.specs.EdgeGrammar.{IsEdge}
 use Rattle.gql_patterns.specs.PrefixGrammar.{IsMode}
@@ -76,7 +76,7 @@ node_sound ts x r e =
 node_exact : (f : FillerTree) (ts s : List Lexeme) → IsNode f ts s → node_pattern_of ts ≡ Some (node f, s)
 unfolding node_pattern_of
 node_exact f ts s h =
-    rw (filler_exact h.1.0 ts h.0 s h.1.2 h.2, passes_after (is_sign closing) h.0 s h.2) (ap (λ (z : FillerTree). Some (node z, s)) h.1.1)
+    rw (filler_exact closing refl h.1.0 ts h.0 s h.1.2 h.2, passes_after (is_sign closing) h.0 s h.2) (ap (λ (z : FillerTree). Some (node z, s)) h.1.1)
 
 -- what begins with a mode or a path pattern is no node
 no_node : (ts : List Lexeme) → Goes begins_part ts → node_pattern_of ts ≡ None
@@ -146,7 +146,7 @@ module _ (n : ℕ) (f : Reader Pattern) (inner : Inner n f) where
       let stop = hold_stops goes_path (word_apart WHERE goes_path (λ x. refl)) c d e hold (ends goes_path refl) in
       rw (
         exact_at (f b) goes_path x d (inner.complete x b d le path) stop,
-        where_exact hold.0 d e hold.2 (ends (is_word WHERE) refl) (ends goes_or refl),
+        exact_at (where_of d) goes_where hold.0 e (where_found hold.0 d e hold.2) (ends goes_where refl),
         passes_after (is_sign closing) e s close,
       ) (ap (λ (z : Option Tree). Some (paren m x z, s)) hold.1)
 

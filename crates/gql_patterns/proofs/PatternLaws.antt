@@ -1,5 +1,5 @@
 -- The laws of path patterns, of lists of them, and of graph patterns.
-use Rattle.std.proofs.Common.{◌≡◌, ◌<◌, ◌≤◌, inl, inr, Bool, true, false, ℕ, List, length, Option, Some, None, refl, sym, ap, subst, ◌∙◌, arith}
+use Rattle.std.proofs.Common.{◌≡◌, ◌<◌, ◌≤◌, inl, inr, Bool, true, false, ℕ, List, length, Option, Some, None, refl, sym, ap, subst, arith}
 use Rattle.gql_lexer.specs.declared.lexeme.Lexeme.{Lexeme}
 use Rattle.gql_lexer.specs.declared.lexeme.Lexeme.TheVariants as lex
 use Rattle.gql_lexer.specs.SymbolPlaces.{equal}
@@ -11,11 +11,12 @@ use Rattle.gql_ast.specs.declared.pattern.PathExpr.{PathExpr}
 use Rattle.gql_ast.specs.declared.pattern.PathExpr.TheVariants as path
 use Rattle.gql_ast.specs.declared.path.PathPattern.{PathPattern}
 use Rattle.gql_ast.specs.declared.path.Prefix.{Prefix}
-use Rattle.gql_front.specs.Reading.{is_sign, name_in, after, op_at, maybe, opted}
+use Rattle.gql_front.specs.Reading.{is_sign, name_in, after, op_at, maybe}
 use Rattle.gql_front.proofs.Found.{Found, exact, longer, Sound, is_there}
 use Rattle.gql_front.proofs.TableLemmas.{begins_read, read_begins, begins_shorter}
 use Rattle.gql_parts.specs.Parts.{IsOptional}
-use Rattle.gql_parts.proofs.PartLaws.{Stops, bind_then, finish, passes_after, after_passes, passes_shorter, stops_op, optional_stops, optional_shorter, begins_stops}
+use Rattle.gql_parts.proofs.PartLaws.{Stops, bind_then, finish, passes_after, after_passes, passes_shorter, stops_op, optional_stops, optional_shorter, begins_stops, maybe_sound, opted_exact}
+use Rattle.gql_parts.proofs.MeantLaws.{made_sound, made_is, made_found}
 use Rattle.gql_parts.proofs.FillerLaws.{is_name}
 use Rattle.gql_patterns.specs.PatternWords.{is_path_word, is_group_word, prefix_word}
 use Rattle.gql_patterns.specs.PrefixGrammar.{IsPrefix}
@@ -55,23 +56,16 @@ meant x w = subst (λ z. pattern_of (path_expr_of z) ≡ z) w.1 (ap pattern_of (
 
 path_expr_sound : Sound IsPathExpr read_path_expr
 unfolding read_path_expr
-path_expr_sound ts e r h =
-    bind_then (read_path ts) (λ x. Some (path_expr_of x.0, x.1)) (e, r) h (λ x p k.
-    let d = path_is_sound ts x.0 x.1 p in
-    finish (λ e r. IsPathExpr e ts r) (path_expr_of x.0) x.1 e r k (subst (λ t. IsPath t ts x.1) (sym (meant x.0 (written x.0 ts x.1 d))) d))
+path_expr_sound = made_sound read_path pattern_of path_expr_of IsPath path_is_sound (λ x ts r d. meant x (written x ts r d))
 
 -- what a function of the code read
 pub path_expr_is : (ts : List Lexeme) (e : PathExpr) (r : List Lexeme) → read_path ts ≡ Some (pattern_of e, r) → read_path_expr ts ≡ Some (e, r)
 unfolding read_path_expr
-path_expr_is ts e r h = rw h refl ∙ ap (λ z. Some (z, r)) (path_expr_of-pattern_of e)
+path_expr_is = made_is read_path pattern_of path_expr_of path_expr_of-pattern_of
 
 path_expr_found : (e : PathExpr) (ts s : List Lexeme) → IsPathExpr e ts s → Found (read_path_expr ts) goes_path e s
 unfolding read_path_expr
-path_expr_found e ts s h = go (path_is_found (length ts) (pattern_of e) ts s (omega arith) h)
-  where
-    go : Found (read_path ts) goes_path (pattern_of e) s → Found (read_path_expr ts) goes_path e s
-    go (exact q) = exact (path_expr_is ts e s q)
-    go (longer x r q l i) = longer (path_expr_of x) r (rw q refl) l i
+path_expr_found e ts s h = made_found read_path pattern_of path_expr_of path_expr_of-pattern_of goes_path ts e s (path_is_found (length ts) (pattern_of e) ts s (omega arith) h)
 
 -- what begins a path pattern expression: no name, no prefix, and nothing with which a prefix may go on
 
@@ -92,25 +86,6 @@ no_prefix e ts r h = before_path begins_prefix (among_apart path_signs begins_pr
 
 no_name : (e : PathExpr) (ts r : List Lexeme) → IsPathExpr e ts r → Stops is_name ts
 no_name e ts r h = before_path is_name (among_apart path_signs is_name refl) (pattern_of e) ts r h
-
--- An item that may be missing
-
-module _ {A : Type 0} (item : List Lexeme → Option (A × List Lexeme)) (P : A → List Lexeme → List Lexeme → Type 0) where
-  maybe_sound : Sound P item → Sound (IsOptional P) (maybe item)
-  unfolding maybe
-  maybe_sound sound ts x r e = go (item ts) refl e
-    where
-      go : (o : Option (A × List Lexeme)) → item ts ≡ o → ◌≡◌ {A = Option (Option A × List Lexeme)} (Some (opted ts o)) (Some (x, r)) → IsOptional P x ts r
-      go None p k = finish (λ x r. IsOptional P x ts r) None ts x r k refl
-      go (Some y) p k = finish (λ x r. IsOptional P x ts r) (Some y.0) y.1 x r k (sound ts y.0 y.1 p)
-
-  maybe_none : (ts s : List Lexeme) → ts ≡ s → item s ≡ None → maybe item ts ≡ Some (None, s)
-  unfolding maybe
-  maybe_none ts s h e = subst (λ z. Some (opted z (item z)) ≡ Some (None, s)) (sym h) (ap (λ o. Some (opted s o)) e)
-
-  maybe_some : (x : A) (ts s : List Lexeme) → item ts ≡ Some (x, s) → maybe item ts ≡ Some (Some x, s)
-  unfolding maybe
-  maybe_some x ts s e = ap (λ o. Some (opted ts o)) e
 
 -- Names
 
@@ -148,8 +123,9 @@ unfolding prefix_of
 prefix_missing ts stop = rw (stops_op prefix_word ts stop) refl
 
 prefix_read : (f : Option Prefix) (e : PathExpr) (ts b s : List Lexeme) → IsOptional IsPrefix f ts b → IsPathExpr e b s → maybe prefix_of ts ≡ Some (f, b)
-prefix_read None e ts b s h k = maybe_none prefix_of IsPrefix ts b h (prefix_missing b (no_prefix e b s k))
-prefix_read (Some f) e ts b s h k = maybe_some prefix_of IsPrefix f ts b (prefix_exact f ts b h (ends e b s k))
+unfolding maybe
+prefix_read f e ts b s h k =
+    ap Some (opted_exact prefix_of IsPrefix f ts b (λ x p. prefix_exact x ts b p (ends e b s k)) (prefix_missing b (no_prefix e b s k)) h)
 
 -- a prefix begins with a reserved word
 prefix_no_name : (f : Option Prefix) (e : PathExpr) (ts b s : List Lexeme) → IsOptional IsPrefix f ts b → IsPathExpr e b s → Stops is_name ts
@@ -165,8 +141,8 @@ prefix_no_name f e ts b s h k =
     word_no_name (lex.Param x) w e i = absurd cc
 
 name_read : (n : Option (List ℕ)) (ts a : List Lexeme) → IsOptional IsPathName n ts a → Stops is_name a → maybe path_name_of ts ≡ Some (n, a)
-name_read None ts a h stop = maybe_none path_name_of IsPathName ts a h (no_path_name a stop)
-name_read (Some n) ts a h stop = maybe_some path_name_of IsPathName n ts a (path_name_exact n ts a h)
+unfolding maybe
+name_read n ts a h stop = ap Some (opted_exact path_name_of IsPathName n ts a (λ x k. path_name_exact x ts a k) (no_path_name a stop) h)
 
 pub path_pattern_found : (p : PathPattern) (ts s : List Lexeme) → IsPathPattern p ts s → Found (path_pattern_of ts) goes_path p s
 unfolding path_pattern_of

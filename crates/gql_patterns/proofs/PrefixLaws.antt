@@ -1,5 +1,5 @@
 -- The laws of modes and prefixes.
-use Rattle.std.proofs.Common.{◌≡◌, ◌<◌, ◌≤◌, Bool, true, false, ◌||◌, ℕ, List, length, Option, Some, None, refl, sym, ap, subst, ◌∙◌, arith}
+use Rattle.std.proofs.Common.{◌≡◌, ◌<◌, ◌≤◌, Bool, true, false, ◌||◌, ℕ, List, length, Option, Some, None, refl, ap, ◌∙◌, arith}
 use Rattle.gql_lexer.specs.declared.lexeme.Lexeme.{Lexeme}
 use Rattle.gql_lexer.specs.declared.lexeme.Lexeme.TheVariants as lex
 use Rattle.gql_lexer.specs.WordPlaces.{SHORTEST, GROUP, GROUPS, PATH, PATHS}
@@ -11,14 +11,13 @@ use Rattle.gql_front.specs.Reading.{is_word, after, op_at, opted}
 use Rattle.gql_front.proofs.Found.{Sound, is_there}
 use Rattle.gql_front.proofs.TableLemmas.{word_row, begins_read, read_begins, begins_shorter}
 use Rattle.gql_parts.specs.Parts.{Passes, IsOptional}
-use Rattle.gql_parts.proofs.PartLaws.{Stops, Apart, bind_then, finish, passes_after, after_passes, passes_shorter, may_pass_shorter, stops_after, stops_op, word_apart, passes_stops, begins_stops, optional_stops, optional_shorter, past_sound, past_exact}
+use Rattle.gql_parts.proofs.PartLaws.{Stops, Apart, bind_then, finish, passes_after, after_passes, passes_shorter, may_pass_shorter, stops_after, stops_op, word_apart, passes_stops, begins_stops, optional_stops, optional_shorter, past_sound, past_exact, may_pass_stops, either_apart, opted_sound, opted_exact, said_exact}
 use Rattle.gql_patterns.specs.PatternWords.{number_in, mode_words, mode_word, is_path_word, is_group_word, prefix_word}
 use Rattle.gql_patterns.specs.PrefixGrammar.{IsMode, MayHaveMode, IsPrefix}
 use Rattle.gql_patterns.specs.Machinery.QuantifierReaders.{number_of}
 use Rattle.gql_patterns.specs.Machinery.PrefixReaders.{past_path_word, mode_of, part_mode_of, without_path_word, mode_behind, with_mode, all_or_shortest, all_of, any_or_shortest, any_of, shortest_or_groups, shortest_of, prefix_behind, prefix_of}
 use Rattle.gql_patterns.specs.declared.prefix_word.PrefixWord.{PrefixWord}
 use Rattle.gql_patterns.specs.declared.prefix_word.PrefixWord.TheVariants as says
-use Rattle.gql_patterns.proofs.MaybeLaws.{opted_sound, opted_exact, may_pass_stops}
 use Rattle.gql_patterns.proofs.QuantifierLaws.{is_number, IsNumber, number_sound, number_exact}
 
 abbrev pub is_mode : Lexeme → Bool
@@ -26,11 +25,7 @@ is_mode t = is_there (mode_word t)
 
 -- one of two words is in no set in which neither is
 two_words_apart : (v w : ℕ) (g : Lexeme → Bool) → ((x : List ℕ) → g (lex.Word v x) ≡ false) → ((x : List ℕ) → g (lex.Word w x) ≡ false) → Apart (λ t. is_word v t || is_word w t) g
-two_words_apart v w g first second t p h = go (is_word v t) refl p
-  where
-    go : (b : Bool) → is_word v t ≡ b → (b || is_word w t) ≡ true → ⊥
-    go true e q = word_apart v g first t e h
-    go false e q = word_apart w g second t q h
+two_words_apart v w g first second = either_apart (is_word v) (is_word w) g (word_apart v g first) (word_apart w g second)
 
 path_word_apart : (g : Lexeme → Bool) → ((x : List ℕ) → g (lex.Word PATH x) ≡ false) → ((x : List ℕ) → g (lex.Word PATHS x) ≡ false) → Apart is_path_word g
 path_word_apart = two_words_apart PATH PATHS
@@ -56,19 +51,14 @@ mode_missing ts e = rw e refl
 
 pub part_mode_sound : (ts : List Lexeme) → IsOptional IsMode (part_mode_of ts).0 ts (part_mode_of ts).1
 unfolding part_mode_of
-part_mode_sound ts = go (mode_of ts) refl
-  where
-    go : (o : Option (Mode × List Lexeme)) → mode_of ts ≡ o → IsOptional IsMode (opted ts o).0 ts (opted ts o).1
-    go None e = refl
-    go (Some x) e = mode_sound ts x.0 x.1 e
+part_mode_sound = opted_sound mode_of IsMode mode_sound
 
 no_mode_at : (s : List Lexeme) → Stops is_mode s → mode_of s ≡ None
 no_mode_at s stop = mode_missing s (stops_op mode_word s stop)
 
 pub part_mode_exact : (m : Option Mode) (ts s : List Lexeme) → IsOptional IsMode m ts s → Stops is_mode s → Stops is_path_word s → part_mode_of ts ≡ (m, s)
 unfolding part_mode_of
-part_mode_exact None ts s h mode path = subst (λ z. opted z (mode_of z) ≡ (None, s)) (sym h) (ap (opted s) (no_mode_at s mode))
-part_mode_exact (Some m) ts s h mode path = ap (opted ts) (mode_read m ts s h path)
+part_mode_exact m ts s h mode path = opted_exact mode_of IsMode m ts s (λ x k. mode_read x ts s k path) (no_mode_at s mode) h
 
 pub part_mode_shorter : (m : Option Mode) (ts r : List Lexeme) → IsOptional IsMode m ts r → length r ≤ length ts
 part_mode_shorter = optional_shorter IsMode (λ m ts r h. omega (arith, begins_shorter mode_word m ts h.0 h.1, may_pass_shorter is_path_word h.0 r h.2))
@@ -79,13 +69,13 @@ behind_sound : (ts : List Lexeme) → MayHaveMode (mode_behind ts).0 ts (mode_be
 unfolding mode_behind
 behind_sound ts =
     let m : Option Mode × List Lexeme = opted ts (op_at mode_word ts) in
-    (m.1, opted_sound mode_word ts (op_at mode_word ts) refl, past_sound is_path_word m.1)
+    (m.1, opted_sound (op_at mode_word) (Begins mode_word) (read_begins mode_word) ts, past_sound is_path_word m.1)
 
 behind_exact : (m : Option Mode) (ts s : List Lexeme) → MayHaveMode m ts s → Stops is_mode s → Stops is_path_word s → mode_behind ts ≡ (m, s)
 unfolding mode_behind
 behind_exact m ts s h mode path =
     let at_path : Stops is_mode h.0 = may_pass_stops is_path_word is_mode (path_word_apart is_mode (λ x. refl) (λ x. refl)) h.0 s h.2 mode in
-    ap without_path_word (opted_exact mode_word m ts h.0 h.1 at_path) ∙ ap (λ (z : List Lexeme). (m, z)) (past_exact is_path_word h.0 s h.2 path)
+    ap without_path_word (said_exact mode_word m ts h.0 h.1 at_path) ∙ ap (λ (z : List Lexeme). (m, z)) (past_exact is_path_word h.0 s h.2 path)
 
 -- with which lexemes they begin
 behind_stops : (g : Lexeme → Bool) → ((t : Lexeme) (m : Mode) → mode_word t ≡ Some m → g t ≡ true → ⊥) → Apart is_path_word g → (m : Option Mode) (ts s : List Lexeme)

@@ -6,19 +6,18 @@ use Rattle.gql_lexer.specs.SymbolPlaces.{star, plus, opening_brace, closing_brac
 use Rattle.gql_ast.specs.declared.pattern.Quantifier.{Quantifier}
 use Rattle.gql_ast.specs.declared.pattern.Quantifier.TheVariants as quantifier
 use Rattle.gql_front.specs.Tables.{Begins}
-use Rattle.gql_front.specs.Reading.{is_sign, after, op_at, opted, maybe}
+use Rattle.gql_front.specs.Reading.{is_sign, after, op_at, maybe}
 use Rattle.gql_front.proofs.Found.{Goes, Sound, Shrinks, is_there}
 use Rattle.gql_front.proofs.Chains.{Opens}
-use Rattle.gql_front.proofs.TableLemmas.{begins_shorter}
+use Rattle.gql_front.proofs.TableLemmas.{read_begins, begins_shorter}
 use Rattle.gql_parts.specs.Parts.{Passes, IsOptional}
-use Rattle.gql_parts.proofs.PartLaws.{Stops, bind_then, finish, passes_after, after_passes, passes_shorter, stops_after, sign_apart, passes_stops, optional_shorter}
+use Rattle.gql_parts.proofs.PartLaws.{Stops, bind_then, finish, passes_after, after_passes, passes_shorter, stops_after, sign_apart, passes_stops, optional_shorter, maybe_sound, said_exact}
 use Rattle.gql_patterns.specs.PatternWords.{number_in}
 use Rattle.gql_patterns.specs.QuantifierGrammar.{AreBounds, IsBraced, IsQuantifier}
 use Rattle.gql_patterns.specs.Machinery.QuantifierReaders.{number_of, upper_of, exactly, bounded, bounds_of, quantifier_of, once_or_times, repetition_of}
 use Rattle.gql_patterns.specs.declared.quantifier.Repetition.{Repetition}
 use Rattle.gql_patterns.specs.declared.quantifier.Repetition.TheVariants as repetition
 use Rattle.gql_patterns.proofs.SignSets.{Signs, among, sign_whole, sign_goes}
-use Rattle.gql_patterns.proofs.MaybeLaws.{opted_sound, opted_exact}
 
 -- [Number]
 
@@ -29,25 +28,15 @@ abbrev pub IsNumber : List ℕ → List Lexeme → List Lexeme → Type 0
 IsNumber = Begins number_in
 
 pub number_sound : Sound (IsOptional IsNumber) number_of
-unfolding number_of maybe
-number_sound ts x r e =
-    let y : Option (List ℕ) × List Lexeme = opted ts (op_at number_in ts) in
-    finish (λ x r. IsOptional IsNumber x ts r) y.0 y.1 x r e (opted_sound number_in ts (op_at number_in ts) refl)
+unfolding number_of
+number_sound = maybe_sound (op_at number_in) (Begins number_in) (read_begins number_in)
 
 pub number_exact : (x : Option (List ℕ)) (ts s : List Lexeme) → IsOptional IsNumber x ts s → Stops is_number s → number_of ts ≡ Some (x, s)
 unfolding number_of maybe
-number_exact x ts s h stop = ap Some (opted_exact number_in x ts s h stop)
+number_exact x ts s h stop = ap Some (said_exact number_in x ts s h stop)
 
 number_shorter : (x : Option (List ℕ)) (ts r : List Lexeme) → IsOptional IsNumber x ts r → length r ≤ length ts
 number_shorter = optional_shorter IsNumber (begins_shorter number_in)
-
-pub number_no_sign : (n : ℕ) (t : Lexeme) (x : List ℕ) → number_in t ≡ Some x → is_sign n t ≡ true → ⊥
-number_no_sign n (lex.Number y) x e i = cc
-number_no_sign n (lex.Sign m) x e i = cc
-number_no_sign n (lex.Word w y) x e i = cc
-number_no_sign n (lex.Name y) x e i = cc
-number_no_sign n (lex.Chars y) x e i = cc
-number_no_sign n (lex.Param y) x e i = cc
 
 -- Bounds
 

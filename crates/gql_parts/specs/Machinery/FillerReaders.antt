@@ -1,5 +1,5 @@
 -- FillerReaders: reading what stands between the brackets of an element, and WHERE.
-use Rattle.std.specs.Prelude.{ℕ, List, [], Option, Some, None, option_map}
+use Rattle.std.specs.Prelude.{ℕ, List, Option, Some, None, option_map}
 use Rattle.gql_lexer.specs.declared.lexeme.Lexeme.{Lexeme}
 use Rattle.gql_ast.specs.declared.expr.Expr.{Expr}
 use Rattle.gql_ast.specs.declared.label.LabelExpr.{LabelExpr}
@@ -7,11 +7,11 @@ use Rattle.gql_ast.specs.declared.filler.Condition.{Condition}
 use Rattle.gql_ast.specs.declared.filler.Condition.TheVariants as condition
 use Rattle.gql_ast.specs.declared.filler.Filler.{Filler}
 use Rattle.gql_ast.specs.declared.filler.MapItem.{MapItem}
-use Rattle.gql_lexer.specs.SymbolPlaces.{opening_brace, closing_brace, colon}
+use Rattle.gql_lexer.specs.SymbolPlaces.{opening_brace, colon}
 use Rattle.gql_lexer.specs.WordPlaces.{WHERE}
 use Rattle.gql_front.specs.Reading.{◌>>=◌, Reader, is_sign, is_word, name_in, any_name_in, after, op_at, maybe, opted}
 use Rattle.gql_parts.specs.PartWords.{is_colon}
-use Rattle.gql_parts.specs.Machinery.PartReaders.{read_value, read_labels, led, listed}
+use Rattle.gql_parts.specs.Machinery.PartReaders.{read_value, read_labels, led, listed_to_brace}
 
 -- [WHERE Expr]
 unfoldable pub where_of : Reader (Option Expr)
@@ -24,19 +24,9 @@ map_item_of ts = do
   e ← read_value a
   Some (record { name = x.0; value = e.0 }, e.1)
 
-unfoldable pub map_items_of : Reader (List MapItem)
-map_items_of = listed map_item_of
-
 -- [list(Any ":" Expr)] "}"
-abbrev pub empty_or_items : List Lexeme → Option (List Lexeme) → Option (List MapItem × List Lexeme)
-empty_or_items ts (Some r) = Some ([], r)
-empty_or_items ts None = do
-  is ← map_items_of ts
-  r ← after (is_sign closing_brace) is.1
-  Some (is.0, r)
-
 unfoldable pub map_of : Reader (List MapItem)
-map_of ts = empty_or_items ts (after (is_sign closing_brace) ts)
+map_of ts = listed_to_brace map_item_of ts
 
 -- a map as a condition
 abbrev pub as_condition : Option (List MapItem × List Lexeme) → Option (Condition × List Lexeme)

@@ -1,11 +1,12 @@
 -- PartReaders: reading what productions are made of.
-use Rattle.std.specs.Prelude.{List, ◌∷◌, Bool, Option, Some, None}
+use Rattle.std.specs.Prelude.{List, [], ◌∷◌, Bool, Option, Some, None}
 use Rattle.gql_lexer.specs.declared.lexeme.Lexeme.{Lexeme}
 use Rattle.gql_ast.specs.LabelMeaning.{label_expr_of}
 use Rattle.gql_ast.specs.Meaning.{expr_of}
 use Rattle.gql_ast.specs.declared.expr.Expr.{Expr}
 use Rattle.gql_ast.specs.declared.label.LabelExpr.{LabelExpr}
-use Rattle.gql_front.specs.Reading.{◌>>=◌, Reader, after, opted, step, sequence}
+use Rattle.gql_lexer.specs.SymbolPlaces.{closing_brace}
+use Rattle.gql_front.specs.Reading.{◌>>=◌, Reader, is_sign, after, opted, step, sequence}
 use Rattle.gql_exprs.specs.Machinery.LabelReaders.{read_label}
 use Rattle.gql_exprs.specs.Machinery.LeafReaders.{comma_op}
 use Rattle.gql_exprs.specs.Machinery.Readers.{read_expr}
@@ -41,3 +42,14 @@ taken o x = x
 -- items between commas
 abbrev pub listed : {A : Type 0} → Reader A → Reader (List A)
 listed item = sequence item (step comma_op item taken) (λ x xs. x ∷ xs)
+
+-- [items between commas] "}"
+abbrev pub listed_or_brace : {A : Type 0} → Reader A → List Lexeme → Option (List Lexeme) → Option (List A × List Lexeme)
+listed_or_brace item ts (Some r) = Some ([], r)
+listed_or_brace item ts None = do
+  xs ← listed item ts
+  r ← after (is_sign closing_brace) xs.1
+  Some (xs.0, r)
+
+abbrev pub listed_to_brace : {A : Type 0} → Reader A → Reader (List A)
+listed_to_brace item ts = listed_or_brace item ts (after (is_sign closing_brace) ts)

@@ -1,4 +1,4 @@
-use Rattle.std.proofs.Common.{◌∙◌, ap}
+use Rattle.std.proofs.Common.{◌∙◌, ap, sym}
 use Rattle.gql_values3.specs.Datum.{Datum}
 use Rattle.gql_eval.specs.Machinery.Program.{is_boolean, has_on_top}
 use Rattle.gql_eval.specs.Machinery.Turned.{turned}
@@ -8,6 +8,6 @@ use Rattle.gql_eval.proofs.stack.Stack.has_on_top.Goals as goal
 pub returns-in-Some : goal.returns-in-Some
 returns-in-Some c =
     c.is_boolean.ensures ∙ ap (is_boolean c.args.wanted) c.value.ensures
-    ∙ top_is c.args.wanted c.deref.result.now c.in-Some.held.now c.in-Some.ensures.value
+    ∙ sym (top_is (has_on_top c.args.wanted) c.deref.result.now c.in-Some.held.now c.in-Some.ensures.value).1
     ∙ ap (λ xs. has_on_top c.args.wanted (turned (λ (d : Datum). d) xs)) c.deref.ensures.value
     ∙ ap (has_on_top c.args.wanted) c.self.view_is
