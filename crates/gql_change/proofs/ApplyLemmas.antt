@@ -28,16 +28,6 @@ module _ (room : PropertyGraph → Bool) where
   room_here [] g h = h
   room_here (c ∷ cs) g h = (and_parts (room g) (holds_along room cs (changed c g)) h).0
 
-  room_last : (cs ds : List Change) (g : PropertyGraph) → holds_along room (cs ++ ds) g ≡ true → holds_along room ds (changed_by_each cs g) ≡ true
-  room_last [] ds g h = h
-  room_last (c ∷ cs) ds g h = room_last cs ds (changed c g) ((and_parts (room g) (holds_along room (cs ++ ds) (changed c g)) h).1)
-
-  room_first : (cs ds : List Change) (g : PropertyGraph) → holds_along room (cs ++ ds) g ≡ true → holds_along room cs g ≡ true
-  room_first [] ds g h = room_here ds g h
-  room_first (c ∷ cs) ds g h =
-      and_from (room g) (holds_along room cs (changed c g)) ((and_parts (room g) (holds_along room (cs ++ ds) (changed c g)) h).0)
-      (room_first cs ds (changed c g) ((and_parts (room g) (holds_along room (cs ++ ds) (changed c g)) h).1))
-
   -- where there is more room, what fitted fits
   pub more_room : (wider : PropertyGraph → Bool) → ((g : PropertyGraph) → room g ≡ true → wider g ≡ true)
       → (cs : List Change) (g : PropertyGraph) → holds_along room cs g ≡ true → holds_along wider cs g ≡ true
@@ -91,10 +81,6 @@ pub nothing_back : (room : PropertyGraph → Bool) (g : PropertyGraph) (cs done 
 nothing_back room g cs done none fits =
     let go : Ahead room g [] g = record { acts = refl; fits = room_here room cs g fits; leads = refl } in
     subst (λ (l : List Change). Ahead room g (reverse l) g) (sym none) go
-
--- behind the last of them
-pub at_end : {room : PropertyGraph → Bool} {g end : PropertyGraph} {rest : List Change} → Ahead room g rest end → rest ≡ [] → g ≡ end
-at_end {room} {g} {end} {rest} a over = ap (λ (l : List Change). changed_by_each l g) (sym over) ∙ a.leads
 
 -- the same list, written otherwise
 pub same_ahead : {room : PropertyGraph → Bool} {g end : PropertyGraph} {cs : List Change} (ds : List Change) → cs ≡ ds → Ahead room g cs end → Ahead room g ds end

@@ -82,7 +82,7 @@ kept_acts false false a xs ys e p q h =
     ap (λ b. map (λ (z : Assignment). z.act) (cond b (a ∷ filter (λ (z : Assignment). same_elem z.target e) xs) (filter (λ (z : Assignment). same_elem z.target e) xs))) p
     ∙ h
 
-first_act : (b : Bool) (a : Assignment) (xs : List Assignment) (e : Elem) → same_elem a.target e ≡ b → acts_on e (a ∷ xs) ≡ cond b (a.act ∷ acts_on e xs) (acts_on e xs)
+pub first_act : (b : Bool) (a : Assignment) (xs : List Assignment) (e : Elem) → same_elem a.target e ≡ b → acts_on e (a ∷ xs) ≡ cond b (a.act ∷ acts_on e xs) (acts_on e xs)
 first_act true a xs e p =
     ap (λ b. map (λ (z : Assignment). z.act) (cond b (a ∷ filter (λ (z : Assignment). same_elem z.target e) xs) (filter (λ (z : Assignment). same_elem z.target e) xs))) p
 first_act false a xs e p =

@@ -26,7 +26,7 @@ use Rattle.gql_change.specs.declared.assignment.Act.TheVariants as act
 use Rattle.gql_change.specs.declared.assignment.Assignment.{Assignment}
 use Rattle.gql_eval.proofs.StableSort.{Ascends, NoneLess, itself, sorted_ascends, sorted_ties, sorted_all}
 use Rattle.gql_change.proofs.ConflictLemmas.{elem_total}
-use Rattle.gql_change.proofs.AssignedLemmas.{same_elem_is, same_elem_itself}
+use Rattle.gql_change.proofs.AssignedLemmas.{all_weaker, first_act, same_elem_is, same_elem_itself}
 use Rattle.gql_change.proofs.SwapLemmas.{swaps_lead, leads_append, nothing_leads}
 
 pub targets_ordered : IsStrictWeakOrder target_before
@@ -75,16 +75,6 @@ acts_case : (b : Bool) (x : Act) (acts more : List Act) → cond b (x ∷ acts +
 acts_case true x acts more = refl
 acts_case false x acts more = refl
 
-first_act : (b : Bool) (a : Assignment) (xs : List Assignment) (e : Elem) → same_elem a.target e ≡ b → acts_on e (a ∷ xs) ≡ cond b (a.act ∷ acts_on e xs) (acts_on e xs)
-first_act b a xs e p = by (same_elem a.target e) b p
-  where
-    by : (c d : Bool) → c ≡ d → map (λ (z : Assignment). z.act) (cond c (a ∷ filter (λ (z : Assignment). same_elem z.target e) xs) (filter (λ (z : Assignment). same_elem z.target e) xs))
-        ≡ cond d (a.act ∷ acts_on e xs) (acts_on e xs)
-    by true true q = refl
-    by true false q = absurd (cc)
-    by false true q = absurd (cc)
-    by false false q = refl
-
 pub acts_on-append : (e : Elem) (xs ys : List Assignment) → acts_on e (xs ++ ys) ≡ acts_on e xs ++ acts_on e ys
 acts_on-append e [] ys = refl
 acts_on-append e (x ∷ xs) ys =
@@ -107,10 +97,6 @@ NoneAbove e xs = AllByRecursion (λ (a : Assignment). target_before (some_act e)
 all_push : {A : Type 0} (P : A → Type 0) (xs : List A) (x : A) → AllByRecursion P xs → P x → AllByRecursion P (xs ++ x ∷ [])
 all_push P [] x all here = (here, tt)
 all_push P (y ∷ ys) x all here = (all.0, all_push P ys x all.1 here)
-
-all_weaker : {A : Type 0} (P Q : A → Type 0) (xs : List A) → ((x : A) → P x → Q x) → AllByRecursion P xs → AllByRecursion Q xs
-all_weaker P Q [] h all = tt
-all_weaker P Q (x ∷ xs) h all = (h x all.0, all_weaker P Q xs h all.1)
 
 -- an element above them all is none of them
 abbrev NoneOf : Elem → List Assignment → Type 0

@@ -25,7 +25,7 @@ use Rattle.gql_change.specs.declared.assignment.Act.{Act}
 use Rattle.gql_change.specs.declared.assignment.Act.TheVariants as act
 use Rattle.gql_change.specs.declared.assignment.Assignment.{Assignment}
 use Rattle.gql_eval.proofs.StableSort.{Ascends, sorted_ascends}
-use Rattle.gql_change.proofs.AssignedLemmas.{same_elem_itself}
+use Rattle.gql_change.proofs.AssignedLemmas.{all_weaker, same_elem_itself}
 use Rattle.gql_change.proofs.ConflictLemmas.{assignments_ordered, assignment_total, elem_total}
 
 -- two assignments of one property of one element have the same value
@@ -142,10 +142,6 @@ module _ {X : Type 0} (before : X → X → Bool) (P : X → Type 0) where
   sorted_back [] all = tt
   sorted_back (x ∷ xs) all = let both = inserted_back x (stably_sorted before xs) all in (both.0, sorted_back xs both.1)
 
-all_mapped : {A : Type 0} (P Q : A → Type 0) (xs : List A) → ((x : A) → P x → Q x) → AllByRecursion P xs → AllByRecursion Q xs
-all_mapped P Q [] h all = tt
-all_mapped P Q (x ∷ xs) h all = (h x all.0, all_mapped P Q xs h all.1)
-
 has_at : {A : Type 0} (P : A → Type 0) (xs : List A) (k : ℕ) (x : A) → k < length xs → get_or xs k x ≡ x → AllByRecursion P xs → P x
 has_at P [] k x h e all = absurd (omega arith)
 has_at P (y ∷ ys) zero x h e all = subst P e all.0
@@ -158,7 +154,7 @@ one_value xs none a b here there =
     let no : neighbours_conflict ys ≡ None = none in
     let sorted_pairs = all_agree ys (sorted_ascends comes_before assignments_ordered xs) no in
     let pairs : AllByRecursion (λ c. AllByRecursion (OneValue c) xs) ys =
-    all_mapped (λ c. AllByRecursion (OneValue c) ys) (λ c. AllByRecursion (OneValue c) xs) ys (λ c all. sorted_back comes_before (OneValue c) xs all) sorted_pairs in
+    all_weaker (λ c. AllByRecursion (OneValue c) ys) (λ c. AllByRecursion (OneValue c) xs) ys (λ c all. sorted_back comes_before (OneValue c) xs all) sorted_pairs in
     let mine : AllByRecursion (OneValue a) xs =
     has_at (λ c. AllByRecursion (OneValue c) xs) xs here.0 a here.1 here.2 (sorted_back comes_before (λ c. AllByRecursion (OneValue c) xs) xs pairs) in
     has_at (OneValue a) xs there.0 b there.1 there.2 mine

@@ -1,10 +1,10 @@
 -- The order of assignments is total, so a stable sort by it is the definition's.
-use Rattle.std.proofs.Common.{◌≡◌, ℕ, zero, suc, ◌+◌, ◌<◌, ◌≤◌, Bool, true, false, cond, not, List, [], ◌∷◌, length, map, drop, get_or, refl, sym, ap, subst, ◌∙◌, arith, Some, None, Bor}
-use Rattle.std.proofs.lemmas.List.{get_or-map}
+use Rattle.std.proofs.Common.{◌≡◌, ℕ, zero, suc, ◌+◌, ◌<◌, ◌≤◌, Bool, true, false, not, List, [], ◌∷◌, length, map, drop, get_or, refl, sym, ap, subst, ◌∙◌, arith, Some, None, Bor}
+use Rattle.std.proofs.lemmas.List.{get_or-map, length-map}
 use Rattle.std.specs.declared.cmp.Ordering.{Ordering}
 use Rattle.std.specs.declared.cmp.Ordering.TheVariants.{Less, Equal, Greater}
 use Rattle.std.specs.Prelude.{◌&&◌, ◌==◌, if◌then◌else◌}
-use Rattle.std.specs.Ordering.{ordering_then, ordering_index, nat_cmp, is_lt, on, then_cmp}
+use Rattle.std.specs.Ordering.{ordering_then, ordering_index, nat_cmp, on, then_cmp}
 use Rattle.std.specs.Cmp.{IsTotalOrder, IsStrictWeakOrder}
 use Rattle.std.specs.Cmp.Lexicographic.{slice_cmp}
 use Rattle.std.proofs.lemmas.Cmp.{nat_cmp_total, nat_list_cmp_total, on_total, then_total}
@@ -83,7 +83,7 @@ pub references_sorted : (rs : List (Bor Assignment)) → seen (stably_sorted (λ
 references_sorted rs = map_sorted (λ (r : Bor Assignment). r.now) comes_before rs
 
 -- neighbours, one after the other
-pub neighbours_step : (xs : List Assignment) (i : ℕ) (a b : Assignment) → i + 1 < length xs → a ≡ get_or xs i a → b ≡ get_or xs (i + 1) b
+neighbours_step : (xs : List Assignment) (i : ℕ) (a b : Assignment) → i + 1 < length xs → a ≡ get_or xs i a → b ≡ get_or xs (i + 1) b
     → neighbours_conflict (drop i xs) ≡ option_or (conflict_of a b) (neighbours_conflict (drop (i + 1) xs))
 neighbours_step xs i a b h p q =
     let one : drop i xs ≡ a ∷ drop (i + 1) xs = drop_here xs i a (omega arith) p in
@@ -113,5 +113,11 @@ not_equal_index Equal p = sym p
 not_equal_index Greater p = refl
 
 -- a reference of a place
-pub seen_at : (rs : List (Bor Assignment)) (i : ℕ) (r : Bor Assignment) → i < length rs → r ≡ get_or rs i r → r.now ≡ get_or (seen rs) i r.now
+seen_at : (rs : List (Bor Assignment)) (i : ℕ) (r : Bor Assignment) → i < length rs → r ≡ get_or rs i r → r.now ≡ get_or (seen rs) i r.now
 seen_at rs i r h p = ap (λ (s : Bor Assignment). s.now) p ∙ sym (get_or-map (λ (s : Bor Assignment). s.now) rs i r r.now h)
+
+-- neighbours among references
+pub seen_step : (rs : List (Bor Assignment)) (i : ℕ) (a b : Bor Assignment) → i + 1 < length rs → a ≡ get_or rs i a → b ≡ get_or rs (i + 1) b
+    → neighbours_conflict (drop i (seen rs)) ≡ option_or (conflict_of a.now b.now) (neighbours_conflict (drop (i + 1) (seen rs)))
+seen_step rs i a b next p q =
+    neighbours_step (seen rs) i a.now b.now (omega (arith, length-map rs (λ (r : Bor Assignment). r.now))) (seen_at rs i a (omega arith) p) (seen_at rs (i + 1) b next q)

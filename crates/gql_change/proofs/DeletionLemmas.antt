@@ -33,7 +33,7 @@ use Rattle.gql_change.specs.Machinery.DeletionSteps.{column_place, datum_or_null
 use Rattle.gql_change.specs.declared.fault.ChangeFault.{ChangeFault}
 use Rattle.gql_change.specs.declared.fault.ChangeFault.TheVariants as fault
 use Rattle.gql_change.proofs.ApplyLemmas.{can_act_each-append, changed_by_each-append}
-use Rattle.gql_change.proofs.RisingLemmas.{eqb_same, eqb_refl, not_among, rises_from_graph, rises-filter}
+use Rattle.gql_change.proofs.RisingLemmas.{or_right, eqb_same, eqb_refl, not_among, rises_from_graph, rises-filter}
 use Rattle.gql_change.proofs.TakingOut.{list_all_both, list_all_weaker, filter_where, without, ends_stay, node_numbers, edge_numbers, graph_of_edges, edges_out, nodes_out}
 use Rattle.gql_change.proofs.DeletedNumbers.{has_passing, node_found, edge_found, has_named_edge, nodes_rise, edges_rise}
 use Rattle.gql_change.specs.Machinery.Rising.{rises_above}
@@ -94,10 +94,6 @@ named_at_places columns names [] = refl
 named_at_places columns names (row ∷ rows) = λ i. named_in_row columns row names i ++ named_at_places columns names rows i
 
 -- each item has a number that one of them has
-or_right : (a b : Bool) → b ≡ true → (a || b) ≡ true
-or_right true b h = refl
-or_right false b h = h
-
 module _ {X : Type 0} (key : X → ℕ) where
   abbrev is_own : List X → X → Bool
   is_own xs y = list_any (λ x. eqb (key y) (key x)) xs

@@ -11,11 +11,13 @@ use Rattle.gql_values3.specs.declared.element.Ends.{Ends}
 use Rattle.gql_values3.specs.declared.element.Ends.TheVariants.{Directed, Undirected}
 use Rattle.gql_values3.specs.declared.records.NodeRecord.{NodeRecord}
 use Rattle.gql_values3.specs.declared.records.EdgeRecord.{EdgeRecord}
-use Rattle.gql_graph.specs.Edits.{can_act, changed, can_act_each, suits}
+use Rattle.gql_graph.specs.Edits.{node_key, edge_key, can_act, changed, can_act_each, suits}
 use Rattle.gql_graph.specs.declared.change.Change.{Change}
 use Rattle.gql_graph.specs.declared.change.Change.TheVariants as change
 use Rattle.gql_change.specs.Plans.{LeadTo}
 use Rattle.gql_change.specs.Insertion.{is_used_up}
+use Rattle.gql_change.proofs.RisingLemmas.{or_left, or_right}
+use Rattle.gql_change.proofs.TakingOut.{list_all_weaker, nodes_are, node_numbers, edge_numbers, edge_records}
 
 -- one change more
 pub leads_on : (g h : PropertyGraph) (cs : List Change) (c : Change) → LeadTo g cs h → can_act c h ≡ true → LeadTo g (cs ++ c ∷ []) (changed c h)
@@ -52,30 +54,18 @@ all_on : {X : Type 0} (p : X → Bool) (xs : List X) (x : X) → list_all p xs �
 all_on p [] x h q = and_from (p x) true q refl
 all_on p (y ∷ ys) x h q = and_from (p y) (list_all p (ys ++ x ∷ [])) ((and_parts (p y) (list_all p ys) h).0) (all_on p ys x ((and_parts (p y) (list_all p ys) h).1) q)
 
-all_weaker : {X : Type 0} (p q : X → Bool) → ((x : X) → p x ≡ true → q x ≡ true) → (xs : List X) → list_all p xs ≡ true → list_all q xs ≡ true
-all_weaker p q more [] h = refl
-all_weaker p q more (x ∷ xs) h = and_from (q x) (list_all q xs) (more x ((and_parts (p x) (list_all p xs) h).0)) (all_weaker p q more xs ((and_parts (p x) (list_all p xs) h).1))
-
 -- a node that is there stays, and the new one is there
 either : (b r s : Bool) → (r ≡ true → s ≡ true) → (b || r) ≡ true → (b || s) ≡ true
 either true r s f h = refl
 either false r s f h = f h
-
-second : (b s : Bool) → s ≡ true → (b || s) ≡ true
-second true s h = refl
-second false s h = h
-
-first : (b s : Bool) → b ≡ true → (b || s) ≡ true
-first true s h = refl
-first false s h = absurd (cc)
 
 pub among_on : (nodes : List NodeRecord) (r : NodeRecord) (n : NodeId) → is_among nodes n ≡ true → is_among (nodes ++ r ∷ []) n ≡ true
 among_on [] r n h = absurd (cc)
 among_on (s ∷ ss) r n h = either (s.number.0 == n.0) (is_among ss n) (is_among (ss ++ r ∷ []) n) (among_on ss r n) h
 
 pub among_new : (nodes : List NodeRecord) (r : NodeRecord) (n : NodeId) → r.number.0 ≡ n.0 → is_among (nodes ++ r ∷ []) n ≡ true
-among_new [] r n h = first (r.number.0 == n.0) false (same_number r.number.0 n.0 h)
-among_new (s ∷ ss) r n h = second (s.number.0 == n.0) (is_among (ss ++ r ∷ []) n) (among_new ss r n h)
+among_new [] r n h = or_left (r.number.0 == n.0) false (same_number r.number.0 n.0 h)
+among_new (s ∷ ss) r n h = or_right (s.number.0 == n.0) (is_among (ss ++ r ∷ []) n) (among_new ss r n h)
 
 module _ (nodes more : List NodeRecord) (kept : (n : NodeId) → is_among nodes n ≡ true → is_among more n ≡ true) where
   ends_stay : (e : Ends) → are_ends nodes e ≡ true → are_ends more e ≡ true
@@ -93,43 +83,26 @@ module _ (nodes more : List NodeRecord) (kept : (n : NodeId) → is_among nodes 
       ((and_parts (texts_ascend r.labels && are_properties r.properties) (are_ends nodes r.ends) h).0)
       (ends_stay r.ends ((and_parts (texts_ascend r.labels && are_properties r.properties) (are_ends nodes r.ends) h).1))
 
-abbrev node_key : NodeRecord → ℕ
-node_key r = r.number.0
-
-abbrev edge_key : EdgeRecord → ℕ
-edge_key r = r.number.0
-
 module _ (g : PropertyGraph) (one : is_graph g ≡ true) where
-  nodes_are : are_nodes g.nodes g.next_node ≡ true
-  nodes_are = (and_parts (are_nodes g.nodes g.next_node) (are_edges g.nodes g.edges g.next_edge) one).0
-
-  edges_are : are_edges g.nodes g.edges g.next_edge ≡ true
-  edges_are = (and_parts (are_nodes g.nodes g.next_node) (are_edges g.nodes g.edges g.next_edge) one).1
-
   pub node_can_act : (r : NodeRecord) → is_used_up g.next_node ≡ false → is_node_record r ≡ true → r.number.0 ≡ g.next_node → can_act (change.NewNode r) g ≡ true
   node_can_act r room fit same =
-      let numbers = (and_parts (are_numbers (map node_key g.nodes) g.next_node) (list_all is_node_record g.nodes) nodes_are).0 in
-      let records = (and_parts (are_numbers (map node_key g.nodes) g.next_node) (list_all is_node_record g.nodes) nodes_are).1 in
-      let edge_numbers = (and_parts (are_numbers (map edge_key g.edges) g.next_edge) (list_all (is_edge_record g.nodes) g.edges) edges_are).0 in
-      let edge_records = (and_parts (are_numbers (map edge_key g.edges) g.next_edge) (list_all (is_edge_record g.nodes) g.edges) edges_are).1 in
+      let records = (and_parts (are_numbers (map node_key g.nodes) g.next_node) (list_all is_node_record g.nodes) (nodes_are g one)).1 in
       and_from (suits (change.NewNode r) g) (is_graph (changed (change.NewNode r) g))
       (and_from (r.number.0 == g.next_node) (nat_lt (suc g.next_node) (2 ^ 32)) (same_number r.number.0 g.next_node same) (room_left g.next_node room))
       (and_from (are_nodes (g.nodes ++ r ∷ []) (suc g.next_node)) (are_edges (g.nodes ++ r ∷ []) g.edges g.next_edge)
       (and_from (are_numbers (map node_key (g.nodes ++ r ∷ [])) (suc g.next_node)) (list_all is_node_record (g.nodes ++ r ∷ []))
-      (numbers_next node_key g.nodes r g.next_node same room numbers) (all_on is_node_record g.nodes r records fit))
+      (numbers_next node_key g.nodes r g.next_node same room (node_numbers g one)) (all_on is_node_record g.nodes r records fit))
       (and_from (are_numbers (map edge_key g.edges) g.next_edge) (list_all (is_edge_record (g.nodes ++ r ∷ [])) g.edges)
-      edge_numbers
-      (all_weaker (is_edge_record g.nodes) (is_edge_record (g.nodes ++ r ∷ [])) (edge_stays g.nodes (g.nodes ++ r ∷ []) (λ n. among_on g.nodes r n)) g.edges edge_records)))
+      (edge_numbers g one)
+      (list_all_weaker (is_edge_record g.nodes) (is_edge_record (g.nodes ++ r ∷ [])) (edge_stays g.nodes (g.nodes ++ r ∷ []) (λ n. among_on g.nodes r n)) g.edges (edge_records g one))))
 
   pub edge_can_act : (r : EdgeRecord) → is_used_up g.next_edge ≡ false → is_edge_record g.nodes r ≡ true → r.number.0 ≡ g.next_edge → can_act (change.NewEdge r) g ≡ true
   edge_can_act r room fit same =
-      let edge_numbers = (and_parts (are_numbers (map edge_key g.edges) g.next_edge) (list_all (is_edge_record g.nodes) g.edges) edges_are).0 in
-      let edge_records = (and_parts (are_numbers (map edge_key g.edges) g.next_edge) (list_all (is_edge_record g.nodes) g.edges) edges_are).1 in
       and_from (suits (change.NewEdge r) g) (is_graph (changed (change.NewEdge r) g))
       (and_from (r.number.0 == g.next_edge) (nat_lt (suc g.next_edge) (2 ^ 32)) (same_number r.number.0 g.next_edge same) (room_left g.next_edge room))
-      (and_from (are_nodes g.nodes g.next_node) (are_edges g.nodes (g.edges ++ r ∷ []) (suc g.next_edge)) nodes_are
+      (and_from (are_nodes g.nodes g.next_node) (are_edges g.nodes (g.edges ++ r ∷ []) (suc g.next_edge)) (nodes_are g one)
       (and_from (are_numbers (map edge_key (g.edges ++ r ∷ [])) (suc g.next_edge)) (list_all (is_edge_record g.nodes) (g.edges ++ r ∷ []))
-      (numbers_next edge_key g.edges r g.next_edge same room edge_numbers) (all_on (is_edge_record g.nodes) g.edges r edge_records fit)))
+      (numbers_next edge_key g.edges r g.next_edge same room (edge_numbers g one)) (all_on (is_edge_record g.nodes) g.edges r (edge_records g one) fit)))
 
 -- a change of a graph leaves one
 pub still_graph : (c : Change) (g : PropertyGraph) → can_act c g ≡ true → is_graph (changed c g) ≡ true

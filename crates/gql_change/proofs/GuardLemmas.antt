@@ -1,5 +1,5 @@
 -- The guard of INSERT, where each endpoint that is a column is a column of nodes and rows fit.
-use Rattle.std.proofs.Common.{◌≡◌, ◌↔◌, ℕ, suc, Bool, true, false, not, ◌&&◌, ◌==◌, List, [], ◌∷◌, ◌++◌, length, All, Option, Some, None, IsTrue, refl, sym, ap, ◌∙◌, arith}
+use Rattle.std.proofs.Common.{◌≡◌, ℕ, suc, Bool, true, false, not, ◌&&◌, ◌==◌, List, [], ◌∷◌, ◌++◌, length, All, Option, Some, None, refl, ap, ◌∙◌, arith}
 use Rattle.std.specs.List.{list_all}
 use Rattle.std.specs.Prelude.{if◌then◌else◌}
 use Rattle.std.proofs.lemmas.Bool.{and_parts, and_from}
@@ -7,7 +7,6 @@ use Rattle.std.proofs.lemmas.Bool.Decides.{nat_tests}
 use Rattle.std.proofs.lemmas.List.Elements.{All-weaker}
 use Rattle.std.proofs.lemmas.List.Sums.{AllPass-from_list_all}
 use Rattle.gql_values3.specs.Datum.{Datum}
-use Rattle.gql_values3.specs.PropertyGraph.{PropertyGraph}
 use Rattle.gql_values3.specs.Rows.{fits_kind}
 use Rattle.gql_values3.specs.declared.table.ColumnKind.{ColumnKind}
 use Rattle.gql_values3.specs.declared.table.ColumnKind.TheVariants as kind
@@ -20,14 +19,6 @@ use Rattle.gql_eval.specs.RowLists.{RowList, row_fits, rows_fit}
 use Rattle.gql_change.specs.AcceptedInserts.{EndpointsAreNodes, GuardHolds, GuardIsPassed, NamesNode, NoneIsWrong}
 use Rattle.gql_change.specs.Changing.{has_endpoints, is_empty}
 use Rattle.gql_change.proofs.NamedPlaces.{back_empty}
-
-node_kind : (k : ColumnKind) → is_node k ≡ true → k ≡ kind.Node
-node_kind kind.Node h = refl
-node_kind kind.Edge h = absurd (cc)
-node_kind kind.Nodes h = absurd (cc)
-node_kind kind.Edges h = absurd (cc)
-node_kind kind.Path h = absurd (cc)
-node_kind kind.Plain h = absurd (cc)
 
 -- a node's variable, by whether it is a column and of which kind
 nothing_wrong : (x : List ℕ) (b : Bool) (k : ColumnKind) → (if b && not (is_node k) then x ∷ [] else []) ≡ [] → b ≡ true → k ≡ kind.Node

@@ -1,7 +1,7 @@
 -- INSERT by places makes what the definition makes by names: the changes so far lead to the definition's graph, and what
 -- is left of a row's spots says the same of it as the names do. Each node that a later spot refers to is one of the graph
 -- so far, since it was looked at or made; so each edge has its nodes.
-use Rattle.std.proofs.Common.{◌≡◌, ℕ, suc, ◌+◌, ◌<◌, Bool, true, false, cond, ◌||◌, List, [], ◌∷◌, ◌++◌, length, Option, Some, None, Ok, Err, refl, sym, ap, ◌∙◌, arith, length-append, ◌==◌, ◌&&◌, is_some, nat_le, nat_lt, ◌⊎◌, inl, inr}
+use Rattle.std.proofs.Common.{◌≡◌, ℕ, suc, ◌+◌, ◌<◌, Bool, true, false, cond, List, [], ◌∷◌, ◌++◌, length, Option, Some, None, Ok, Err, refl, sym, ap, ◌∙◌, arith, length-append, ◌==◌, ◌&&◌, is_some, nat_le, nat_lt, ◌⊎◌, inl, inr}
 use Rattle.std.proofs.lemmas.Bool.{and_from}
 use Rattle.std.specs.List.{list_all}
 use Rattle.std.proofs.lemmas.Bool.Decides.{nat_tests}
@@ -36,6 +36,7 @@ use Rattle.gql_change.specs.declared.role.Role.TheVariants as role
 use Rattle.gql_change.specs.declared.row_spots.Spot.{Spot}
 use Rattle.gql_change.specs.declared.row_spots.Spot.TheVariants as spot
 use Rattle.gql_change.specs.declared.insert_state.InsertState.{InsertState}
+use Rattle.gql_change.proofs.RisingLemmas.{or_left, or_right}
 use Rattle.gql_change.proofs.PlaceOfName.{column_placed}
 use Rattle.gql_change.proofs.StoringLemmas.{texts_ascend-label_set, are_properties-property_set}
 use Rattle.gql_change.proofs.GraphGrowth.{leads_on, among_on, among_new, node_can_act, still_graph}
@@ -214,15 +215,6 @@ module _ (g0 : PropertyGraph) where
   longer : (row : List Datum) (d : Datum) (cs : ColumnList) (c : List ℕ × ColumnKind) → length row ≡ length cs → length (row ++ d ∷ []) ≡ length (cs ++ c ∷ [])
   longer row d cs c h = omega (arith, length-append row (d ∷ []), length-append cs (c ∷ []), h)
 
-  -- either of two tests holds where its second, or its first, does
-  or_second : (b s : Bool) → s ≡ true → (b || s) ≡ true
-  or_second true s h = refl
-  or_second false s h = h
-
-  or_first : (b s : Bool) → b ≡ true → (b || s) ≡ true
-  or_first true s h = refl
-  or_first false s h = absurd (cc)
-
   equal_number : (n : ℕ) → (n == n) ≡ true
   equal_number n = grind (arith, nat_tests)
 
@@ -246,7 +238,7 @@ module _ (g0 : PropertyGraph) where
     referred : (i : ℕ) (ss0 : Spots) → Good m cs ss0 → place_among m.columns x ≡ Some i → wrong_in_spots m.columns ss ≡ []
         → Sure m.graph m.row ((role.Refers i, []) ∷ questions m.columns ss) → Agrees (AtNode m ss) (named_work true (Some i)) (named_making true)
     referred i ss0 good place kinds sure =
-        let it : IsNodeIn m.graph (datum_at m.row i) = sure i (or_first (i == i) (refers_to i (questions m.columns ss)) (equal_number i)) (omega (arith, place_below m.columns x i place, good.width)) in
+        let it : IsNodeIn m.graph (datum_at m.row i) = sure i (or_left (i == i) (refers_to i (questions m.columns ss)) (equal_number i)) (omega (arith, place_below m.columns x i place, good.width)) in
         let named : number_under m (Some x) ≡ node_number (datum_at m.row i) = ap node_number (datum_named m.columns m.row x i place) in
         record {
           behind = record {
@@ -258,7 +250,7 @@ module _ (g0 : PropertyGraph) where
               graph = good.graph;
               width = good.width;
               kinds = kinds;
-              sure = λ j r h. sure j (or_second (j == i) (refers_to j (questions m.columns ss)) r) h;
+              sure = λ j r h. sure j (or_right (j == i) (refers_to j (questions m.columns ss)) r) h;
               storable = later_kept m.values good.storable;
               kept = good.kept;
             };
@@ -375,7 +367,7 @@ module _ (g0 : PropertyGraph) where
   )
   edge_spot m cs ss (Some x) ls is good =
       edge_named m cs ss x ls is (is_column m.columns x) (place_among m.columns x) ((kind.Edge, fill (Some x) ls is) ∷ ss) good (column_placed m.columns x) good.kinds
-      (λ i r h. good.sure i (or_second (is_reference i (role_at kind.Edge (place_among m.columns x))) (refers_to i (questions (with_variable m.columns kind.Edge (Some x)) ss)) r) h)
+      (λ i r h. good.sure i (or_right (is_reference i (role_at kind.Edge (place_among m.columns x))) (refers_to i (questions (with_variable m.columns kind.Edge (Some x)) ss)) r) h)
 
   pub edge_values : (cs : ColumnList) (v : Option (List ℕ)) (ps : PropertyList) → properties_given (spot_with (role_of cs kind.Edge v) ps) ≡ ps
   edge_values cs None ps = refl

@@ -1,7 +1,6 @@
 -- Items of a list from a place on, as loops go over them.
 use Rattle.std.proofs.Common.{◌≡◌, ℕ, zero, suc, ◌+◌, ◌<◌, ◌≤◌, Bool, true, false, cond, List, [], ◌∷◌, ◌++◌, map, reverse, length, drop, get_or, slice_get, Some, None, refl, sym, ap, ◌∙◌, add-one, arith}
 use Rattle.std.specs.Prelude.{filter}
-use Rattle.std.proofs.lemmas.Grind.{common_steps}
 use Rattle.std.proofs.lemmas.List.{reverse-append, map-append, drop_all}
 use Rattle.gql_values3.specs.PropertyGraph.{PropertyGraph, is_graph}
 use Rattle.gql_values3.specs.Lookup.{touching_edges, touches}
@@ -9,6 +8,7 @@ use Rattle.gql_values3.specs.declared.element.NodeId.{NodeId}
 use Rattle.gql_values3.specs.declared.records.EdgeRecord.{EdgeRecord}
 use Rattle.gql_graph.specs.Edits.{edge_key}
 use Rattle.gql_graph.proofs.GraphLemmas.{few}
+use Rattle.gql_eval.proofs.EachSteps.{drop_here}
 use Rattle.gql_change.proofs.TakingOut.{edge_numbers}
 
 next_item : {A : Type 0} (xs : List A) (i : ℕ) (x : A) → Some x ≡ slice_get xs i → drop i xs ≡ x ∷ drop (suc i) xs
@@ -26,13 +26,10 @@ no_item_here [] (suc i) h = refl
 no_item_here (y ∷ ys) zero h = absurd (cc)
 no_item_here (y ∷ ys) (suc i) h = no_item_here ys i h
 
-step_here : {A : Type 0} (xs : List A) (i : ℕ) (x : A) → i < length xs → x ≡ get_or xs i x → drop i xs ≡ x ∷ drop (i + 1) xs
-step_here xs i x h p = grind (arith, common_steps)
-
 -- a list that is read from its end
 step_back : {A B : Type 0} (f : A → B) (xs : List A) (i : ℕ) (x : A) → i < length xs → x ≡ get_or xs i x → map f (reverse (drop i xs)) ≡ map f (reverse (drop (i + 1) xs)) ++ f x ∷ []
 step_back f xs i x h p =
-    ap (λ l. map f (reverse l)) (step_here xs i x h p) ∙ ap (map f) (reverse-append (x ∷ []) (drop (i + 1) xs)) ∙ map-append f (reverse (drop (i + 1) xs)) (x ∷ [])
+    ap (λ l. map f (reverse l)) (drop_here xs i x h p) ∙ ap (map f) (reverse-append (x ∷ []) (drop (i + 1) xs)) ∙ map-append f (reverse (drop (i + 1) xs)) (x ∷ [])
 
 any_default : (xs : List ℕ) (i d e : ℕ) → i < length xs → get_or xs i d ≡ get_or xs i e
 any_default [] i d e h = absurd (omega arith)

@@ -19,6 +19,7 @@ use Rattle.gql_change.specs.Machinery.Noting.{earlier}
 use Rattle.gql_change.specs.declared.role.Role.{Role}
 use Rattle.gql_change.specs.declared.role.Role.TheVariants as role
 use Rattle.gql_change.proofs.PlaceOfName.{a_column}
+use Rattle.gql_change.proofs.RisingLemmas.{both_false}
 
 -- the row's datum of the column of a place
 entry_datum : (cs : ColumnList) (row : List Datum) (i : ℕ) → i < length cs → datum_in (column_entry cs row i) ≡ datum_at row i
@@ -106,10 +107,6 @@ abbrev pub refers_to : ℕ → List Question → Bool
 refers_to i [] = false
 refers_to i (q ∷ qs) = is_reference i q.0 || refers_to i qs
 
-pub either_of : (a b : Bool) → a ≡ false → b ≡ false → (a || b) ≡ false
-either_of true b p q = absurd (cc)
-either_of false b p q = q
-
 -- the place of an edge's column is not referred to
 other_kind : (cs : ColumnList) (i j : ℕ) → kind_at cs i ≡ Some kind.Edge → is_node (unwrap_or (kind_at cs j) kind.Plain) ≡ true → (b : Bool) → (i == j) ≡ b → b ≡ false
 other_kind cs i j p q false e = refl
@@ -154,6 +151,6 @@ module _ (i : ℕ) where
   pub edge_not_referred : (cs : ColumnList) (ss : Spots) → kind_at cs i ≡ Some kind.Edge → wrong_in_spots cs ss ≡ [] → refers_to i (questions cs ss) ≡ false
   edge_not_referred cs [] p w = refl
   edge_not_referred cs (s ∷ ss) p w =
-      either_of (is_reference i (role_of cs s.0 s.1.variable)) (refers_to i (questions (with_variable cs s.0 s.1.variable) ss))
+      both_false (is_reference i (role_of cs s.0 s.1.variable)) (refers_to i (questions (with_variable cs s.0 s.1.variable) ss))
       (role_elsewhere cs s.0 s.1.variable p (front_empty (wrong_endpoint cs s.0 s.1.variable) (wrong_in_spots (with_variable cs s.0 s.1.variable) ss) w))
       (edge_not_referred (with_variable cs s.0 s.1.variable) ss (kind_stays cs s.0 s.1.variable p) (back_empty (wrong_endpoint cs s.0 s.1.variable) (wrong_in_spots (with_variable cs s.0 s.1.variable) ss) w))

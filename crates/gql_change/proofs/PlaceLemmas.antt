@@ -1,6 +1,5 @@
 -- A text's place among texts in order, and what is put there.
-use Rattle.std.proofs.Common.{◌≡◌, ℕ, suc, ◌+◌, Bool, true, false, cond, not, List, [], ◌∷◌, length, map, drop, refl, sym, ap, arith, Result, Ok, Err}
-use Rattle.std.proofs.Math.Seq.{drop-cons}
+use Rattle.std.proofs.Common.{◌≡◌, ℕ, Bool, true, false, cond, not, List, [], ◌∷◌, map, drop, refl, ap, Result, Ok, Err}
 use Rattle.std.specs.Prelude.{filter}
 use Rattle.std.specs.declared.cmp.Ordering.{Ordering}
 use Rattle.std.specs.declared.cmp.Ordering.TheVariants.{Less, Equal, Greater}
@@ -11,7 +10,7 @@ use Rattle.gql_values3.specs.Meaning.{datum_of}
 use Rattle.gql_values3.specs.Texts.{same_text}
 use Rattle.gql_values3.specs.declared.value.Value.{Value}
 use Rattle.gql_change.specs.Storing.{PropertyList, by_order, put_property, without_property, put_label}
-use Rattle.gql_change.specs.Machinery.Places.{further, one_further, place_in_order, put_at, joined_at, IsWithin}
+use Rattle.gql_change.specs.Machinery.Places.{further, one_further, place_in_order, put_at, joined_at}
 
 -- what a pair of the code means
 abbrev pub shown : List ℕ × Value → List ℕ × Datum
@@ -45,25 +44,9 @@ pub label_joined : (l : List ℕ) (ks : List (List ℕ)) → joined_at (place_in
 label_joined l [] = refl
 label_joined l (k ∷ ks) = joined_case (slice_cmp nat_cmp l k) (place_in_order l ks) l k ks (put_label l ks) (label_joined l ks)
 
-within_case : (o : Ordering) (r : Result ℕ ℕ) (n : ℕ) → IsWithin r n → IsWithin (by_order o (Err 0) (Ok 0) (one_further r)) (suc n)
-within_case Less r n h = omega arith
-within_case Equal r n h = omega arith
-within_case Greater (Ok i) n h = omega arith
-within_case Greater (Err i) n h = omega arith
-
-pub place_within : {A : Type 0} (key : A → List ℕ) (x : List ℕ) (xs : List A) → IsWithin (place_in_order x (map key xs)) (length xs)
-place_within key x [] = omega arith
-place_within key x (y ∷ ys) = within_case (slice_cmp nat_cmp x (key y)) (place_in_order x (map key ys)) (length ys) (place_within key x ys)
-
 -- the place, as far as a loop has come
 abbrev pub place_from : {A : Type 0} → (A → List ℕ) → List ℕ → List A → ℕ → Result ℕ ℕ
 place_from key x xs i = further i (place_in_order x (map key (drop i xs)))
-
-step_case : (o : Ordering) (i : ℕ) (r : Result ℕ ℕ) → further i (by_order o (Err 0) (Ok 0) (one_further r)) ≡ by_order o (Err i) (Ok i) (further (i + 1) r)
-step_case Less i r = ap (λ n. Err n) (omega arith)
-step_case Equal i r = ap (λ n. Ok n) (omega arith)
-step_case Greater i (Ok j) = ap (λ n. Ok n) (omega arith)
-step_case Greater i (Err j) = ap (λ n. Err n) (omega arith)
 
 kept_or_not : (b : Bool) (p : List ℕ × Value) (ps : List (List ℕ × Value)) (qs : PropertyList) → map shown ps ≡ qs
     → map shown (cond b (p ∷ ps) ps) ≡ cond b (shown p ∷ qs) qs

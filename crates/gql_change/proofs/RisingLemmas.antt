@@ -150,23 +150,27 @@ rises_le (n ∷ ns) up (suc i) zero le lt = absurd (omega arith)
 rises_le (n ∷ ns) up zero (suc j) le lt = omega (arith, above_at n ns j up (omega arith))
 rises_le (n ∷ ns) up (suc i) (suc j) le lt = rises_le ns (rises_tail n ns up) i j (omega arith) (omega arith)
 
+pub or_left : (a b : Bool) → a ≡ true → (a || b) ≡ true
+or_left true b h = refl
+or_left false b h = absurd (cc)
+
+pub or_right : (a b : Bool) → b ≡ true → (a || b) ≡ true
+or_right true b h = refl
+or_right false b h = h
+
+pub both_false : (a b : Bool) → a ≡ false → b ≡ false → (a || b) ≡ false
+both_false true b h k = h
+both_false false b h k = k
+
 found_here : (ns : List ℕ) (i n : ℕ) → i < length ns → get_or ns i 0 ≡ n → has_number ns n ≡ true
 found_here [] i n lt is = absurd (omega arith)
 found_here (m ∷ ms) zero n lt is = let e : eqb n m ≡ true = grind (arith, nat_tests, is) in ap (λ b. b || has_number ms n) e
 found_here (m ∷ ms) (suc i) n lt is = or_right (eqb n m) (has_number ms n) (found_here ms i n (omega arith) is)
-  where
-    or_right : (a b : Bool) → b ≡ true → (a || b) ≡ true
-    or_right true b h = refl
-    or_right false b h = h
 
 found_nowhere : (ns : List ℕ) (n : ℕ) → ((k : ℕ) → k < length ns → get_or ns k 0 ≢ n) → has_number ns n ≡ false
 found_nowhere [] n none = refl
 found_nowhere (m ∷ ms) n none =
     both_false (eqb n m) (has_number ms n) (let h = none 0 (omega arith) in grind (arith, nat_tests, h)) (found_nowhere ms n (λ k lt is. none (suc k) (omega arith) is))
-  where
-    both_false : (a b : Bool) → a ≡ false → b ≡ false → (a || b) ≡ false
-    both_false true b h k = h
-    both_false false b h k = k
 
 pub searched_number : (ns : List ℕ) (n : ℕ) (r : Result ℕ ℕ) → rises ns ≡ true → IsBinarySearchResult (λ y. nat_cmp y n) ns r → is_ok r ≡ has_number ns n
 searched_number ns n (Ok i) up found = let h = searched ns n (Ok i) found (rises_le ns up) in sym (found_here ns i n h.0 h.1)

@@ -122,10 +122,6 @@ abbrev pub ends_stay : List ℕ → Ends → Bool
 ends_stay ns (Directed s t) = not (has_number ns s.0) && not (has_number ns t.0)
 ends_stay ns (Undirected l h) = not (has_number ns l.0) && not (has_number ns h.0)
 
-not_false : (b : Bool) → not b ≡ true → b ≡ false
-not_false true h = sym h
-not_false false h = refl
-
 among_without : (ns : List ℕ) (nodes : List NodeRecord) (s : NodeId) → not (has_number ns s.0) ≡ true → is_among nodes s ≡ true → is_among (without node_key ns nodes) s ≡ true
 among_without ns nodes s out there =
     any-filter_same (λ (r : NodeRecord). eqb r.number.0 s.0) (λ (r : NodeRecord). not (has_number ns (node_key r))) true
@@ -233,23 +229,18 @@ module _ (g : PropertyGraph) (one : is_graph g ≡ true) where
   abbrev nodes_left : List ℕ → PropertyGraph
   nodes_left ns = with_nodes g (without node_key ns g.nodes) g.next_node
 
+  both_stay : (n : ℕ) (ns : List ℕ) (k m : ℕ) → (not (has_number (n ∷ ns) k) && not (has_number (n ∷ ns) m)) ≡ true → (not (has_number ns k) && not (has_number ns m)) ≡ true
+  both_stay n ns k m h =
+      let parts = and_parts (not (has_number (n ∷ ns) k)) (not (has_number (n ∷ ns) m)) h in
+      and_from (not (has_number ns k)) (not (has_number ns m)) (weaker (eqb k n) (has_number ns k) parts.0) (weaker (eqb m n) (has_number ns m) parts.1)
+    where
+      weaker : (a b : Bool) → not (a || b) ≡ true → not b ≡ true
+      weaker true b h = absurd (cc)
+      weaker false b h = h
+
   fewer_stay : (n : ℕ) (ns : List ℕ) (e : Ends) → ends_stay (n ∷ ns) e ≡ true → ends_stay ns e ≡ true
-  fewer_stay n ns (Directed s t) h =
-      and_from (not (has_number ns s.0)) (not (has_number ns t.0))
-      (weaker (eqb s.0 n) (has_number ns s.0) ((and_parts (not (has_number (n ∷ ns) s.0)) (not (has_number (n ∷ ns) t.0)) h).0))
-      (weaker (eqb t.0 n) (has_number ns t.0) ((and_parts (not (has_number (n ∷ ns) s.0)) (not (has_number (n ∷ ns) t.0)) h).1))
-    where
-      weaker : (a b : Bool) → not (a || b) ≡ true → not b ≡ true
-      weaker true b h = absurd (cc)
-      weaker false b h = h
-  fewer_stay n ns (Undirected s t) h =
-      and_from (not (has_number ns s.0)) (not (has_number ns t.0))
-      (weaker (eqb s.0 n) (has_number ns s.0) ((and_parts (not (has_number (n ∷ ns) s.0)) (not (has_number (n ∷ ns) t.0)) h).0))
-      (weaker (eqb t.0 n) (has_number ns t.0) ((and_parts (not (has_number (n ∷ ns) s.0)) (not (has_number (n ∷ ns) t.0)) h).1))
-    where
-      weaker : (a b : Bool) → not (a || b) ≡ true → not b ≡ true
-      weaker true b h = absurd (cc)
-      weaker false b h = h
+  fewer_stay n ns (Directed s t) h = both_stay n ns s.0 t.0 h
+  fewer_stay n ns (Undirected s t) h = both_stay n ns s.0 t.0 h
 
   pub nodes_out : (ns : List ℕ) → rises ns ≡ true → list_all (λ n. has_node g (record { 0 = n })) ns ≡ true → list_all (λ (r : EdgeRecord). ends_stay ns r.ends) g.edges ≡ true
       → (can_act_each (map node_out (reverse ns)) g ≡ true) × (changed_by_each (map node_out (reverse ns)) g ≡ nodes_left ns)

@@ -3,24 +3,20 @@ use Rattle.std.proofs.Common.{◌≡◌, ℕ, ◌≤◌, min, inl, inr, Bool, tr
 use Prim.{⊥}
 use Rattle.std.specs.Prelude.{option_map, nat_le, nat_lt, if◌then◌else◌}
 use Rattle.std.proofs.lemmas.Bool.Decides.{nat_tests}
+use Rattle.std.proofs.lemmas.Bool.{leb-true, ltb-false}
 use Rattle.gql_values3.specs.Texts.{same_text}
 use Rattle.gql_ast.specs.ClauseColumns.{ColumnList, is_column}
 use Rattle.gql_norm.specs.Selection.{Among}
 use Rattle.gql_norm.specs.JoinDefects.{Spot, earlier, earliest}
 use Rattle.gql_degrees.specs.Machinery.JoinWalk.{sooner, sooner_named, first_among}
-use Rattle.gql_degrees.proofs.PlaceLemmas.{same_self, same_is, place_of, least_of}
-
-le_of : (a b : ℕ) → nat_le a b ≡ true → a ≤ b
-le_of a b h = grind (arith, nat_tests)
+use Rattle.gql_degrees.proofs.PlaceLemmas.{same_is, place_of, least_of}
+use Rattle.gql_expr_checks.proofs.KnowingLemmas.{same_text-refl}
 
 ge_of : (a b : ℕ) → nat_le a b ≡ false → b ≤ a
 ge_of a b h = grind (arith, nat_tests)
 
 lt_of : (a b : ℕ) → nat_lt a b ≡ true → a ≤ b
 lt_of a b h = grind (arith, nat_tests)
-
-not_lt_of : (a b : ℕ) → nat_lt a b ≡ false → b ≤ a
-not_lt_of a b h = grind (arith, nat_tests)
 
 -- a place that is there and at or before another
 abbrev pub Below : Option ℕ → ℕ → Type 0
@@ -40,7 +36,7 @@ below_right (Some a) (Some b) n h = omega (arith, h)
 -- the least place of a name is one of its places, and none of them is before it
 pub least_reached : (L : List Spot) (s : Spot) → Among s L → Below (least_of s.1 L) s.0
 least_reached [] s i = absurd i
-least_reached (t ∷ ts) s (inl e) = subst (λ (z : Spot). Below (least_of z.1 (t ∷ ts)) z.0) (sym e) (below_left (place_of t.1 t) (least_of t.1 ts) t.0 (by (same_text t.1 t.1) (same_self t.1)))
+least_reached (t ∷ ts) s (inl e) = subst (λ (z : Spot). Below (least_of z.1 (t ∷ ts)) z.0) (sym e) (below_left (place_of t.1 t) (least_of t.1 ts) t.0 (by (same_text t.1 t.1) (same_text-refl t.1)))
   where
     at_itself : (n : ℕ) → n ≤ n
     at_itself n = omega arith
@@ -65,7 +61,7 @@ least_there x (s ∷ ss) a h = by (same_text x s.1) refl (λ k. least_there x ss
     this e k = inl (λ i. (k i, same_is x s.1 e i))
 
     lesser : (m n a : ℕ) → min m n ≡ a → (b : Bool) → nat_le m n ≡ b → (a ≡ m → Among (a, x) (s ∷ ss)) → (a ≡ n → Among (a, x) (s ∷ ss)) → Among (a, x) (s ∷ ss)
-    lesser m n a h true k f g = let l = le_of m n k in f (omega (arith, h, l))
+    lesser m n a h true k f g = let l = leb-true m n k in f (omega (arith, h, l))
     lesser m n a h false k f g = let l = ge_of m n k in g (omega (arith, h, l))
 
     by : (b : Bool) → same_text x s.1 ≡ b → (least_of x ss ≡ Some a → Among (a, x) ss) → (o : Option ℕ) → least_of x ss ≡ o → sooner (if b then Some s.0 else None) o ≡ Some a → Among (a, x) (s ∷ ss)
@@ -80,7 +76,7 @@ IsEarliest L None = (s : Spot) → Among s L → ⊥
 IsEarliest L (Some s) = Among s L × ((t : Spot) → Among t L → s.0 ≤ t.0)
 
 earlier_is : (s t : Spot) (b : Bool) → nat_le s.0 t.0 ≡ b → Among (if b then s else t) (s ∷ t ∷ []) × ((if b then s else t).0 ≤ s.0) × ((if b then s else t).0 ≤ t.0)
-earlier_is s t true h = (inl refl, omega arith, le_of s.0 t.0 h)
+earlier_is s t true h = (inl refl, omega arith, leb-true s.0 t.0 h)
 earlier_is s t false h = (inr (inl refl), ge_of s.0 t.0 h, omega arith)
 
 among_two : (s t u : Spot) (ss : List Spot) → Among u (s ∷ t ∷ []) → Among u (s ∷ t ∷ ss)
@@ -170,7 +166,7 @@ module _ (L : List Spot) where
     where
       by : (b : Bool) → nat_lt a s.0 ≡ b → Below (place_in (if b then Some (a, x) else Some s)) n
       by true e = h
-      by false e = at_most s.0 a n (not_lt_of a s.0 e) h
+      by false e = at_most s.0 a n (ltb-false a s.0 e) h
 
   some_below : (best : Option Spot) (o : Option ℕ) (x : List ℕ) (n : ℕ) → Below o n → Below (place_in (sooner_named best o x)) n
   some_below best None x n h = absurd h

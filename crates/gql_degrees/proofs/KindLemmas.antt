@@ -1,6 +1,6 @@
 -- The first clash by names of nodes and of edges is the first of the definition. The key: what is declared is a node or an
 -- edge, so a declaration clashes with one before where that is of the other sort.
-use Rattle.std.proofs.Common.{◌≡◌, ℕ, ◌+◌, Bool, true, false, not, ◌&&◌, ◌||◌, List, [], ◌∷◌, ◌++◌, map, flat_map, find, Option, Some, None, refl, sym, ap, ◌∙◌, arith}
+use Rattle.std.proofs.Common.{◌≡◌, ℕ, ◌+◌, Bool, true, false, not, ◌&&◌, ◌||◌, List, [], ◌∷◌, ◌++◌, map, flat_map, find, Option, Some, None, refl, sym, ap, ◌∙◌}
 use Rattle.std.specs.Prelude.{option_map, if◌then◌else◌}
 use Rattle.std.specs.List.{list_any}
 use Rattle.std.proofs.lemmas.List.{map-append}
@@ -13,11 +13,9 @@ use Rattle.gql_expr_checks.specs.First.{first}
 use Rattle.gql_norm.specs.NormalPattern.{NormalPath, NormalPattern}
 use Rattle.gql_norm.specs.Declaration.{Declared, declarations}
 use Rattle.gql_norm.specs.Selection.{Each}
-use Rattle.gql_norm.specs.Places.{size}
 use Rattle.gql_norm.specs.WrongKinds.{is_kind, is_other_kind, clashes, wrong_among}
-use Rattle.gql_norm.proofs.ColumnLemmas.{without_place, all_seen}
-use Rattle.gql_norm.proofs.EachLemmas.{each_append}
-use Rattle.gql_norm.proofs.NameKinds.{declared_elements}
+use Rattle.gql_norm.proofs.ColumnLemmas.{without_place, declarations_seen}
+use Rattle.gql_norm.proofs.NameKinds.{all_elements}
 use Rattle.gql_norm.proofs.PositionKinds.{IsElement}
 use Rattle.gql_degrees.specs.FirstFaults.{first_wrong_kind}
 use Rattle.gql_degrees.specs.Machinery.KindWalk.{Before, none_before, needs_other, clashes_with, and_declared, first_clash, declared_in_all_paths}
@@ -84,11 +82,7 @@ all_declared_in : (ps : List NormalPath) → map without_place (flat_map (λ (q 
 all_declared_in [] = refl
 all_declared_in (p ∷ ps) =
     map-append without_place (declarations p.body) (flat_map (λ (q : NormalPath). declarations q.body) ps)
-    ∙ (λ i. all_seen p.body 0 [] (0 + size p.body) (omega arith) i ++ all_declared_in ps i)
-
-all_elements : (ps : List NormalPath) → Each (λ (d : Declared). IsElement d.kind) (flat_map (λ (q : NormalPath). declarations q.body) ps)
-all_elements [] = tt
-all_elements (p ∷ ps) = each_append (λ (d : Declared). IsElement d.kind) (declarations p.body) (flat_map (λ (q : NormalPath). declarations q.body) ps) (declared_elements p.body) (all_elements ps)
+    ∙ (λ i. declarations_seen p.body i ++ all_declared_in ps i)
 
 pub first_is : (columns : ColumnList) (p : NormalPattern) → first_clash columns none_before (declared_in_all_paths p.paths) ≡ first_wrong_kind columns p
 first_is columns p =

@@ -1,20 +1,22 @@
 -- The names that a part declares, with their places: in the order of the text, each at a place of its own.
 use Rattle.std.proofs.Common.{◌≡◌, ℕ, suc, ◌+◌, ◌≤◌, Bool, true, false, ◌||◌, List, [], ◌∷◌, ◌++◌, map, is_some, Option, Some, None, refl, sym, ap, ◌∙◌, arith}
 use Rattle.std.specs.Prelude.{nat_le, option_map, if◌then◌else◌}
-use Rattle.std.proofs.lemmas.Bool.Decides.{nat_tests}
 use Rattle.std.proofs.lemmas.List.{map-append}
+use Rattle.std.proofs.lemmas.Bool.{le-leb}
 use Rattle.gql_values3.specs.Texts.{same_text}
 use Rattle.gql_values3.specs.declared.table.ColumnKind.{ColumnKind}
 use Rattle.gql_values3.specs.declared.table.ColumnKind.TheVariants as kind
 use Rattle.gql_norm.specs.declared.degree.Degree.{Degree}
-use Rattle.gql_norm.specs.declared.degree.Degree.TheVariants.{Singleton, Conditional, Group}
+use Rattle.gql_norm.specs.declared.degree.Degree.TheVariants.{Singleton, Group}
 use Rattle.gql_norm.specs.NormalPattern.{Part, Node, Edge, Concat, Union, Alt, Quant, Opt, Scope, Sides, NoSide, Side, NormalPath}
-use Rattle.gql_norm.specs.Places.{size, size_all, is_inside}
-use Rattle.gql_norm.specs.Degree.{element_degree, joint, beside, beside_all, under_optional, degree_of, degrees_of}
+use Rattle.gql_norm.specs.Places.{size, size_all}
+use Rattle.gql_norm.specs.Degree.{element_degree, beside_all, under_optional, degree_of, degrees_of}
 use Rattle.gql_norm.specs.Declaration.{Declared, visible, visible_sides, declaration, all_declared}
 use Rattle.gql_norm.specs.JoinDefects.{Spot, first_place, declared_in_paths}
 use Rattle.gql_degrees.specs.Machinery.JoinWalk.{former}
 use Rattle.gql_degrees.proofs.PlaceLemmas.{first_named, spot_of, first_append, first_place-spots}
+use Rattle.gql_norm.proofs.VisibleLemmas.{left_behind}
+use Rattle.gql_norm.proofs.KnownDegrees.{joint_known, beside_known}
 
 abbrev pub variable_at : Option (List ℕ) → ℕ → List Spot
 variable_at None a = []
@@ -39,15 +41,9 @@ abbrev pub named_in_paths : List NormalPath → ℕ → List Spot
 named_in_paths [] a = []
 named_in_paths (p ∷ ps) a = named_in p.body a ++ named_in_paths ps (a + suc (size p.body))
 
-at_or_before : (a x : ℕ) → a + 1 ≤ x → nat_le a x ≡ true
-at_or_before a x h = grind (arith, nat_tests)
-
-not_inside : (entry others x : ℕ) → entry + others ≤ x → is_inside entry others x ≡ false
-not_inside entry others x h = grind (arith, nat_tests)
-
 one_named : (k : ColumnKind) (a : ℕ) (qs : List ℕ) (v : Option (List ℕ)) (x : ℕ) → a + 1 ≤ x → map spot_of (declaration k a qs v (nat_le a x)) ≡ variable_at v a
-one_named k a qs None x h = ap (λ b. map spot_of (declaration k a qs None b)) (at_or_before a x h)
-one_named k a qs (Some y) x h = ap (λ b. map spot_of (declaration k a qs (Some y) b)) (at_or_before a x h)
+one_named k a qs None x h = ap (λ b. map spot_of (declaration k a qs None b)) (le-leb a x (omega arith))
+one_named k a qs (Some y) x h = ap (λ b. map spot_of (declaration k a qs (Some y) b)) (le-leb a x (omega arith))
 
 both_named : (xs ys : List Declared) (ss ts : List Spot) → map spot_of xs ≡ ss → map spot_of ys ≡ ts → map spot_of (xs ++ ys) ≡ ss ++ ts
 both_named xs ys ss ts h k = map-append spot_of xs ys ∙ (λ i. h i ++ k i)
@@ -61,7 +57,7 @@ mutual
   all_named (Concat p r) a qs x h =
       both_named (visible p a qs x) (visible r (a + size p) qs x) (named_in p a) (named_in r (a + size p)) (all_named p a qs x (omega arith)) (all_named r (a + size p) qs x (omega arith))
   all_named (Union p r) a qs x h =
-      ap (λ b. map spot_of (if b then visible r (a + size p + 2) qs x else visible p (a + 1) qs x ++ visible r (a + size p + 2) qs x)) (not_inside (a + size p + 2) (size r) x (omega arith))
+      ap (λ b. map spot_of (if b then visible r (a + size p + 2) qs x else visible p (a + 1) qs x ++ visible r (a + size p + 2) qs x)) (left_behind (a + size p + 2) (size r) x (omega arith))
       ∙ both_named (visible p (a + 1) qs x) (visible r (a + size p + 2) qs x) (named_in p (a + 1)) (named_in r (a + size p + 2)) (all_named p (a + 1) qs x (omega arith)) (all_named r (a + size p + 2) qs x (omega arith))
   all_named (Alt ss) a qs x h = all_named_sides ss (a + 1) qs x (omega arith)
   all_named (Quant b l n) a qs x h = all_named b (a + 2) (a ∷ qs) x (omega arith)
@@ -71,7 +67,7 @@ mutual
   all_named_sides : (ss : Sides) (b : ℕ) (qs : List ℕ) (x : ℕ) → b + size_all ss ≤ x → map spot_of (visible_sides ss b qs x) ≡ named_in_sides ss b
   all_named_sides NoSide b qs x h = refl
   all_named_sides (Side p ss) b qs x h =
-      ap (λ c. map spot_of (if c then visible_sides ss (b + size p + 1) qs x else visible p b qs x ++ visible_sides ss (b + size p + 1) qs x)) (not_inside (b + size p + 1) (size_all ss) x (omega arith))
+      ap (λ c. map spot_of (if c then visible_sides ss (b + size p + 1) qs x else visible p b qs x ++ visible_sides ss (b + size p + 1) qs x)) (left_behind (b + size p + 1) (size_all ss) x (omega arith))
       ∙ both_named (visible p b qs x) (visible_sides ss (b + size p + 1) qs x) (named_in p b) (named_in_sides ss (b + size p + 1)) (all_named p b qs x (omega arith)) (all_named_sides ss (b + size p + 1) qs x (omega arith))
 
 pub declared_named : (p : Part) (a : ℕ) → map spot_of (all_declared p a) ≡ named_in p a
@@ -90,26 +86,6 @@ pub first_place_in_paths : (x : List ℕ) (ps : List NormalPath) (a : ℕ) → f
 first_place_in_paths x ps a = first_place-spots x (declared_in_paths ps a) ∙ ap (first_named x) (declared_named_paths ps a)
 
 -- a name that is declared has a degree, and no other has one
-some_joint : (a b : Option Degree) → is_some (joint a b) ≡ (is_some a || is_some b)
-some_joint None b = refl
-some_joint (Some a) None = refl
-some_joint (Some a) (Some b) = refl
-
-some_beside : (a b : Option Degree) → is_some (beside a b) ≡ (is_some a || is_some b)
-some_beside None None = refl
-some_beside None (Some Singleton) = refl
-some_beside None (Some Conditional) = refl
-some_beside None (Some Group) = refl
-some_beside (Some Singleton) None = refl
-some_beside (Some Singleton) (Some Singleton) = refl
-some_beside (Some Singleton) (Some Conditional) = refl
-some_beside (Some Singleton) (Some Group) = refl
-some_beside (Some Conditional) None = refl
-some_beside (Some Conditional) (Some Singleton) = refl
-some_beside (Some Conditional) (Some Conditional) = refl
-some_beside (Some Conditional) (Some Group) = refl
-some_beside (Some Group) b = refl
-
 some_former : (a b : Option ℕ) → is_some (former a b) ≡ (is_some a || is_some b)
 some_former None b = refl
 some_former (Some a) b = refl
@@ -143,10 +119,10 @@ mutual
   named_some x (Edge d w) a = some_element x w.variable a
   named_some x (Concat p r) a =
       some_first x (named_in p a) (named_in r (a + size p)) (is_some (degree_of p x)) (is_some (degree_of r x)) (named_some x p a) (named_some x r (a + size p))
-      ∙ sym (some_joint (degree_of p x) (degree_of r x))
+      ∙ sym (joint_known (degree_of p x) (degree_of r x))
   named_some x (Union p r) a =
       some_first x (named_in p (a + 1)) (named_in r (a + size p + 2)) (is_some (degree_of p x)) (is_some (degree_of r x)) (named_some x p (a + 1)) (named_some x r (a + size p + 2))
-      ∙ sym (some_beside (degree_of p x) (degree_of r x))
+      ∙ sym (beside_known (degree_of p x) (degree_of r x))
   named_some x (Alt ss) a = named_some_sides x ss (a + 1)
   named_some x (Quant b l n) a = named_some x b (a + 2) ∙ some_group (degree_of b x)
   named_some x (Opt b) a = named_some x b (a + 1) ∙ some_optional (degree_of b x)
@@ -157,4 +133,4 @@ mutual
   named_some_sides x (Side p NoSide) b = some_first x (named_in p b) [] (is_some (degree_of p x)) false (named_some x p b) refl ∙ or_false (is_some (degree_of p x))
   named_some_sides x (Side p (Side r ss)) b =
       some_first x (named_in p b) (named_in_sides (Side r ss) (b + size p + 1)) (is_some (degree_of p x)) (is_some (beside_all (degrees_of (Side r ss) x))) (named_some x p b) (named_some_sides x (Side r ss) (b + size p + 1))
-      ∙ sym (some_beside (degree_of p x) (beside_all (degrees_of (Side r ss) x)))
+      ∙ sym (beside_known (degree_of p x) (beside_all (degrees_of (Side r ss) x)))

@@ -1,7 +1,6 @@
 -- Places at fault of one name: the least of those in a list, and how lists are put together.
-use Rattle.std.proofs.Common.{◌≡◌, ℕ, min, Bool, true, false, ◌||◌, ◌&&◌, List, [], ◌∷◌, ◌++◌, map, flat_map, find, is_some, nat_eq, Option, Some, None, refl, sym, ap, ◌∙◌, arith}
+use Rattle.std.proofs.Common.{◌≡◌, ℕ, min, Bool, true, false, ◌||◌, List, [], ◌∷◌, ◌++◌, map, flat_map, find, is_some, Option, Some, None, refl, sym, ap, ◌∙◌, arith}
 use Rattle.std.specs.Prelude.{option_map, if◌then◌else◌}
-use Rattle.std.proofs.lemmas.Bool.Decides.{nat_tests}
 use Rattle.std.specs.Cmp.Lexicographic.{same_text as is_same}
 use Rattle.gql_values3.specs.Texts.{same_text}
 use Rattle.gql_norm.specs.Declaration.{Declared}
@@ -57,13 +56,6 @@ place_if-either true false place = sym (sooner_none place)
 place_if-either false c place = refl
 
 -- a name is itself, and a name that is the same is the name
-pub same_self : (x : List ℕ) → same_text x x ≡ true
-same_self [] = refl
-same_self (n ∷ x) = ap (λ b. b && same_text x x) (itself n) ∙ same_self x
-  where
-    itself : (n : ℕ) → nat_eq n n ≡ true
-    itself n = grind (arith, nat_tests)
-
 pub same_is : (x y : List ℕ) → same_text x y ≡ true → x ≡ y
 same_is x y h = is_same x y (sym h)
 

@@ -10,8 +10,9 @@ use Rattle.gql_norm.specs.Degree.{degree_of}
 use Rattle.gql_norm.specs.Declaration.{Declared, all_declared}
 use Rattle.gql_norm.specs.JoinDefects.{first_place, spot_by, spot_in, spots_in_row, spots_in_later}
 use Rattle.gql_degrees.specs.Machinery.JoinWalk.{sooner, place_if, Before, none_before, and_degree, is_behind_fault, are_both_faulty}
-use Rattle.gql_degrees.proofs.PlaceLemmas.{sooner_cross, place_if-none, place_if-either, same_self, least_of, least_append, least_of_each, first_named, spot_of}
+use Rattle.gql_degrees.proofs.PlaceLemmas.{sooner_cross, place_if-none, place_if-either, least_of, least_append, least_of_each, first_named, spot_of}
 use Rattle.gql_degrees.proofs.NamedLemmas.{named_in, first_place_is, declared_named, named_some}
+use Rattle.gql_expr_checks.proofs.KnowingLemmas.{same_text-refl}
 
 -- the least place of a row, and of path patterns, whose degree passes a test
 module _ (q : Option Degree → Bool) (x : List ℕ) where
@@ -136,7 +137,7 @@ module _ (f : Degree → Degree → Bool) where
       one false h = absurd (cc)
 
       by : (b : Bool) → least_of x (if b then (a, x) ∷ [] else []) ≡ place_if b (Some a)
-      by true = one (same_text x x) (same_self x)
+      by true = one (same_text x x) (same_text-refl x)
       by false = refl
 
   pub spot_other : (x y : List ℕ) → same_text x y ≡ false → (d e : Option Degree) (place : Option ℕ) → least_of x (spot_by f y d e place) ≡ None

@@ -2,6 +2,8 @@ mod ChangeLemmas
 mod HeldLemmas
 mod MemoryLemmas
 mod MergeLemmas
+mod PairLemmas
+mod ScanLemmas
 mod SearchLemmas
 mod TransactionLemmas
 mod WrittenLemmas

@@ -1,12 +1,17 @@
 -- A transaction, statement by statement: what ran before and one more, and that none of them commits.
-use Rattle.std.proofs.Common.{◌≡◌, ℕ, ◌+◌, ◌<◌, List, [], ◌∷◌, ◌++◌, length, map, take, get_or, Result, Ok, Err, inl, inr, refl, sym, ◌∙◌, ap, subst}
+use Rattle.std.proofs.Common.{◌≡◌, ℕ, ◌+◌, ◌<◌, true, IsTrue, List, [], ◌∷◌, ◌++◌, length, map, take, get_or, Result, Ok, Err, inl, inr, refl, sym, ◌∙◌, ap, subst, arith}
 use Rattle.std.proofs.lemmas.List.{take_more, map_push}
 use Rattle.sqlite.specs.declared.types.Value.{Value}
 use Rattle.sqlite.specs.Store.{Ghosts}
 use Rattle.sqlite.specs.declared.error.Error.{Error}
-use Rattle.sqlite.specs.State.{State, KeepsCommit, IsUnchanged, IsRolledBack, Executes, ExecutesInside}
+use Rattle.sqlite.specs.Tree.{Trees}
+use Rattle.sqlite.specs.Effect.{Database}
+use Rattle.sqlite.specs.State.{State, HasCleanDisk, KeepsCommit, IsUnchanged, IsRolledBack, Survives, Executes, ExecutesInside}
 use Rattle.sqlite.specs.Held.{Held, state}
-use Rattle.gql_keep_sql.specs.Transaction.{Step, Ran}
+use Rattle.sqlite.proofs.StateLemmas.{survives_then}
+use Rattle.sqlite.proofs.Callers.{survives_begin}
+use Rattle.gql_ports.specs.declared.stored.Record.{Record}
+use Rattle.gql_keep_sql.specs.Transaction.{Step, put_step, drop_step, Ran, Rewrote}
 
 pub ran_then : {S : Type 0} (g : Ghosts S) (xs ys : List Step) (a b c : Held S) → Ran g xs a b → Ran g ys b c → Ran g (xs ++ ys) a c
 ran_then g [] ys a b c one two = subst (λ h. Ran g ys h c) one two
@@ -34,3 +39,26 @@ inside_keeps sql params a b (Err e) (inr it) = shows_keeps a b it.2
 -- the steps of one item more
 pub map_more : {X : Type 0} (f : X → Step) (xs : List X) (i : ℕ) (x : X) → i < length xs → x ≡ get_or xs i x → map f (take (i + 1) xs) ≡ map f (take i xs) ++ f x ∷ []
 map_more f xs i x below is = ap (map f) (take_more xs i x below) ∙ map_push f (take i xs) (get_or xs i x) ∙ ap (λ y. map f (take i xs) ++ f y ∷ []) (sym is)
+
+-- the statements of a call ran inside a transaction, and a crash of it leaves what was left before
+pub record RanInside {S : Type 0} (g : Ghosts S) (steps : List Step) (old new : Held S) : Type 0 where
+  pub ran : HasCleanDisk (state g new) → IsTrue (state g old).in_transaction → Ran g steps old new × IsTrue (state g new).in_transaction
+  pub survives : Survives (state g old) (state g new) (λ _. ⊥)
+
+-- all puts and then all drops ran, from the beginning of a transaction on
+module _ {S : Type 0} (g : Ghosts S) (puts : List Record) (drops : List (List ℕ)) (old first mid last : Held S) (begun : first ≡ record old { in_transaction = true })
+    (one : RanInside g (map put_step puts) first mid) (two : RanInside g (map drop_step drops) mid last) where
+  -- what the connection sees then is what they made
+  pub rewrote : HasCleanDisk (state g last) → Rewrote g puts drops old (state g last).now
+  rewrote clean =
+      let put = one.ran (omega (arith, two.survives.clean)) (rw begun refl) in
+      let dropped = two.ran clean put.1 in record { last = last; ran = ran_then g _ _ _ _ last (rw begun at put.0) dropped.0; is = refl }
+
+  -- a crash leaves what was left before, or where it comes into the commit, all of it
+  pub rewrites_or_not : (end : Held S) → Survives (state g last) (state g end) (λ trees. trees ≡ (state g last).now.trees)
+      → Survives (state g old) (state g end) (λ trees. (db : Database) × Rewrote g puts drops old db × (trees ≡ db.trees))
+  rewrites_or_not end ended =
+      let All = λ (trees : Trees). (db : Database) × Rewrote g puts drops old db × (trees ≡ db.trees) in
+      let inside = survives_then (state g first) (state g mid) (state g last) _ _ (λ _. ⊥) (λ _ db none. none) (λ _ db none. none) one.survives two.survives in
+      survives_then (state g old) (state g last) (state g end) _ _ All (λ _ db none. absurd none) (λ clean db is. (_, rewrote (omega (arith, ended.clean)), is))
+      (survives_begin g old (state g last) _ (rw begun at inside)) ended

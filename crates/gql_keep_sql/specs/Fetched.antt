@@ -1,5 +1,6 @@
 -- What a fetch reads: the value that the store has under a key, in a row of SQLite's answer to a query for records.
-use Rattle.std.specs.Prelude.{◌≡◌, ◌⊎◌, ℕ, List, [], ◌∷◌, map, slice_get, Some, codes, Contains, IsPermutation}
+use Rattle.std.specs.Prelude.{◌≡◌, ◌⊎◌, ℕ, List, [], ◌∷◌, map, slice_get, Some, codes, Contains, IsPermutation, All}
+use Rattle.std.specs.List.{AllZip}
 use Rattle.sqlite.specs.declared.types.Value.{Value}
 use Rattle.sqlite.specs.declared.types.Value.TheVariants.{Blob}
 use Rattle.sqlite.specs.Order.{column}
@@ -35,13 +36,21 @@ abbrev pub IsSelected : List Value → Place → Place → Type 0
 IsSelected row (File name old) (File new_name new) = (new_name ≡ name) × (HasCleanDisk (state over_files new) → Selects over_files row old new)
 IsSelected row _ _ = ⊥
 
--- each of these rows
-abbrev pub Each : List (List Value) → (List Value → Type 0) → Type 0
-Each rows P = (at : ℕ) (row : List Value) → slice_get rows at ≡ Some row → P row
+-- the row has the record's key and its value
+abbrev pub HasRecord : List Value → Record → Type 0
+HasRecord row r = (column row 0 ≡ Blob r.key) × (column row 1 ≡ Blob r.value)
 
--- each of these rows was selected, and since then nothing was asked of the place: it is as that query left it
-abbrev pub AreHeld : List (List Value) → Place → Type 0
-AreHeld rows place = Each rows (λ row. (before : Place) × IsSelected row before place)
+-- the records are those of rows of which this holds, row by row, where the disk has given back what was written
+abbrev pub AreRead : {S : Type 0} → Ghosts S → List Record → Held S → (List (List Value) → Type 0) → Type 0
+AreRead g records new Answer = (rows : List (List Value)) × AllZip HasRecord rows records × (HasCleanDisk (state g new) → Answer rows)
+
+-- the record is that of a row of which this holds
+abbrev pub IsInRow : (List Value → Type 0) → Record → Type 0
+IsInRow P r = (row : List Value) × HasRecord row r × P row
+
+-- the row of each of these records was selected, and since then nothing was asked of the place: it is as that query left it
+abbrev pub AreReadAhead : List Record → Place → Type 0
+AreReadAhead records place = All (IsInRow (λ row. (before : Place) × IsSelected row before place)) records
 
 -- a row was selected from what a place was before a call, or it was before that call, which then asked nothing of the place
 pub record IsFound (row : List Value) (old new : Place) : Type 0 where
@@ -74,6 +83,13 @@ AreSelected rows _ _ = ⊥
 -- the key's column of a row
 abbrev pub first_column : List Value → Value
 first_column row = column row 0
+
+-- these are all records of the place: those of the rows that the query for all of them was answered by, and since then nothing was asked of the place
+pub record AreAllRecords (records : List Record) (place : Place) : Type 0 where
+  pub rows : List (List Value)
+  pub before : Place
+  pub selected : AreSelected rows before place
+  pub are : AllZip HasRecord rows records
 
 -- these are the keys of all records of the place: of the rows that the query for all of them was answered by, and since then nothing was asked of the place
 pub record AreAllKeys (keys : List (List ℕ)) (place : Place) : Type 0 where

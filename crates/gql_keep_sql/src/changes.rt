@@ -49,7 +49,7 @@ impl Changes {
         ensures put { IfOk result (λ o. IfSome o (λ changes. (key : List ℕ) → is_put_in changes key ≡ has_key (keys_of puts.now) key)) }
         ensures changed { IfOk result (λ o. IfSome o (λ changes. (key : List ℕ) → is_changed_in changes key ≡ (has_key (keys_of puts.now) key || has_key drops.now key))) }
     {
-        let mut items = Vec::new(alloc);
+        let mut items = Vec::with_capacity(alloc, puts.len().saturating_add(drops.len()))?;
         push_puts(alloc, &mut items, puts)?;
         push_drops(alloc, &mut items, drops)?;
         items.sort_by(|a, b| a.key.as_slice().cmp(b.key.as_slice()))?;

@@ -4,14 +4,16 @@ ghost use Rattle.std.specs.Prelude.{◌≡◌, ◌≤◌, ◌+◌, ◌++◌, ℕ
 ghost use Rattle.std.specs.Vec.{vec_len, vec_capacity};
 ghost use Rattle.std.specs.Option.{option_copied};
 ghost use Rattle.gql_values3.specs.Texts.{texts_ascend};
-ghost use Rattle.gql_keep_sql.specs.Keys.{has_key};
+ghost use Rattle.gql_ports.specs.Held.{keys_ascend};
+ghost use Rattle.gql_keep_sql.specs.Keys.{has_key, keys_of};
 ghost use Rattle.gql_keep_sql.specs.Machinery.Merge.{stands_under, merged, below, above};
 
-use crate::changes::{Change, Changes};
+use crate::changes::{Change, Changes, copy_key};
 use crate::fault::NO_MEMORY;
-use gql_ports::Key;
+use gql_ports::{Key, Record};
+use gql_values3::keys_ascend;
 use sqlite::Error;
-use std::alloc::Global;
+use std::alloc::{AllocError, Global};
 use std::cmp::Ordering;
 use std::marker::Model;
 use std::mem;
@@ -42,15 +44,16 @@ impl Keys {
         }
     }
 
-    /// These keys, or None where they do not strictly ascend by bytes.
-    pub fn from_vec(items: Vec<Key>) -> Option<Keys>
-        ensures { result ≡ (if texts_ascend items.items then Some items.items else None) }
+    /// Copies of the records' keys, or None where they do not strictly ascend by bytes.
+    pub fn of(alloc: Global, records: &[Record]) -> Result<Option<Keys>, AllocError>
+        ensures { IfOk result (λ o. o ≡ (if keys_ascend records.now then Some (keys_of records.now) else None)) }
     {
-        if ascend(items.as_slice()) {
-            Some(Keys { items })
-        } else {
-            None
+        if !keys_ascend(records) {
+            return Ok(None);
         }
+        Ok(Some(Keys {
+            items: copies(alloc, records)?,
+        }))
     }
 
     pub fn len(&self) -> usize
@@ -89,21 +92,14 @@ impl Keys {
     }
 }
 
-fn ascend(keys: &[Key]) -> bool
-    ensures { result ≡ texts_ascend keys.now }
+fn copies(alloc: Global, records: &[Record]) -> Result<Vec<Key>, AllocError>
+    ensures { IfOk result (λ keys. keys.items ≡ keys_of records.now) }
 {
-    let Some((first, rest)) = keys.split_first() else {
-        return true;
-    };
-    let mut low = first.as_slice();
-    for key in rest {
-        let next = key.as_slice();
-        if low.cmp(next) != Ordering::Less {
-            return false;
-        }
-        low = next;
+    let mut keys = Vec::with_capacity(alloc, records.len())?;
+    for record in records {
+        keys.push(copy_key(alloc, &record.key)?)?;
     }
-    true
+    Ok(keys)
 }
 
 /// Moves the keys to `into`, put and dropped as the changes say, in one go over both lists.

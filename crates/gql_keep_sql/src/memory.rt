@@ -62,7 +62,7 @@ fn copies(alloc: Global, records: &[Record], more: usize) -> Result<Vec<Record>,
     ensures items { IfOk result (λ copies. copies.items ≡ records.now) }
     ensures room { IfOk result (λ copies. vec_len copies + more ≤ vec_capacity copies) }
 {
-    let mut copies = Vec::new(alloc);
+    let mut copies = Vec::with_capacity(alloc, records.len().saturating_add(more))?;
     for record in records {
         copies.push(copy_record(alloc, record)?)?;
     }

@@ -1,15 +1,15 @@
 //! Where the records of a store are: in a file, in memory, or nowhere yet.
 
-ghost use Rattle.std.specs.Prelude.{◌≡◌, Some, None, IfOk, IfSome, IsTrue, is_ok};
+ghost use Rattle.std.specs.Prelude.{◌≡◌, Some, None, IfOk, IfSome, IsTrue, is_ok, All};
 ghost use Rattle.std.specs.Option.{option_copied};
-ghost use Rattle.gql_keep_sql.specs.Fetched.{IsSelected, Each, AreSelected, IsHeld};
+ghost use Rattle.gql_keep_sql.specs.Fetched.{IsSelected, IsInRow, AreAllRecords, IsHeld};
 ghost use Rattle.gql_keep_sql.specs.Places.{IsUnder};
 ghost use Rattle.gql_keep_sql.specs.Written.{Writes};
 
 use crate::fault::CLOSED;
 use crate::{memory, store, transaction};
 use gql_ports::{Key, Record};
-use sqlite::{Connection, Error, FileFrom, FileStore, Row, Wary};
+use sqlite::{Connection, Error, FileFrom, FileStore, Wary};
 use std::alloc::Global;
 
 /// A database file, whose commits survive a power cut whatever a torn write leaves.
@@ -26,14 +26,14 @@ pub enum Place {
 }
 
 impl Place {
-    /// Opens the named file, or memory where there is no name, and reads all records, in ascending order of their keys.
+    /// Opens the named file, or memory where there is no name, and reads all records, in the order in which they lie.
     pub fn open(
         rt: &HostRuntime,
         alloc: Global,
         name: Option<&str>,
-    ) -> Result<(Place, Vec<Row>), Error>
+    ) -> Result<(Place, Vec<Record>), Error>
         ensures under { IfOk result (λ opened. IsUnder (option_copied name.entry) opened.0) }
-        ensures selected { IfOk result (λ opened. (before : Place) × AreSelected opened.1.items before opened.0) }
+        ensures all { IfOk result (λ opened. AreAllRecords opened.1.items opened.0) }
     {
         match name {
             Some(name) => open_file(rt, alloc, name),
@@ -62,14 +62,14 @@ impl Place {
         }
     }
 
-    /// The rows of a run of records, from that key on.
-    pub fn select(&mut self, from: &Key) -> Result<Vec<Row>, Error>
-        ensures { IfOk result (λ rows. Each rows.items (λ row. IsSelected row self.old self.new)) }
+    /// A run of records, from that key on.
+    pub fn select(&mut self, alloc: Global, from: &Key) -> Result<Vec<Record>, Error>
+        ensures { IfOk result (λ records. All (IsInRow (λ row. IsSelected row self.old self.new)) records.items) }
     {
         match self {
             Place::Nowhere => Err(CLOSED),
             Place::Memory(_) => Err(CLOSED),
-            Place::File(_, conn) => Ok(store::select(conn, from)?),
+            Place::File(_, conn) => Ok(store::select(alloc, conn, from)?),
         }
     }
 
@@ -94,15 +94,15 @@ impl Place {
     }
 }
 
-fn open_file(rt: &HostRuntime, alloc: Global, name: &str) -> Result<(Place, Vec<Row>), Error>
+fn open_file(rt: &HostRuntime, alloc: Global, name: &str) -> Result<(Place, Vec<Record>), Error>
     ensures under { IfOk result (λ opened. IsUnder (Some name.now) opened.0) }
-    ensures selected { IfOk result (λ opened. (before : Place) × AreSelected opened.1.items before opened.0) }
+    ensures all { IfOk result (λ opened. AreAllRecords opened.1.items opened.0) }
 {
     let own = String::from_str(alloc, name)?;
     let mut conn = connect(rt, name)?;
     store::establish(&mut conn)?;
-    let rows = store::select_all(&mut conn)?;
-    Ok((Place::File(own, conn), rows))
+    let records = store::select_all(alloc, &mut conn)?;
+    Ok((Place::File(own, conn), records))
 }
 
 fn connect(rt: &HostRuntime, path: &str) -> Result<FileConnection, Error> {
@@ -112,9 +112,9 @@ fn connect(rt: &HostRuntime, path: &str) -> Result<FileConnection, Error> {
     }
 }
 
-fn open_memory(alloc: Global) -> (Place, Vec<Row>)
+fn open_memory(alloc: Global) -> (Place, Vec<Record>)
     ensures under { IsUnder None result.0 }
-    ensures selected { (before : Place) × AreSelected result.1.items before result.0 }
+    ensures all { AreAllRecords result.1.items result.0 }
 {
     (Place::Memory(Vec::new(alloc)), Vec::new(alloc))
 }

@@ -1,8 +1,8 @@
 //! The place of a store, and a run of the records of a file that was read ahead: all of them behind an opening, 64 later on.
 
-ghost use Rattle.std.specs.Prelude.{◌≡◌, ℕ, Some, IfOk, IfSome, OnOk, IsTrue, is_ok, slice_get};
+ghost use Rattle.std.specs.Prelude.{◌≡◌, IfOk, IfSome, OnOk, IsTrue, is_ok, All, Contains};
 ghost use Rattle.std.specs.Option.{option_copied};
-ghost use Rattle.gql_keep_sql.specs.Fetched.{Each, AreHeld, IsFound, Fetches, AreAllKeys};
+ghost use Rattle.gql_keep_sql.specs.Fetched.{IsInRow, AreReadAhead, IsFound, Fetches, AreAllKeys};
 ghost use Rattle.gql_keep_sql.specs.Places.{IsUnder};
 ghost use Rattle.gql_keep_sql.specs.Written.{Writes};
 
@@ -11,18 +11,18 @@ use crate::keys::Keys;
 use crate::place::Place;
 use crate::{memory, store};
 use gql_ports::{Key, Record};
-use sqlite::{Error, Row};
+use sqlite::Error;
 use std::alloc::Global;
 
 /// Where the records are, and those that were read last, while nothing else is asked there.
 #[derive(Drop)]
 pub struct Reader {
     place: Place,
-    /// The run of records that was read last, or none.
-    run: Vec<Row>,
-    /// The place of its first record in the list of keys.
-    first: u64,
-    ghost held: { ∥ AreHeld run.items place ∥₁ },
+    /// What is left of the run of records that was read last, the last record first.
+    run: Vec<Record>,
+    /// The place of the next of them in the list of keys.
+    next: u64,
+    ghost held: { ∥ AreReadAhead run.items place ∥₁ },
 }
 
 impl Reader {
@@ -33,7 +33,7 @@ impl Reader {
         Reader {
             place,
             run: Vec::new(alloc),
-            first: 0,
+            next: 0,
         }
     }
 
@@ -46,12 +46,13 @@ impl Reader {
         ensures under { IfOk result (λ opened. IsUnder (option_copied name.entry) opened.0.place) }
         ensures listed { IfOk result (λ opened. AreAllKeys opened.1 opened.0.place) }
     {
-        let (place, run) = Place::open(rt, alloc, name)?;
-        let keys = store::keys_of(alloc, run.as_slice())?;
+        let (place, records) = Place::open(rt, alloc, name)?;
+        let (keys, mut run) = store::in_order(alloc, records)?;
+        run.reverse();
         let reader = Reader {
             place,
             run,
-            first: 0,
+            next: 0,
         };
         Ok((reader, keys))
     }
@@ -74,17 +75,18 @@ impl Reader {
         }
     }
 
-    /// The same in a row.
+    /// The same in a row. The record moves out of the run.
     fn fetch_row(&mut self, alloc: Global, index: u64, key: &Key) -> Result<Record, Error>
         ensures key { IfOk result (λ r. r.key ≡ key.now) }
         ensures value { IfOk result (λ r. ∥ Fetches r.key r.value self.old.place self.new.place ∥₁) }
     {
         self.read(alloc, index, key)?;
-        let record = match self.row(index) {
-            Some(row) => store::record_of(alloc, key, row)?,
-            None => return Err(NOT_A_STORE),
+        let Some(record) = self.take(alloc) else {
+            return Err(NOT_A_STORE);
         };
-        self.pass(alloc, index);
+        if record.key.as_slice() != key.as_slice() {
+            return Err(NOT_A_STORE);
+        }
         Ok(record)
     }
 
@@ -101,37 +103,36 @@ impl Reader {
         let Reader {
             place,
             run: _,
-            first: _,
+            next: _,
         } = self;
         place.close()
     }
 
-    /// Reads a run from that record on, unless it stands in the one that was read last.
+    /// Reads a run from that record on, unless it is the next one of the run that was read last.
     fn read(&mut self, alloc: Global, index: u64, key: &Key) -> Result<(), Error>
-        ensures { OnOk result (∥ Each self.new.run.items (λ row. IsFound row self.old.place self.new.place) ∥₁) }
+        ensures { OnOk result (∥ All (IsInRow (λ row. IsFound row self.old.place self.new.place)) self.new.run.items ∥₁) }
     {
-        if self.row(index).is_some() {
+        if self.next == index && !self.run.is_empty() {
             return Ok(());
         }
         self.run = Vec::new(alloc);
-        self.run = self.place.select(key)?;
-        self.first = index;
+        let mut run = self.place.select(alloc, key)?;
+        run.reverse();
+        self.run = run;
+        self.next = index;
         Ok(())
     }
 
-    /// Lets the run go behind its last record.
-    fn pass(&mut self, alloc: Global, index: u64)
-        ensures { self.new.place ≡ self.old.place }
+    /// Takes the next record of the run, which is let go behind its last one.
+    fn take(&mut self, alloc: Global) -> Option<Record>
+        ensures place { self.new.place ≡ self.old.place }
+        ensures record { IfSome result (Contains self.old.run.items) }
     {
-        if self.row(index.saturating_add(1)).is_none() {
+        let record = self.run.pop()?;
+        self.next = self.next.saturating_add(1);
+        if self.run.is_empty() {
             self.run = Vec::new(alloc);
         }
-    }
-
-    fn row(&self, index: u64) -> Option<&Row>
-        ensures { IfSome (option_copied result) (λ row. (at : ℕ) × (slice_get self.now.run.items at ≡ Some row)) }
-    {
-        let at = index.checked_sub(self.first)?;
-        self.run.get(at as usize)
+        Some(record)
     }
 }

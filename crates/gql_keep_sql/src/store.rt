@@ -1,18 +1,18 @@
 //! A store: a database with one table, and what is read there.
 
-ghost use Rattle.std.specs.Prelude.{◌≡◌, map, IfOk, IsTrue, IsPermutation};
+ghost use Rattle.std.specs.Prelude.{◌≡◌, IfOk, IsPermutation};
+ghost use Rattle.std.specs.List.{AllZip};
 ghost use Rattle.sqlite.specs.declared.types.Value.TheVariants.{Blob};
 ghost use Rattle.sqlite.specs.Order.{column};
 ghost use Rattle.sqlite.specs.State.{HasCleanDisk};
 ghost use Rattle.sqlite.specs.Held.{state};
-ghost use Rattle.gql_keep_sql.specs.Fetched.{SelectsAll, SelectsEach, SelectsRun, first_column};
+ghost use Rattle.gql_keep_sql.specs.Fetched.{SelectsAll, SelectsRun, AreRead, HasRecord};
+ghost use Rattle.gql_keep_sql.specs.Keys.{keys_of};
 
-use crate::changes::copy_key;
-use crate::fault::NOT_A_STORE;
+use crate::fault::{NO_MEMORY, NOT_A_STORE};
 use crate::keys::Keys;
 use gql_ports::{Key, Record};
 use gql_values3::Bytes;
-use sqlite::types::ValueRef;
 use sqlite::{Alter, Connection, Error, Row, params};
 use std::alloc::{AllocError, Global};
 
@@ -48,80 +48,82 @@ fn is_table(object: &Row) -> Result<bool, Error> {
     Ok(text.as_str() == TABLE)
 }
 
-/// The rows of all records, in ascending order of their keys.
-pub fn select_all<S: Alter>(conn: &mut Connection<S>) -> Result<Vec<Row>, Error>
-    ensures { IfOk result (λ rows. HasCleanDisk (state S.Store conn.new) → SelectsEach S.Store rows.items conn.old conn.new) }
+/// All records, in the order in which they lie. One row is read at a time, so that records alone stand in memory.
+pub fn select_all<S: Alter>(alloc: Global, conn: &mut Connection<S>) -> Result<Vec<Record>, Error>
+    ensures { IfOk result (λ records. AreRead S.Store records.items conn.new (λ rows. SelectsAll S.Store rows conn.old conn.new)) }
 {
-    let rows = scan(conn)?;
-    Ok(sorted(rows)?)
-}
-
-fn scan<S: Alter>(conn: &mut Connection<S>) -> Result<Vec<Row>, Error>
-    ensures { IfOk result (λ rows. HasCleanDisk (state S.Store conn.new) → SelectsAll S.Store rows.items conn.old conn.new) }
-{
-    Ok(conn.query_all(ALL, &[])?)
-}
-
-/// Rows in ascending order of their keys: in one go where they stand in it already.
-fn sorted(rows: Vec<Row>) -> Result<Vec<Row>, AllocError>
-    ensures { IfOk result (λ sorted. IsPermutation rows.items sorted.items) }
-{
-    let mut sorted = rows;
-    sorted.sort_by(|a, b| key_of(a).cmp(key_of(b)))?;
-    Ok(sorted)
-}
-
-/// The bytes of a row's key, or none where it is no bytes.
-fn key_of(row: &Row) -> &[u8] {
-    match row.get_ref(0) {
-        Ok(ValueRef::Blob(key)) => key,
-        _ => &[],
+    let mut records = Vec::new(alloc);
+    let mut rows = conn.query(ALL, &[])?;
+    'rows: for _ in 0..u64::MAX {
+        rows.advance()?;
+        let Some(row) = rows.get() else {
+            return Ok(records);
+        };
+        records.push(record_of(row)?)?;
     }
+    Err(NO_MEMORY)
 }
 
-/// The keys of rows. Where they do not strictly ascend, this is no store.
-pub fn keys_of(alloc: Global, rows: &[Row]) -> Result<Keys, Error>
-    ensures { IfOk result (λ keys. map Blob keys ≡ map first_column rows.now) }
+/// The records in ascending order of their keys, and these. They are sorted where they don't lie in that order. Where a
+/// key stands twice, this is no store.
+pub fn in_order(alloc: Global, records: Vec<Record>) -> Result<(Keys, Vec<Record>), Error>
+    ensures same { IfOk result (λ ordered. IsPermutation records.items ordered.1.items) }
+    ensures keys { IfOk result (λ ordered. ordered.0 ≡ keys_of ordered.1.items) }
 {
-    let mut keys = Vec::with_capacity(alloc, rows.len())?;
-    for row in rows {
-        keys.push(blob(row, 0)?)?;
+    if let Some(keys) = Keys::of(alloc, records.as_slice())? {
+        return Ok((keys, records));
     }
-    match Keys::from_vec(keys) {
-        Some(keys) => Ok(keys),
+    let sorted = sorted(records)?;
+    match Keys::of(alloc, sorted.as_slice())? {
+        Some(keys) => Ok((keys, sorted)),
         None => Err(NOT_A_STORE),
     }
 }
 
-/// The rows of a run of records, from that key on.
-pub fn select<S: Alter>(conn: &mut Connection<S>, from: &Key) -> Result<Vec<Row>, Error>
+fn sorted(records: Vec<Record>) -> Result<Vec<Record>, AllocError>
+    ensures { IfOk result (λ sorted. IsPermutation records.items sorted.items) }
+{
+    let mut sorted = records;
+    sorted.sort_by(|a, b| a.key.as_slice().cmp(b.key.as_slice()))?;
+    Ok(sorted)
+}
+
+/// A run of records, from that key on.
+pub fn select<S: Alter>(
+    alloc: Global,
+    conn: &mut Connection<S>,
+    from: &Key,
+) -> Result<Vec<Record>, Error>
+    ensures { IfOk result (λ records. AreRead S.Store records.items conn.new (λ rows. SelectsRun S.Store from.now rows conn.old conn.new)) }
+{
+    let rows = select_rows(conn, from)?;
+    records_of(alloc, rows.as_slice())
+}
+
+fn select_rows<S: Alter>(conn: &mut Connection<S>, from: &Key) -> Result<Vec<Row>, Error>
     ensures { IfOk result (λ rows. HasCleanDisk (state S.Store conn.new) → SelectsRun S.Store from.now rows.items conn.old conn.new) }
 {
     Ok(conn.query_all(RUN, params![from.as_slice()])?)
 }
 
-/// The record of a key, by the row that was read for it.
-pub fn record_of(alloc: Global, key: &Key, row: &Row) -> Result<Record, Error>
-    ensures key { IfOk result (λ r. r.key ≡ key.now) }
-    ensures own { IfOk result (λ r. column row.now 0 ≡ Blob r.key) }
-    ensures value { IfOk result (λ r. column row.now 1 ≡ Blob r.value) }
+fn records_of(alloc: Global, rows: &[Row]) -> Result<Vec<Record>, Error>
+    ensures { IfOk result (λ records. AllZip HasRecord rows.now records.items) }
 {
-    if !is_of(row, key)? {
-        return Err(NOT_A_STORE);
+    let mut records = Vec::with_capacity(alloc, rows.len())?;
+    for row in rows {
+        records.push(record_of(row)?)?;
     }
-    Ok(Record {
-        key: copy_key(alloc, key)?,
-        value: blob(row, 1)?,
-    })
+    Ok(records)
 }
 
-fn is_of(row: &Row, key: &Key) -> Result<bool, Error>
-    ensures { IfOk result (λ same. IsTrue same → column row.now 0 ≡ Blob key.now) }
+/// The record in a row.
+fn record_of(row: &Row) -> Result<Record, Error>
+    ensures { IfOk result (HasRecord row.now) }
 {
-    match row.get_ref(0)? {
-        ValueRef::Blob(own) => Ok(own == key.as_slice()),
-        _ => Ok(false),
-    }
+    Ok(Record {
+        key: blob(row, 0)?,
+        value: blob(row, 1)?,
+    })
 }
 
 /// The value at that place of a row, which has to be bytes.

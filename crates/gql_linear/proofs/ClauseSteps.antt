@@ -43,9 +43,6 @@ module _ (params : List (List ℕ × Datum)) where
   abbrev pub Ahead : Working → List Clause → Working → List Clause → Type 0
   Ahead first all here rest = (result : Result Working Refusal) → MayRun params here rest result → MayRun params first all result
 
-  pub at_start : (first : Working) (all : List Clause) → Ahead first all first all
-  at_start first all = λ result h. h
-
   -- what is left is the same list
   pub same_ahead : (first : Working) (all : List Clause) (here : Working) (given rest : List Clause) → given ≡ rest → Ahead first all here given → Ahead first all here rest
   same_ahead first all here given rest e ahead = subst (Ahead first all here) e ahead

@@ -37,7 +37,7 @@ joint_assoc (Some a) None c = refl
 joint_assoc (Some a) (Some b) None = refl
 joint_assoc (Some a) (Some b) (Some c) = ap Some (wider_assoc a b c)
 
-joint_none : (a : Option Degree) → joint a None ≡ a
+pub joint_none : (a : Option Degree) → joint a None ≡ a
 joint_none None = refl
 joint_none (Some a) = refl
 

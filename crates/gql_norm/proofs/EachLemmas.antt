@@ -43,3 +43,10 @@ each_map P f (x ∷ xs) h = (h.0, each_map P f xs h.1)
 pub each_of_map : {X Y : Type 0} (P : Y → Type 0) (f : X → Y) (xs : List X) → Each P (map f xs) → Each (λ x. P (f x)) xs
 each_of_map P f [] h = tt
 each_of_map P f (x ∷ xs) h = (h.0, each_of_map P f xs h.1)
+
+pub each_all : {X : Type 0} (P : X → Type 0) → ((x : X) → P x) → (xs : List X) → Each P xs
+each_all P f xs = each_of P xs (λ x i. f x)
+
+pub each_and : {X : Type 0} (P Q : X → Type 0) (xs : List X) → Each P xs → Each Q xs → Each (λ x. P x × Q x) xs
+each_and P Q [] h k = tt
+each_and P Q (x ∷ xs) h k = ((h.0, k.0), each_and P Q xs h.1 k.1)

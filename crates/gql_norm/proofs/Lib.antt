@@ -1,4 +1,3 @@
-pub mod NormalFormLemmas
 pub mod NormalPartLemmas
 pub mod DegreeLemmas
 pub mod ColumnLemmas
@@ -43,3 +42,4 @@ pub mod CellKinds
 pub mod OneTable
 pub mod NothingRefused
 pub mod LoopLemmas
+pub mod VisibleLemmas

@@ -1,5 +1,5 @@
 -- What E09 says where it finds nothing: in the text of a MATCH all declarations of one name are of one kind.
-use Rattle.std.proofs.Common.{◌≡◌, inl, inr, ℕ, ◌+◌, Bool, true, false, ◌&&◌, ◌||◌, not, cond, List, [], ◌∷◌, map, flat_map, Option, Some, None, refl, sym, ap, ◌∙◌, subst, arith}
+use Rattle.std.proofs.Common.{◌≡◌, inl, inr, ℕ, Bool, true, false, ◌&&◌, ◌||◌, not, cond, List, [], ◌∷◌, map, flat_map, Option, Some, None, refl, sym, ap, ◌∙◌, subst}
 use Rattle.std.specs.List.{list_any}
 use Rattle.std.proofs.lemmas.Bool.{or_parts, or_right}
 use Rattle.gql_values3.specs.Texts.{same_text}
@@ -8,13 +8,12 @@ use Rattle.gql_values3.specs.declared.table.ColumnKind.TheVariants as kind
 use Rattle.gql_ast.specs.ClauseColumns.{ColumnList, is_column}
 use Rattle.gql_expr_checks.proofs.KnowingLemmas.{same_text-refl, same_text-sym}
 use Rattle.gql_norm.specs.NormalPattern.{Part, Node, Edge, Concat, Union, Alt, Quant, Opt, Scope, Sides, NoSide, Side, NormalPath}
-use Rattle.gql_norm.specs.Places.{size}
 use Rattle.gql_norm.specs.Declaration.{Declared, declarations}
 use Rattle.gql_norm.specs.Selection.{Each, Among}
 use Rattle.gql_norm.specs.WrongKinds.{is_kind, clashes, wrong_among}
 use Rattle.gql_norm.specs.Machinery.ColumnGrowth.{declared_variable, declared_in, declared_in_sides}
 use Rattle.gql_norm.proofs.AmongLemmas.{among_flat}
-use Rattle.gql_norm.proofs.ColumnLemmas.{without_place, all_seen}
+use Rattle.gql_norm.proofs.ColumnLemmas.{without_place, declarations_seen}
 use Rattle.gql_norm.proofs.EachLemmas.{each_append, each_of, each_map, each_of_map, of_each}
 use Rattle.gql_norm.proofs.PositionKinds.{IsElement, IsOfKind}
 
@@ -41,15 +40,16 @@ mutual
   sides_are_elements NoSide = tt
   sides_are_elements (Side p ss) = each_append IsOfElement (declared_in p) (declared_in_sides ss) (are_elements p) (sides_are_elements ss)
 
-seen : (body : Part) → map without_place (declarations body) ≡ declared_in body
-seen body = all_seen body 0 [] (0 + size body) (omega arith)
-
 pub declared_elements : (body : Part) → Each (λ (d : Declared). IsElement d.kind) (declarations body)
-declared_elements body = each_of_map IsOfElement without_place (declarations body) (subst (Each IsOfElement) (sym (seen body)) (are_elements body))
+declared_elements body = each_of_map IsOfElement without_place (declarations body) (subst (Each IsOfElement) (sym (declarations_seen body)) (are_elements body))
+
+pub all_elements : (ps : List NormalPath) → Each (λ (d : Declared). IsElement d.kind) (flat_map (λ (q : NormalPath). declarations q.body) ps)
+all_elements [] = tt
+all_elements (p ∷ ps) = each_append (λ (d : Declared). IsElement d.kind) (declarations p.body) (flat_map (λ (q : NormalPath). declarations q.body) ps) (declared_elements p.body) (all_elements ps)
 
 -- each declaration is among what is declared
 pub declared_columns : (body : Part) → Each (λ (d : Declared). is_column (declared_in body) d.name ≡ true) (declarations body)
-declared_columns body = subst (λ cs. Each (λ (d : Declared). is_column cs d.name ≡ true) (declarations body)) (seen body) (each_of (λ (d : Declared). is_column (map without_place (declarations body)) d.name ≡ true) (declarations body) (λ d i. is_there d (declarations body) i))
+declared_columns body = subst (λ cs. Each (λ (d : Declared). is_column cs d.name ≡ true) (declarations body)) (declarations_seen body) (each_of (λ (d : Declared). is_column (map without_place (declarations body)) d.name ≡ true) (declarations body) (λ d i. is_there d (declarations body) i))
   where
     is_there : (d : Declared) (ds : List Declared) → Among d ds → is_column (map without_place ds) d.name ≡ true
     is_there d [] i = elim i [ ]
@@ -111,10 +111,6 @@ module _ (columns : ColumnList) where
       (later_agrees (c ∷ before) ds c d (inl refl) (goes_on before c ds h).1 i (subst (λ z. same_text d.name z.name ≡ true) q t)))
   one_kind before (c ∷ ds) a h d e (inr i) (inr j) t = one_kind (c ∷ before) ds a.1 (goes_on before c ds h).1 d e i j t
 
-  all_elements : (ps : List NormalPath) → Each (λ (d : Declared). IsElement d.kind) (flat_map (λ (q : NormalPath). declarations q.body) ps)
-  all_elements [] = tt
-  all_elements (p ∷ ps) = each_append (λ (d : Declared). IsElement d.kind) (declarations p.body) (flat_map (λ (q : NormalPath). declarations q.body) ps) (declared_elements p.body) (all_elements ps)
-
   -- all that a path pattern declares under the name of one of its declarations is of this kind
   abbrev pub HasOneKind : NormalPath → Declared → Type 0
   HasOneKind p d = Each (IsOfKind d.name d.kind) (declared_in p.body)
@@ -123,7 +119,7 @@ module _ (columns : ColumnList) where
   names_have_one_kind ps h =
       each_of (λ (p : NormalPath). Each (HasOneKind p) (declarations p.body)) ps
       (λ p i. each_of (HasOneKind p) (declarations p.body)
-      (λ d j. subst (Each (IsOfKind d.name d.kind)) (seen p.body)
+      (λ d j. subst (Each (IsOfKind d.name d.kind)) (declarations_seen p.body)
       (each_map (IsOfKind d.name d.kind) without_place (declarations p.body)
       (each_of (λ (e : Declared). IsOfKind d.name d.kind (without_place e)) (declarations p.body)
       (λ e k t. one_kind [] all (all_elements ps) h d e (within p d i j) (within p e i k) t)))))

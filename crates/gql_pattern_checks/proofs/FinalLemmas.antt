@@ -1,9 +1,10 @@
 -- What the final WHERE sees: the columns behind the clause, and the names that the walk gathers, are alike.
+use mathlib.Core.Bool.{or_assoc}
 use Rattle.std.proofs.Common.{◌≡◌, ℕ, Bool, true, false, ◌||◌, ◌&&◌, cond, List, [], ◌∷◌, ◌++◌, flat_map, Option, Some, None, is_some, refl, sym, ap, subst, ◌∙◌, append_assoc, true≢false}
 use Rattle.std.proofs.lemmas.Bool.{and_right}
 use Rattle.std.specs.Prelude.{option_map, unwrap_or, if◌then◌else◌}
 use Rattle.std.specs.Option.{option_or}
-use Rattle.std.proofs.lemmas.List.{map-append}
+use Rattle.std.proofs.lemmas.List.{map-append, append-nil}
 use Rattle.std.proofs.lemmas.Slice.Eq.{bytes_eq-Decides}
 use Rattle.gql_values3.specs.Texts.{same_text}
 use Rattle.gql_values3.specs.declared.table.ColumnKind.{ColumnKind}
@@ -25,17 +26,13 @@ use Rattle.gql_pattern_checks.specs.Machinery.NameList.{with_name}
 use Rattle.gql_pattern_checks.specs.Machinery.Scopes.{no_names, with_variable, with_variable_of, with_part, with_sides, with_path_name, with_paths, known_columns}
 use Rattle.gql_pattern_checks.specs.declared.scope.Names.{Names}
 use Rattle.gql_pattern_checks.proofs.DegreeLemmas.{entries_in_paths, groups_in_paths}
-use Rattle.gql_pattern_checks.proofs.HoldLemmas.{Holds, has, has_group, holds_part, holds_nothing, among_with}
+use Rattle.gql_pattern_checks.proofs.HoldLemmas.{Holds, has, has_group, holds_part, holds_nothing, among_with, or_nothing}
 use Rattle.gql_pattern_checks.proofs.KindLemmas.{column_of_two, group_of_two, first_kind_two, known_is_column, known_is_group, group_by}
 use Rattle.gql_pattern_checks.proofs.PlaceLemmas.{Entries, entries_of}
 
-one_alone : {A : Type 0} (xs : List A) → xs ≡ xs ++ []
-one_alone [] = refl
-one_alone (x ∷ xs) = ap (λ ys. x ∷ ys) (one_alone xs)
-
 -- a column whose name stands before it is not found
 new_or_not : (columns cs : ColumnList) (x : List ℕ) → first_kind (with_columns columns cs) x ≡ first_kind (columns ++ cs) x
-new_or_not columns [] x = ap (λ ds. first_kind ds x) (one_alone columns)
+new_or_not columns [] x = ap (λ ds. first_kind ds x) (sym (append-nil columns))
 new_or_not columns (c ∷ cs) x = new_or_not (with_column columns c) cs x ∙ by (is_column columns c.0) refl
   where
     by : (b : Bool) → is_column columns c.0 ≡ b → first_kind ((if b then columns else columns ++ c ∷ []) ++ cs) x ≡ first_kind (columns ++ c ∷ cs) x
@@ -50,11 +47,6 @@ new_or_not columns (c ∷ cs) x = new_or_not (with_column columns c) cs x ∙ by
 record Looks (is_grouped : List ℕ → Bool) (cs : ColumnList) (s : Names) : Type 0 where
   column : (y : List ℕ) → is_column cs y ≡ (is_among s.paths y || is_among s.variables y)
   group : (y : List ℕ) → is_group_column cs y ≡ (if is_among s.paths y then false else (is_among s.variables y && is_grouped y))
-
-or_nothing : (b c : Bool) → (b || (c || false)) ≡ (b || c)
-or_nothing true c = refl
-or_nothing false true = refl
-or_nothing false false = refl
 
 -- one column
 one_column : (cs : ColumnList) (x : List ℕ) (k : ColumnKind) (y : List ℕ) → is_column (cs ++ (x, k) ∷ []) y ≡ (is_column cs y || same_text y x)
@@ -116,10 +108,6 @@ looks_path grouped cs s x l = by (is_among s.variables x) refl
     }
 
 -- a variable
-variable_new : (p v s : Bool) → ((p || v) || s) ≡ (p || (v || s))
-variable_new true v s = refl
-variable_new false v s = refl
-
 variable_group : (p v g s h : Bool) → (s ≡ true → h ≡ g) → (if p || v then (if p then false else (v && g)) else (s && h)) ≡ (if p then false else ((v || s) && g))
 variable_group true v g s h e = refl
 variable_group false true g s h e = refl
@@ -129,7 +117,7 @@ variable_group false false g false h e = refl
 looks_variable : (grouped : List ℕ → Bool) (cs : ColumnList) (g : Bool) (s : Names) (x : List ℕ) (k : ColumnKind) → holds_group k ≡ grouped x → Looks grouped cs s
     → Looks grouped (cs ++ (x, k) ∷ []) (with_variable g s x)
 looks_variable grouped cs g s x k e l = record {
-  column = λ y. one_column cs x k y ∙ ap (λ b. b || same_text y x) (l.column y) ∙ variable_new (is_among s.paths y) (is_among s.variables y) (same_text y x)
+  column = λ y. one_column cs x k y ∙ ap (λ b. b || same_text y x) (l.column y) ∙ or_assoc (is_among s.paths y) (is_among s.variables y) (same_text y x)
       ∙ ap (λ b. is_among s.paths y || b) (sym (among_with s.variables x y));
   group = λ y. one_group cs x k y
       ∙ (λ i. if l.column y i then l.group y i else (same_text y x && holds_group k))
@@ -155,7 +143,7 @@ module _ (paths : List NormalPath) where
 
   looks_declared : (cs : ColumnList) (g : Bool) (s : Names) (k : ColumnKind) (v : Option (List ℕ)) → ((d : Option Degree) → holds_group (of_degree d k) ≡ is_group d) → Looks grouped cs s
       → Looks grouped (cs ++ by_degrees paths (declared_variable k v)) (with_variable_of g s v)
-  looks_declared cs g s k None e l = subst (λ ds. Looks grouped ds s) (one_alone cs) l
+  looks_declared cs g s k None e l = subst (λ ds. Looks grouped ds s) (sym (append-nil cs)) l
   looks_declared cs g s k (Some x) e l = looks_variable grouped cs g s x (of_degree (degree_in_paths paths x) k) (e (degree_in_paths paths x)) l
 
   both_columns : (cs xs ys : ColumnList) → (cs ++ by_degrees paths xs) ++ by_degrees paths ys ≡ cs ++ by_degrees paths (xs ++ ys)
@@ -179,17 +167,17 @@ module _ (paths : List NormalPath) where
     looks_part cs g s (Scope m b c) l = looks_part cs g s b l
 
     looks_sides : (cs : ColumnList) (g : Bool) (s : Names) (ss : Sides) → Looks grouped cs s → Looks grouped (cs ++ by_degrees paths (declared_in_sides ss)) (with_sides g s ss)
-    looks_sides cs g s NoSide l = subst (λ ds. Looks grouped ds s) (one_alone cs) l
+    looks_sides cs g s NoSide l = subst (λ ds. Looks grouped ds s) (sym (append-nil cs)) l
     looks_sides cs g s (Side p ss) l =
         subst (λ ds. Looks grouped ds (with_sides g (with_part g s p) ss)) (both_columns cs (declared_in p) (declared_in_sides ss))
         (looks_sides (cs ++ by_degrees paths (declared_in p)) g (with_part g s p) ss (looks_part cs g s p l))
 
   looks_name : (cs : ColumnList) (s : Names) (v : Option (List ℕ)) → Looks grouped cs s → Looks grouped (cs ++ path_name_column v) (with_path_name s v)
-  looks_name cs s None l = subst (λ ds. Looks grouped ds s) (one_alone cs) l
+  looks_name cs s None l = subst (λ ds. Looks grouped ds s) (sym (append-nil cs)) l
   looks_name cs s (Some x) l = looks_path grouped cs s x l
 
   looks_paths : (cs : ColumnList) (s : Names) (ps : List NormalPath) → Looks grouped cs s → Looks grouped (cs ++ flat_map (columns_by (degree_in_paths paths)) ps) (with_paths s ps)
-  looks_paths cs s [] l = subst (λ ds. Looks grouped ds s) (one_alone cs) l
+  looks_paths cs s [] l = subst (λ ds. Looks grouped ds s) (sym (append-nil cs)) l
   looks_paths cs s (p ∷ ps) l =
       subst (λ ds. Looks grouped ds (with_paths (with_part false (with_path_name s p.name) p.body) ps))
       (ap (λ ds. ds ++ flat_map (columns_by (degree_in_paths paths)) ps) (append_assoc cs (path_name_column p.name) (by_degrees paths (declared_in p.body)) ∙ ap (λ ds. cs ++ ds) (sym (columns_of_path paths p)))
@@ -210,7 +198,7 @@ holds_name ps s es (Some x) h = by (is_among s.variables x)
     by false = record { paths = refl; variables = h.variables; groups = h.groups }
 
 pub holds_paths : (qs : List (List ℕ)) (s : Names) (es : Entries) (ps : List NormalPath) → Holds qs s es → Holds (with_paths s ps).paths (with_paths s ps) (es ++ entries_in_paths ps)
-holds_paths qs s es [] h = record { paths = refl; variables = λ x. h.variables x ∙ ap (λ ds. has ds x) (one_alone es); groups = λ x. h.groups x ∙ ap (λ ds. has_group ds x) (one_alone es) }
+holds_paths qs s es [] h = record { paths = refl; variables = λ x. h.variables x ∙ ap (λ ds. has ds x) (sym (append-nil es)); groups = λ x. h.groups x ∙ ap (λ ds. has_group ds x) (sym (append-nil es)) }
 holds_paths qs s es (p ∷ ps) h =
     subst (λ ds. Holds (with_paths (with_part false (with_path_name s p.name) p.body) ps).paths (with_paths (with_part false (with_path_name s p.name) p.body) ps) ds)
     (append_assoc es (entries_of false p.body) (entries_in_paths ps))
@@ -227,15 +215,11 @@ looks_after columns p x = ap (λ ds. first_kind ds x) (sym (with_columns_new col
 seen_all : (p : NormalPattern) → Looks (λ y. is_group (degree_in_paths p.paths y)) (new_ones p.paths) (with_paths no_names p.paths)
 seen_all p = looks_paths p.paths [] no_names p.paths (record { column = λ y. refl; group = λ y. refl })
 
-or_assoc : (a b c : Bool) → (a || (b || c)) ≡ ((a || b) || c)
-or_assoc true b c = refl
-or_assoc false b c = refl
-
 pub final_is_column : (columns : ColumnList) (p : NormalPattern) (x : List ℕ) → is_column (columns_after columns p) x ≡ is_column (known_columns columns (with_paths no_names p.paths)) x
 final_is_column columns p x =
     sym (is_some-first_kind (columns_after columns p) x) ∙ ap is_some (looks_after columns p x) ∙ is_some-first_kind (columns ++ new_ones p.paths) x
     ∙ column_of_two columns (new_ones p.paths) x ∙ ap (λ b. is_column columns x || b) ((seen_all p).column x)
-    ∙ or_assoc (is_column columns x) (is_among (with_paths no_names p.paths).paths x) (is_among (with_paths no_names p.paths).variables x)
+    ∙ sym (or_assoc (is_column columns x) (is_among (with_paths no_names p.paths).paths x) (is_among (with_paths no_names p.paths).variables x))
     ∙ sym (known_is_column columns (with_paths no_names p.paths) x)
 
 by_group : (c g p v : Bool) → (if c then g else (if p then false else v)) ≡ group_by c g p v

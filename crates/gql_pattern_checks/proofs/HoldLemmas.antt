@@ -5,6 +5,7 @@ use Rattle.std.specs.Prelude.{if◌then◌else◌}
 use Rattle.std.specs.List.{list_any}
 use Rattle.std.proofs.lemmas.List.Folds.{list_any-append}
 use Rattle.std.proofs.lemmas.Slice.Eq.{bytes_eq-Decides}
+use Rattle.std.proofs.lemmas.List.{append-nil}
 use Rattle.gql_values3.specs.Texts.{same_text}
 use Rattle.gql_expr_checks.specs.Repeated.{is_among}
 use Rattle.gql_norm.specs.NormalPattern.{Part, Node, Edge, Concat, Union, Alt, Quant, Opt, Scope, Sides, NoSide, Side}
@@ -31,7 +32,7 @@ or_with true c h = refl
 or_with false true h = h refl
 or_with false false h = refl
 
-or_nothing : (b c : Bool) → (b || (c || false)) ≡ (b || c)
+pub or_nothing : (b c : Bool) → (b || (c || false)) ≡ (b || c)
 or_nothing true c = refl
 or_nothing false true = refl
 or_nothing false false = refl
@@ -58,15 +59,11 @@ or_false : (b : Bool) → (b || false) ≡ b
 or_false true = refl
 or_false false = refl
 
-one_alone : (es : Entries) → es ≡ es ++ []
-one_alone [] = refl
-one_alone (e ∷ es) = ap (λ ds. e ∷ ds) (one_alone es)
-
 pub holds_nothing : Holds [] no_names []
 holds_nothing = record { paths = refl; variables = λ x. refl; groups = λ x. refl }
 
 pub holds_variable : (g : Bool) (ps : List (List ℕ)) (s : Names) (es : Entries) (v : Option (List ℕ)) → Holds ps s es → Holds ps (with_variable_of g s v) (es ++ entry_of g v)
-holds_variable g ps s es None h = subst (λ ds. Holds ps s ds) (one_alone es) h
+holds_variable g ps s es None h = subst (λ ds. Holds ps s ds) (sym (append-nil es)) h
 holds_variable true ps s es (Some x) h = record {
   paths = h.paths;
   variables = λ y. among_with s.variables x y ∙ ap (λ b. b || same_text y x) (h.variables y) ∙ sym (has_more es x true y);
@@ -94,7 +91,7 @@ mutual
   holds_part g ps s es (Scope m b c) h = holds_part g ps s es b h
 
   pub holds_sides : (g : Bool) (ps : List (List ℕ)) (s : Names) (es : Entries) (ss : Sides) → Holds ps s es → Holds ps (with_sides g s ss) (es ++ entries_of_sides g ss)
-  holds_sides g ps s es NoSide h = subst (λ ds. Holds ps s ds) (one_alone es) h
+  holds_sides g ps s es NoSide h = subst (λ ds. Holds ps s ds) (sym (append-nil es)) h
   holds_sides g ps s es (Side p ss) h =
       subst (λ ds. Holds ps (with_sides g (with_part g s p) ss) ds) (append_assoc es (entries_of g p) (entries_of_sides g ss))
       (holds_sides g ps (with_part g s p) (es ++ entries_of g p) ss (holds_part g ps s es p h))

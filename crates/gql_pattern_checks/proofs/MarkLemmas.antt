@@ -1,5 +1,6 @@
 -- Taking away what came behind the marks leaves what was there.
-use Rattle.std.proofs.Common.{◌≡◌, ℕ, Bool, true, false, List, [], ◌∷◌, ◌++◌, Option, Some, None, length, take, refl, ap, ◌∙◌, append_assoc}
+use Rattle.std.proofs.Common.{◌≡◌, ℕ, Bool, true, false, List, [], ◌∷◌, ◌++◌, Option, Some, None, length, take, refl, ap, ◌∙◌, append_assoc, sym}
+use Rattle.std.proofs.lemmas.List.{append-nil}
 use Rattle.std.specs.Prelude.{if◌then◌else◌}
 use Rattle.gql_expr_checks.specs.Repeated.{is_among}
 use Rattle.gql_norm.specs.NormalPattern.{Part, Node, Edge, Concat, Union, Alt, Quant, Opt, Scope, Sides, NoSide, Side}
@@ -12,16 +13,12 @@ take_first : (xs ys : List (List ℕ)) → take (length xs) (xs ++ ys) ≡ xs
 take_first [] ys = refl
 take_first (x ∷ xs) ys = ap (λ zs. x ∷ zs) (take_first xs ys)
 
-one_alone : (xs : List (List ℕ)) → xs ≡ xs ++ []
-one_alone [] = refl
-one_alone (x ∷ xs) = ap (λ zs. x ∷ zs) (one_alone xs)
-
 -- the second begins with the first
 abbrev Begins : List (List ℕ) → List (List ℕ) → Type 0
 Begins xs ys = (more : List (List ℕ)) × (ys ≡ xs ++ more)
 
 stays : (xs : List (List ℕ)) → Begins xs xs
-stays xs = ([], one_alone xs)
+stays xs = ([], sym (append-nil xs))
 
 further : (xs ys zs : List (List ℕ)) → Begins xs ys → Begins ys zs → Begins xs zs
 further xs ys zs h k = (h.0 ++ k.0, k.1 ∙ ap (λ ws. ws ++ k.0) h.1 ∙ append_assoc xs h.0 k.0)

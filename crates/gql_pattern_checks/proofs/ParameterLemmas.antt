@@ -1,7 +1,8 @@
 -- The first parameter of a pattern that isn't set, by its parts.
-use Rattle.std.proofs.Common.{◌≡◌, ℕ, List, ◌++◌, map, flat_map, Option, Some, None, refl, sym, ap, ◌∙◌}
+use Rattle.std.proofs.Common.{◌≡◌, ℕ, List, ◌++◌, map, flat_map, Option, Some, None, refl, ap, ◌∙◌}
 use Rattle.std.specs.Option.{option_or}
 use Rattle.std.proofs.lemmas.Grind.{flat_map-append}
+use Rattle.std.proofs.lemmas.List.{append-nil}
 use Rattle.gql_values3.specs.Datum.{Datum}
 use Rattle.gql_ast.specs.Tree.{Tree}
 use Rattle.gql_ast.specs.declared.refusal.Refusal.{Refusal}
@@ -14,7 +15,7 @@ use Rattle.gql_norm.specs.PredicateSpot.{PredicateSpot, tree_in, trees_in}
 use Rattle.gql_norm.specs.OtherDefects.{predicates_of_path, unset_parameters}
 use Rattle.gql_pattern_checks.specs.Machinery.PartWalk.{if_there, asked_of_paths}
 use Rattle.gql_pattern_checks.specs.Machinery.Questions.{unset_in_element, unset_in_condition}
-use Rattle.gql_pattern_checks.proofs.WalkLemmas.{one_alone, IsAsked, walked_paths}
+use Rattle.gql_pattern_checks.proofs.WalkLemmas.{IsAsked, walked_paths}
 
 module _ (params : List (List ℕ × Datum)) where
   abbrev first_unset : List Tree → Option Refusal
@@ -27,7 +28,7 @@ module _ (params : List (List ℕ × Datum)) where
 
   unset_if_there : (c : Option Tree) → first_unset (trees_in c) ≡ if_there (unset_in_condition params) c
   unset_if_there None = refl
-  unset_if_there (Some e) = ap (λ ps. refusal_of_first refusal.Parameter (unset params ps)) (sym (one_alone (parameters_in e)))
+  unset_if_there (Some e) = ap (λ ps. refusal_of_first refusal.Parameter (unset params ps)) (append-nil (parameters_in e))
 
   abbrev first_unset_at : List PredicateSpot → Option Refusal
   first_unset_at qs = first_unset (flat_map (λ (q : PredicateSpot). q.trees) qs)
@@ -38,8 +39,8 @@ module _ (params : List (List ℕ × Datum)) where
     both = λ xs ys.
         ap first_unset (flat_map-append (λ (q : PredicateSpot). q.trees) xs ys)
         ∙ unset_in_two (flat_map (λ (q : PredicateSpot). q.trees) xs) (flat_map (λ (q : PredicateSpot). q.trees) ys);
-    at_element = λ a qs w. ap first_unset (sym (one_alone (map tree_in w.predicates)));
-    at_condition = λ a qs c. ap first_unset (sym (one_alone (trees_in c))) ∙ unset_if_there c;
+    at_element = λ a qs w. ap first_unset (append-nil (map tree_in w.predicates));
+    at_condition = λ a qs c. ap first_unset (append-nil (trees_in c)) ∙ unset_if_there c;
   }
 
   pub unset_in_pattern : (p : NormalPattern)

@@ -6,6 +6,7 @@ use Rattle.std.specs.Option.{option_or}
 use Rattle.std.proofs.lemmas.List.Folds.{list_any-append}
 use Rattle.std.proofs.lemmas.Grind.{flat_map-append}
 use Rattle.std.proofs.lemmas.Slice.Eq.{bytes_eq-Decides}
+use Rattle.std.proofs.lemmas.List.{append-nil}
 use Rattle.gql_values3.specs.Texts.{same_text}
 use Rattle.gql_values3.specs.declared.table.ColumnKind.{ColumnKind}
 use Rattle.gql_values3.specs.declared.table.ColumnKind.TheVariants as kind
@@ -44,10 +45,6 @@ filter_two f (x ∷ xs) ys = by (f x) (filter_two f xs ys)
     by : (b : Bool) → filter f (xs ++ ys) ≡ filter f xs ++ filter f ys → cond b (x ∷ filter f (xs ++ ys)) (filter f (xs ++ ys)) ≡ cond b (x ∷ filter f xs) (filter f xs) ++ filter f ys
     by true h = ap (λ zs. x ∷ zs) h
     by false h = h
-
-one_alone : {A : Type 0} (xs : List A) → xs ++ [] ≡ xs
-one_alone [] = refl
-one_alone (x ∷ xs) = ap (λ ys. x ∷ ys) (one_alone xs)
 
 -- the first unknown name of several expressions
 pub unknown_of_trees : (columns : ColumnList) (s : Names) (es : List Tree)
@@ -98,7 +95,7 @@ unknown_asked columns body = record {
   both = λ xs ys.
       ap (refusal_of_first refusal.Variable) (flat_map-append (unknown_at columns body) xs ys)
       ∙ first_of_in_two refusal.Variable (flat_map (unknown_at columns body) xs) (flat_map (unknown_at columns body) ys);
-  at_spot = λ t s h. ap (refusal_of_first refusal.Variable) (one_alone (unknown_at columns body t)) ∙ unknown_at_spot columns body t s h;
+  at_spot = λ t s h. ap (refusal_of_first refusal.Variable) (append-nil (unknown_at columns body t)) ∙ unknown_at_spot columns body t s h;
 }
 
 pub unknown_in_body : (columns : ColumnList) (body : Part)

@@ -7,13 +7,14 @@ use Rattle.std.specs.Prelude.{nat_le, if◌then◌else◌}
 use Rattle.std.specs.List.{list_any}
 use Rattle.std.proofs.lemmas.Bool.Decides.{nat_tests}
 use Rattle.std.proofs.lemmas.List.{map-append}
+use Rattle.std.proofs.lemmas.Bool.{le-leb, leb-true, leb-false, or_right, or_left}
 use Rattle.gql_values3.specs.declared.table.ColumnKind.{ColumnKind}
 use Rattle.gql_values3.specs.declared.table.ColumnKind.TheVariants as kind
 use Rattle.gql_norm.specs.NormalPattern.{Part, Node, Edge, Concat, Union, Alt, Quant, Opt, Scope, Sides, NoSide, Side}
 use Rattle.gql_norm.specs.PathMode.{is_number_among}
-use Rattle.gql_norm.specs.Places.{size, size_all, is_inside}
+use Rattle.gql_norm.specs.Places.{size, size_all}
 use Rattle.gql_norm.specs.Declaration.{Declared, declaration, visible, visible_sides}
-use Rattle.gql_pattern_checks.proofs.AmongLemmas.{or_true, or_first}
+use Rattle.gql_norm.proofs.VisibleLemmas.{left_behind}
 
 -- a variable, and whether it is a group
 abbrev pub Entries : Type 0
@@ -47,59 +48,12 @@ is_crossed around quants = list_any (λ q. not (is_number_among around q)) quant
 abbrev pub seen_by : List ℕ → List Declared → Entries
 seen_by around ds = map (λ (d : Declared). (d.name, is_crossed around d.quants)) ds
 
--- places and their order
-is_before : (a x : ℕ) → x < a → nat_le a x ≡ false
-is_before a x h = grind (arith, nat_tests)
-
-at_or_before : (a x : ℕ) → a ≤ x → nat_le a x ≡ true
-at_or_before a x h = grind (arith, nat_tests)
-
-at_most : (a q : ℕ) → nat_le a q ≡ true → a ≤ q
-at_most a q h = grind (arith, nat_tests)
-
-above : (a q : ℕ) → nat_le a q ≡ false → q < a
-above a q h = grind (arith, nat_tests)
-
-inside : (entry others x : ℕ) → entry ≤ x → x < entry + others → is_inside entry others x ≡ true
-inside entry others x h k = grind (arith, nat_tests)
-
-before_inside : (entry others x : ℕ) → x < entry → is_inside entry others x ≡ false
-before_inside entry others x h = grind (arith, nat_tests)
-
-behind_inside : (entry others x : ℕ) → entry + others ≤ x → is_inside entry others x ≡ false
-behind_inside entry others x h = grind (arith, nat_tests)
-
+-- equal numbers, and others
 same_number : (x : ℕ) → (x == x) ≡ true
 same_number x = grind (arith, nat_tests)
 
 other_number : (x y : ℕ) → y < x → (x == y) ≡ false
 other_number x y h = grind (arith, nat_tests)
-
--- what stands behind a place is not seen there
-none_declared : (k : ColumnKind) (a : ℕ) (qs : List ℕ) (v : Option (List ℕ)) (b : Bool) → b ≡ false → declaration k a qs v b ≡ []
-none_declared k a qs None b h = refl
-none_declared k a qs (Some y) b h = ap (λ c. declaration k a qs (Some y) c) h
-
-mutual
-  unfolding size visible
-
-  pub nothing_before : (p : Part) (a : ℕ) (qs : List ℕ) (x : ℕ) → x < a → visible p a qs x ≡ []
-  nothing_before (Node w) a qs x h = none_declared kind.Node a qs w.variable (nat_le a x) (is_before a x h)
-  nothing_before (Edge d w) a qs x h = none_declared kind.Edge a qs w.variable (nat_le a x) (is_before a x h)
-  nothing_before (Concat p r) a qs x h = (λ i. nothing_before p a qs x h i ++ nothing_before r (a + size p) qs x (omega arith) i)
-  nothing_before (Union p r) a qs x h =
-      ap (λ b. if b then visible r (a + size p + 2) qs x else visible p (a + 1) qs x ++ visible r (a + size p + 2) qs x) (before_inside (a + size p + 2) (size r) x (omega arith))
-      ∙ (λ i. nothing_before p (a + 1) qs x (omega arith) i ++ nothing_before r (a + size p + 2) qs x (omega arith) i)
-  nothing_before (Alt ss) a qs x h = nothing_before_sides ss (a + 1) qs x (omega arith)
-  nothing_before (Quant b l n) a qs x h = nothing_before b (a + 2) (a ∷ qs) x (omega arith)
-  nothing_before (Opt b) a qs x h = nothing_before b (a + 1) qs x (omega arith)
-  nothing_before (Scope m b c) a qs x h = nothing_before b (a + 1) qs x (omega arith)
-
-  pub nothing_before_sides : (ss : Sides) (b : ℕ) (qs : List ℕ) (x : ℕ) → x < b → visible_sides ss b qs x ≡ []
-  nothing_before_sides NoSide b qs x h = refl
-  nothing_before_sides (Side p ss) b qs x h =
-      ap (λ c. if c then visible_sides ss (b + size p + 1) qs x else visible p b qs x ++ visible_sides ss (b + size p + 1) qs x) (before_inside (b + size p + 1) (size_all ss) x (omega arith))
-      ∙ (λ i. nothing_before p b qs x h i ++ nothing_before_sides ss (b + size p + 1) qs x (omega arith) i)
 
 -- a quantifier of the part is not around
 abbrev pub Opens : List ℕ → List ℕ → ℕ → ℕ → Type 0
@@ -109,7 +63,7 @@ opens_within : (around qs : List ℕ) (low high a b : ℕ) → Opens around qs l
 opens_within around qs low high a b o h k = λ q l m. o q (omega (arith, h, l)) (omega (arith, k, m))
 
 opens_more : (around qs : List ℕ) (a low high : ℕ) → is_crossed around (a ∷ qs) ≡ true → Opens around (a ∷ qs) low high
-opens_more around qs a low high h = λ q l m. or_true (not (is_number_among around q)) (is_crossed around (a ∷ qs)) h
+opens_more around qs a low high h = λ q l m. or_right (not (is_number_among around q)) (is_crossed around (a ∷ qs)) h
 
 one_seen : (around : List ℕ) (g : Bool) (k : ColumnKind) (a : ℕ) (qs : List ℕ) (v : Option (List ℕ)) (b : Bool) → b ≡ true → is_crossed around qs ≡ g
     → seen_by around (declaration k a qs v b) ≡ entry_of g v
@@ -125,14 +79,14 @@ mutual
 
   pub all_seen_by : (g : Bool) (p : Part) (a : ℕ) (qs : List ℕ) (x : ℕ) (around : List ℕ) → a + size p ≤ x → is_crossed around qs ≡ g → Opens around qs a (a + size p)
       → seen_by around (visible p a qs x) ≡ entries_of g p
-  all_seen_by g (Node w) a qs x around h k o = one_seen around g kind.Node a qs w.variable (nat_le a x) (at_or_before a x (omega arith)) k
-  all_seen_by g (Edge d w) a qs x around h k o = one_seen around g kind.Edge a qs w.variable (nat_le a x) (at_or_before a x (omega arith)) k
+  all_seen_by g (Node w) a qs x around h k o = one_seen around g kind.Node a qs w.variable (nat_le a x) (le-leb a x (omega arith)) k
+  all_seen_by g (Edge d w) a qs x around h k o = one_seen around g kind.Edge a qs w.variable (nat_le a x) (le-leb a x (omega arith)) k
   all_seen_by g (Concat p r) a qs x around h k o =
       both_seen around (visible p a qs x) (visible r (a + size p) qs x) (entries_of g p) (entries_of g r)
       (all_seen_by g p a qs x around (omega arith) k (opens_within around qs a (a + (size p + size r)) a (a + size p) o (omega arith) (omega arith)))
       (all_seen_by g r (a + size p) qs x around (omega arith) k (opens_within around qs a (a + (size p + size r)) (a + size p) (a + size p + size r) o (omega arith) (omega arith)))
   all_seen_by g (Union p r) a qs x around h k o =
-      ap (λ b. seen_by around (if b then visible r (a + size p + 2) qs x else visible p (a + 1) qs x ++ visible r (a + size p + 2) qs x)) (behind_inside (a + size p + 2) (size r) x (omega arith))
+      ap (λ b. seen_by around (if b then visible r (a + size p + 2) qs x else visible p (a + 1) qs x ++ visible r (a + size p + 2) qs x)) (left_behind (a + size p + 2) (size r) x (omega arith))
       ∙ both_seen around (visible p (a + 1) qs x) (visible r (a + size p + 2) qs x) (entries_of g p) (entries_of g r)
       (all_seen_by g p (a + 1) qs x around (omega arith) k (opens_within around qs a (a + (size p + size r + 3)) (a + 1) (a + 1 + size p) o (omega arith) (omega arith)))
       (all_seen_by g r (a + size p + 2) qs x around (omega arith) k (opens_within around qs a (a + (size p + size r + 3)) (a + size p + 2) (a + size p + 2 + size r) o (omega arith) (omega arith)))
@@ -149,7 +103,7 @@ mutual
       → seen_by around (visible_sides ss b qs x) ≡ entries_of_sides g ss
   all_seen_by_sides g NoSide b qs x around h k o = refl
   all_seen_by_sides g (Side p ss) b qs x around h k o =
-      ap (λ c. seen_by around (if c then visible_sides ss (b + size p + 1) qs x else visible p b qs x ++ visible_sides ss (b + size p + 1) qs x)) (behind_inside (b + size p + 1) (size_all ss) x (omega arith))
+      ap (λ c. seen_by around (if c then visible_sides ss (b + size p + 1) qs x else visible p b qs x ++ visible_sides ss (b + size p + 1) qs x)) (left_behind (b + size p + 1) (size_all ss) x (omega arith))
       ∙ both_seen around (visible p b qs x) (visible_sides ss (b + size p + 1) qs x) (entries_of g p) (entries_of_sides g ss)
       (all_seen_by g p b qs x around (omega arith) k (opens_within around qs b (b + (size p + 1 + size_all ss)) b (b + size p) o (omega arith) (omega arith)))
       (all_seen_by_sides g ss (b + size p + 1) qs x around (omega arith) k (opens_within around qs b (b + (size p + 1 + size_all ss)) (b + size p + 1) (b + size p + 1 + size_all ss) o (omega arith) (omega arith)))
@@ -161,7 +115,7 @@ Agree around qs a = (q : ℕ) → q < a → is_number_among around q ≡ is_numb
 abbrev pub Below : List ℕ → ℕ → Type 0
 Below qs a = (q : ℕ) → a ≤ q → is_number_among qs q ≡ false
 
-agree_below : (around qs : List ℕ) (a b : ℕ) → a ≤ b → Agree around qs b → Agree around qs a
+pub agree_below : (around qs : List ℕ) (a b : ℕ) → a ≤ b → Agree around qs b → Agree around qs a
 agree_below around qs a b h ag = λ q l. ag q (omega (arith, h, l))
 
 pub agree_itself : (qs : List ℕ) (a : ℕ) → Agree qs qs a
@@ -184,18 +138,18 @@ agree_less around qs a ag = λ q l. ag q (omega (arith, l)) ∙ ap (λ b. b || i
 all_around : (around xs : List ℕ) → ((q : ℕ) → is_number_among xs q ≡ true → is_number_among around q ≡ true) → is_crossed around xs ≡ false
 all_around around [] h = refl
 all_around around (x ∷ xs) h =
-    (λ i. not (h x (or_first (x == x) (is_number_among xs x) (same_number x)) i) || all_around around xs (λ q m. h q (or_true (x == q) (is_number_among xs q) m)) i)
+    (λ i. not (h x (or_left (x == x) (is_number_among xs x) (same_number x)) i) || all_around around xs (λ q m. h q (or_right (x == q) (is_number_among xs q) m)) i)
 
 pub not_crossed : (around qs : List ℕ) (a : ℕ) → Agree around qs a → Below qs a → is_crossed around qs ≡ false
 not_crossed around qs a ag bl = all_around around qs (λ q m. by q m (nat_le a q) refl)
   where
     by : (q : ℕ) → is_number_among qs q ≡ true → (b : Bool) → nat_le a q ≡ b → is_number_among around q ≡ true
-    by q m true h = absurd (true≢false (sym m ∙ bl q (at_most a q h)))
-    by q m false h = ag q (above a q h) ∙ m
+    by q m true h = absurd (true≢false (sym m ∙ bl q (leb-true a q h)))
+    by q m false h = ag q (leb-false a q h) ∙ m
 
 -- and those of a part are
 pub opens_here : (around qs : List ℕ) (low high : ℕ) → Agree around qs high → Below qs low → Opens around qs low high
-opens_here around qs low high ag bl = λ q l m. or_first (not (is_number_among around q)) (is_crossed around qs) (ap not (ag q m ∙ bl q l))
+opens_here around qs low high ag bl = λ q l m. or_left (not (is_number_among around q)) (is_crossed around qs) (ap not (ag q m ∙ bl q l))
 
 -- so behind a part its variables are those entries
 pub seen_behind : (p : Part) (a : ℕ) (qs : List ℕ) (x : ℕ) (around : List ℕ) → a + size p ≤ x → Agree around qs (a + size p) → Below qs a
@@ -204,4 +158,4 @@ seen_behind p a qs x around h ag bl =
     all_seen_by false p a qs x around h (not_crossed around qs a (agree_below around qs a (a + size p) (omega arith) ag) bl) (opens_here around qs a (a + size p) ag bl)
 
 pub seen_here : (k : ColumnKind) (a : ℕ) (qs : List ℕ) (v : Option (List ℕ)) → Below qs a → seen_by qs (declaration k a qs v (nat_le a a)) ≡ entry_of false v
-seen_here k a qs v bl = one_seen qs false k a qs v (nat_le a a) (at_or_before a a (omega arith)) (not_crossed qs qs a (agree_itself qs a) bl)
+seen_here k a qs v bl = one_seen qs false k a qs v (nat_le a a) (le-leb a a (omega arith)) (not_crossed qs qs a (agree_itself qs a) bl)

@@ -1,8 +1,9 @@
 -- The first property that a map of a pattern names twice, by its parts.
-use Rattle.std.proofs.Common.{◌≡◌, ℕ, Bool, true, false, List, [], ◌∷◌, flat_map, Option, Some, None, refl, sym, ap, ◌∙◌}
+use Rattle.std.proofs.Common.{◌≡◌, ℕ, Bool, true, false, List, [], ◌∷◌, flat_map, Option, Some, None, refl, ap, ◌∙◌}
 use Rattle.std.specs.Prelude.{if◌then◌else◌}
 use Rattle.std.specs.Option.{option_or}
 use Rattle.std.proofs.lemmas.Grind.{flat_map-append}
+use Rattle.std.proofs.lemmas.List.{append-nil}
 use Rattle.gql_ast.specs.Tree.{Tree}
 use Rattle.gql_ast.specs.declared.refusal.Refusal.{Refusal}
 use Rattle.gql_ast.specs.declared.refusal.Refusal.TheVariants as refusal
@@ -14,7 +15,7 @@ use Rattle.gql_norm.specs.PredicateSpot.{PredicateSpot, property_in}
 use Rattle.gql_norm.specs.OtherDefects.{repeated_properties}
 use Rattle.gql_pattern_checks.specs.Machinery.PartWalk.{if_there, asked_of_paths}
 use Rattle.gql_pattern_checks.specs.Machinery.Questions.{second_naming, repeated_in_element, named_before, named_behind}
-use Rattle.gql_pattern_checks.proofs.WalkLemmas.{one_alone, IsAsked, walked_paths}
+use Rattle.gql_pattern_checks.proofs.WalkLemmas.{IsAsked, walked_paths}
 
 -- a predicate, and then those behind it
 pub named_step : (seen : List (List ℕ)) (q : Predicate) (qs : List Predicate)
@@ -40,7 +41,7 @@ asked = record {
   both = λ xs ys.
       ap second_naming (flat_map-append (λ (q : PredicateSpot). repeated [] q.properties) xs ys)
       ∙ first_of_in_two (λ x. refusal.Column (column.Property x)) (flat_map (λ (q : PredicateSpot). repeated [] q.properties) xs) (flat_map (λ (q : PredicateSpot). repeated [] q.properties) ys);
-  at_element = λ a qs w. ap second_naming (sym (one_alone (repeated [] (flat_map property_in w.predicates))));
+  at_element = λ a qs w. ap second_naming (append-nil (repeated [] (flat_map property_in w.predicates)));
   at_condition = λ a qs c. no_property c;
 }
 

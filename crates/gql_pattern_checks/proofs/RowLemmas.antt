@@ -1,18 +1,14 @@
 -- What is refused of parts in a row, beside each other, and told.
-use Rattle.std.proofs.Common.{◌≡◌, false, List, [], ◌∷◌, Option, Some, None, refl, sym, ap}
+use Rattle.std.proofs.Common.{◌≡◌, false, List, [], ◌∷◌, refl, sym, ap}
 use Rattle.std.specs.Option.{option_or}
 use Rattle.gql_ast.specs.ClauseColumns.{ColumnList}
 use Rattle.gql_ast.specs.Tree.{Tree}
-use Rattle.gql_ast.specs.declared.refusal.Refusal.{Refusal}
 use Rattle.gql_norm.specs.NormalPattern.{Part, in_a_row, side_by_side, sides_of}
 use Rattle.gql_pattern_checks.specs.Machinery.Scopes.{with_part, known_columns}
 use Rattle.gql_pattern_checks.specs.Machinery.ScopeWalk.{refused_under, refused_of, refused_in, refused_in_sides, refused_in_row, refused_beside}
 use Rattle.gql_pattern_checks.specs.declared.scope.Names.{Names}
 use Rattle.gql_pattern_checks.specs.declared.scoped.ScopeQuestion.{ScopeQuestion}
-
-alone : (o : Option Refusal) → o ≡ option_or o None
-alone None = refl
-alone (Some r) = refl
+use Rattle.gql_pattern_checks.proofs.WalkLemmas.{alone}
 
 pub refused_row : (q : ScopeQuestion) (columns : ColumnList) (s : Names) (p : Part) (ps : List Part)
     → refused_in q columns s (in_a_row p ps) ≡ refused_in_row q columns s (p ∷ ps)

@@ -9,11 +9,7 @@ use Rattle.gql_norm.specs.PredicateSpot.{PredicateSpot, predicates_of_element, p
 use Rattle.gql_norm.specs.OtherDefects.{predicates_of_path}
 use Rattle.gql_pattern_checks.specs.Machinery.PartWalk.{if_there, asked_of, asked_of_sides, asked_of_all, asked_of_paths}
 
-pub one_alone : {A : Type 0} (xs : List A) → xs ≡ xs ++ []
-one_alone [] = refl
-one_alone (x ∷ xs) = ap (λ ys. x ∷ ys) (one_alone xs)
-
-alone : (o : Option Refusal) → o ≡ option_or o None
+pub alone : (o : Option Refusal) → o ≡ option_or o None
 alone None = refl
 alone (Some r) = refl
 

@@ -1,13 +1,13 @@
 -- A question by the places of predicates, and by a walk that gathers what may be named: the same.
-use Rattle.std.proofs.Common.{◌≡◌, ℕ, ◌+◌, ◌≤◌, ◌<◌, true, false, List, [], ◌∷◌, ◌++◌, Option, None, refl, sym, ap, subst, ◌∙◌, arith, append_assoc}
+use Rattle.std.proofs.Common.{◌≡◌, ℕ, ◌+◌, ◌≤◌, ◌<◌, false, List, [], ◌∷◌, ◌++◌, Option, None, refl, sym, ap, subst, ◌∙◌, arith, append_assoc}
 use Rattle.std.specs.Prelude.{if◌then◌else◌}
 use Rattle.std.specs.Option.{option_or}
-use Rattle.std.proofs.lemmas.Bool.Decides.{nat_tests}
+use Rattle.std.proofs.lemmas.List.{append-nil}
 use Rattle.gql_values3.specs.declared.table.ColumnKind.TheVariants as kind
 use Rattle.gql_ast.specs.ClauseColumns.{ColumnList}
 use Rattle.gql_ast.specs.declared.refusal.Refusal.{Refusal}
 use Rattle.gql_norm.specs.NormalPattern.{Part, Node, Edge, Concat, Union, Alt, Quant, Opt, Scope, Sides, NoSide, Side}
-use Rattle.gql_norm.specs.Places.{size, size_all, is_inside}
+use Rattle.gql_norm.specs.Places.{size, size_all}
 use Rattle.gql_norm.specs.Declaration.{Declared, visible, visible_sides}
 use Rattle.gql_norm.specs.PredicateSpot.{PredicateSpot, predicates_in, predicates_in_sides, predicates_of_element, predicates_of_scope}
 use Rattle.gql_pattern_checks.specs.Machinery.Scopes.{with_variable_of, with_part}
@@ -15,7 +15,8 @@ use Rattle.gql_pattern_checks.specs.Machinery.ScopeWalk.{refused_of, refused_in,
 use Rattle.gql_pattern_checks.specs.declared.scope.Names.{Names}
 use Rattle.gql_pattern_checks.specs.declared.scoped.ScopeQuestion.{ScopeQuestion}
 use Rattle.gql_pattern_checks.proofs.HoldLemmas.{Holds, holds_variable, holds_part}
-use Rattle.gql_pattern_checks.proofs.PlaceLemmas.{Entries, entry_of, entries_of, seen_by, Agree, Below, agree_itself, agree_less, below_on, below_more, nothing_before, nothing_before_sides, seen_behind, seen_here, both_seen}
+use Rattle.gql_pattern_checks.proofs.PlaceLemmas.{Entries, entry_of, entries_of, seen_by, Agree, Below, agree_itself, agree_less, below_on, below_more, seen_behind, seen_here, both_seen, agree_below}
+use Rattle.gql_norm.proofs.VisibleLemmas.{not_entered, within, unseen, unseen_sides}
 
 -- What is said of a list of predicates is the first refusal of what is asked of each, under names that hold what is seen there.
 pub record IsAskedAt (q : ScopeQuestion) (columns : ColumnList) (seen : ℕ → List Declared) (said : List PredicateSpot → Option Refusal) : Type 0 where
@@ -30,60 +31,47 @@ Sees seen es p a qs = (x : ℕ) (around : List ℕ) → a ≤ x → x < a + size
 abbrev pub SeesSides : (ℕ → List Declared) → Entries → Sides → ℕ → List ℕ → Type 0
 SeesSides seen es ss b qs = (x : ℕ) (around : List ℕ) → b ≤ x → x < b + size_all ss → Agree around qs b → seen_by around (seen x) ≡ es ++ seen_by around (visible_sides ss b qs x)
 
-one_alone : (ds : List Declared) → ds ++ [] ≡ ds
-one_alone [] = refl
-one_alone (d ∷ ds) = ap (λ es. d ∷ es) (one_alone ds)
-
-not_yet : (entry others x : ℕ) → x < entry → is_inside entry others x ≡ false
-not_yet entry others x h = grind (arith, nat_tests)
-
-inside : (entry others x : ℕ) → entry ≤ x → x < entry + others → is_inside entry others x ≡ true
-inside entry others x h k = grind (arith, nat_tests)
-
-earlier : (around qs : List ℕ) (a b : ℕ) → a ≤ b → Agree around qs b → Agree around qs a
-earlier around qs a b h ag = λ q l. ag q (omega (arith, h, l))
-
 sees_first : (seen : ℕ → List Declared) (es : Entries) (p r : Part) (a : ℕ) (qs : List ℕ) → Sees seen es (Concat p r) a qs → Sees seen es p a qs
 unfolding size visible
 sees_first seen es p r a qs v = λ x around l h ag.
     v x around l (omega (arith, h)) ag
-    ∙ ap (λ ds. es ++ seen_by around (visible p a qs x ++ ds)) (nothing_before r (a + size p) qs x h)
-    ∙ ap (λ ds. es ++ seen_by around ds) (one_alone (visible p a qs x))
+    ∙ ap (λ ds. es ++ seen_by around (visible p a qs x ++ ds)) (unseen r (a + size p) qs x h)
+    ∙ ap (λ ds. es ++ seen_by around ds) (append-nil (visible p a qs x))
 
 sees_second : (seen : ℕ → List Declared) (es : Entries) (p r : Part) (a : ℕ) (qs : List ℕ) → Below qs a → Sees seen es (Concat p r) a qs → Sees seen (es ++ entries_of false p) r (a + size p) qs
 unfolding size visible
 sees_second seen es p r a qs bl v = λ x around l h ag.
-    v x around (omega (arith, l)) (omega (arith, h)) (earlier around qs a (a + size p) (omega arith) ag)
+    v x around (omega (arith, l)) (omega (arith, h)) (agree_below around qs a (a + size p) (omega arith) ag)
     ∙ ap (λ ds. es ++ ds) (both_seen around (visible p a qs x) (visible r (a + size p) qs x) (entries_of false p) (seen_by around (visible r (a + size p) qs x)) (seen_behind p a qs x around l ag bl) refl)
     ∙ sym (append_assoc es (entries_of false p) (seen_by around (visible r (a + size p) qs x)))
 
 sees_left : (seen : ℕ → List Declared) (es : Entries) (p r : Part) (a : ℕ) (qs : List ℕ) → Sees seen es (Union p r) a qs → Sees seen es p (a + 1) qs
 unfolding size visible
 sees_left seen es p r a qs v = λ x around l h ag.
-    v x around (omega (arith, l)) (omega (arith, h)) (earlier around qs a (a + 1) (omega arith) ag)
-    ∙ ap (λ b. es ++ seen_by around (if b then visible r (a + size p + 2) qs x else visible p (a + 1) qs x ++ visible r (a + size p + 2) qs x)) (not_yet (a + size p + 2) (size r) x (omega (arith, h)))
-    ∙ ap (λ ds. es ++ seen_by around (visible p (a + 1) qs x ++ ds)) (nothing_before r (a + size p + 2) qs x (omega (arith, h)))
-    ∙ ap (λ ds. es ++ seen_by around ds) (one_alone (visible p (a + 1) qs x))
+    v x around (omega (arith, l)) (omega (arith, h)) (agree_below around qs a (a + 1) (omega arith) ag)
+    ∙ ap (λ b. es ++ seen_by around (if b then visible r (a + size p + 2) qs x else visible p (a + 1) qs x ++ visible r (a + size p + 2) qs x)) (not_entered (a + size p + 2) (size r) x (omega (arith, h)))
+    ∙ ap (λ ds. es ++ seen_by around (visible p (a + 1) qs x ++ ds)) (unseen r (a + size p + 2) qs x (omega (arith, h)))
+    ∙ ap (λ ds. es ++ seen_by around ds) (append-nil (visible p (a + 1) qs x))
 
 sees_right : (seen : ℕ → List Declared) (es : Entries) (p r : Part) (a : ℕ) (qs : List ℕ) → Sees seen es (Union p r) a qs → Sees seen es r (a + size p + 2) qs
 unfolding size visible
 sees_right seen es p r a qs v = λ x around l h ag.
-    v x around (omega (arith, l)) (omega (arith, h)) (earlier around qs a (a + size p + 2) (omega arith) ag)
-    ∙ ap (λ b. es ++ seen_by around (if b then visible r (a + size p + 2) qs x else visible p (a + 1) qs x ++ visible r (a + size p + 2) qs x)) (inside (a + size p + 2) (size r) x l h)
+    v x around (omega (arith, l)) (omega (arith, h)) (agree_below around qs a (a + size p + 2) (omega arith) ag)
+    ∙ ap (λ b. es ++ seen_by around (if b then visible r (a + size p + 2) qs x else visible p (a + 1) qs x ++ visible r (a + size p + 2) qs x)) (within (a + size p + 2) (size r) x l h)
 
 sees_side : (seen : ℕ → List Declared) (es : Entries) (p : Part) (ss : Sides) (b : ℕ) (qs : List ℕ) → SeesSides seen es (Side p ss) b qs → Sees seen es p b qs
 unfolding size visible
 sees_side seen es p ss b qs v = λ x around l h ag.
     v x around l (omega (arith, h)) ag
-    ∙ ap (λ c. es ++ seen_by around (if c then visible_sides ss (b + size p + 1) qs x else visible p b qs x ++ visible_sides ss (b + size p + 1) qs x)) (not_yet (b + size p + 1) (size_all ss) x (omega (arith, h)))
-    ∙ ap (λ ds. es ++ seen_by around (visible p b qs x ++ ds)) (nothing_before_sides ss (b + size p + 1) qs x (omega (arith, h)))
-    ∙ ap (λ ds. es ++ seen_by around ds) (one_alone (visible p b qs x))
+    ∙ ap (λ c. es ++ seen_by around (if c then visible_sides ss (b + size p + 1) qs x else visible p b qs x ++ visible_sides ss (b + size p + 1) qs x)) (not_entered (b + size p + 1) (size_all ss) x (omega (arith, h)))
+    ∙ ap (λ ds. es ++ seen_by around (visible p b qs x ++ ds)) (unseen_sides ss (b + size p + 1) qs x (omega (arith, h)))
+    ∙ ap (λ ds. es ++ seen_by around ds) (append-nil (visible p b qs x))
 
 sees_other_sides : (seen : ℕ → List Declared) (es : Entries) (p : Part) (ss : Sides) (b : ℕ) (qs : List ℕ) → SeesSides seen es (Side p ss) b qs → SeesSides seen es ss (b + size p + 1) qs
 unfolding size visible
 sees_other_sides seen es p ss b qs v = λ x around l h ag.
-    v x around (omega (arith, l)) (omega (arith, h)) (earlier around qs b (b + size p + 1) (omega arith) ag)
-    ∙ ap (λ c. es ++ seen_by around (if c then visible_sides ss (b + size p + 1) qs x else visible p b qs x ++ visible_sides ss (b + size p + 1) qs x)) (inside (b + size p + 1) (size_all ss) x l h)
+    v x around (omega (arith, l)) (omega (arith, h)) (agree_below around qs b (b + size p + 1) (omega arith) ag)
+    ∙ ap (λ c. es ++ seen_by around (if c then visible_sides ss (b + size p + 1) qs x else visible p b qs x ++ visible_sides ss (b + size p + 1) qs x)) (within (b + size p + 1) (size_all ss) x l h)
 
 -- at an element its own variable is seen too
 element_holds : (seen : List Declared) (s : Names) (es : Entries) (v : Option (List ℕ)) (qs : List ℕ) → Holds [] s es → seen_by qs seen ≡ es ++ entry_of false v → Holds [] (with_variable_of false s v) (seen_by qs seen)
@@ -110,17 +98,17 @@ module _ (q : ScopeQuestion) (columns : ColumnList) (seen : ℕ → List Declare
         (asked_at r (a + size p + 2) qs s es (below_on qs a (a + size p + 2) (omega arith) bl) h (sees_right seen es p r a qs v) i))
     asked_at (Alt ss) a qs s es bl h v =
         asked_at_sides ss (a + 1) qs s es (below_on qs a (a + 1) (omega arith) bl) h
-        (λ x around l k ag. v x around (omega (arith, l)) (omega (arith, k)) (earlier around qs a (a + 1) (omega arith) ag))
+        (λ x around l k ag. v x around (omega (arith, l)) (omega (arith, k)) (agree_below around qs a (a + 1) (omega arith) ag))
     asked_at (Quant b l n) a qs s es bl h v =
         asked_at b (a + 2) (a ∷ qs) s es (below_more qs a bl) h
         (λ x around l k ag. v x around (omega (arith, l)) (omega (arith, k)) (agree_less around qs a ag))
     asked_at (Opt b) a qs s es bl h v =
         asked_at b (a + 1) qs s es (below_on qs a (a + 1) (omega arith) bl) h
-        (λ x around l k ag. v x around (omega (arith, l)) (omega (arith, k)) (earlier around qs a (a + 1) (omega arith) ag))
+        (λ x around l k ag. v x around (omega (arith, l)) (omega (arith, k)) (agree_below around qs a (a + 1) (omega arith) ag))
     asked_at (Scope m b c) a qs s es bl h v =
         f.both (predicates_in b (a + 1) qs) (predicates_of_scope (a + size b + 1) qs c ∷ [])
         ∙ (λ i. option_or
-        (asked_at b (a + 1) qs s es (below_on qs a (a + 1) (omega arith) bl) h (λ x around l k ag. v x around (omega (arith, l)) (omega (arith, k)) (earlier around qs a (a + 1) (omega arith) ag)) i)
+        (asked_at b (a + 1) qs s es (below_on qs a (a + 1) (omega arith) bl) h (λ x around l k ag. v x around (omega (arith, l)) (omega (arith, k)) (agree_below around qs a (a + 1) (omega arith) ag)) i)
         (f.at_spot (predicates_of_scope (a + size b + 1) qs c) (with_part false s b)
         (subst (λ ds. Holds [] (with_part false s b) ds)
         (sym (v (a + size b + 1) qs (omega arith) (omega arith) (agree_itself qs a)

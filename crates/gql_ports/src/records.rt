@@ -61,6 +61,13 @@ impl Records {
         self.items.len()
     }
 
+    /// All of them, in ascending order of their keys.
+    pub fn as_slice(&self) -> &[Record]
+        ensures { result.now ≡ self.now }
+    {
+        self.items.as_slice()
+    }
+
     /// The record of that place, from 0, in ascending order of the keys.
     pub fn get(&self, index: usize) -> Option<&Record>
         ensures { option_copied result ≡ slice_get self.now index }

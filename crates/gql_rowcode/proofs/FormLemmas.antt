@@ -1,5 +1,5 @@
 -- What a record says was spelled so, and each form that is spelled is said again.
-use Rattle.std.proofs.Common.{◌≡◌, ℕ, suc, ◌^◌, ◌<◌, Bool, true, false, cond, eqb, List, [], ◌∷◌, ◌++◌, length, Option, Some, None, Result, Ok, Err, refl, sym, ap, subst, ◌∙◌, append_assoc, inl, inr, ◌⊎◌}
+use Rattle.std.proofs.Common.{◌≡◌, ℕ, suc, ◌^◌, ◌<◌, Bool, true, false, cond, eqb, List, [], ◌∷◌, ◌++◌, length, Option, Some, None, Result, Ok, Err, refl, sym, ap, subst, ◌∙◌, append_assoc, inl, inr}
 use Rattle.std.specs.Prelude.{IfOk}
 use Rattle.std.specs.Int.{w32, to_be_bytes}
 use Rattle.std.proofs.lemmas.Bool.{eqb-true}
@@ -16,7 +16,7 @@ use Rattle.gql_fields.specs.Machinery.Reading.{◌>>=◌, Gives, number_at, text
 use Rattle.gql_fields.proofs.FieldLemmas.{IsBytes, Takes, Takes-then, bind_some, when_some, some_is, wide32, number_takes, number_again, text_takes, text_again}
 use Rattle.gql_fields.proofs.ItemLemmas.{IsSpelled, IsReadAgain}
 use Rattle.gql_fields.proofs.LabelLemmas.{labels_take, labels_again}
-use Rattle.gql_fields.proofs.ValueLemmas.{chosen, flag_takes, flag_again}
+use Rattle.gql_fields.proofs.ValueLemmas.{chosen, flag_takes}
 use Rattle.gql_fields.proofs.PropertyLemmas.{properties_take, properties_again}
 use Rattle.gql_typecode.specs.Machinery.TypeReading.{whole_type_at}
 use Rattle.gql_typecode.proofs.TypeLemmas.{whole_type_takes, whole_type_again}
@@ -203,16 +203,16 @@ edge_value_again x kept = whole_again edge_spelled IsKeptEdge (both_at ends_at c
 abbrev IsSaid : ℕ → List ℕ → List ℕ → Form → Type 0
 IsSaid kind key value f = IsForm f × (kind ∷ key ≡ key_of f) × (value ≡ value_of f)
 
+pub when_then : {A : Type 0} (b : Bool) (x : Option A) (y : A) → cond b x None ≡ Some y → (b ≡ true) × (x ≡ Some y)
+when_then true x y e = (refl, e)
+when_then false x y e = absurd (cc)
+
 version_takes : (key value : List ℕ) (f : Form) → version_form_at key value ≡ Some f → IsSaid 0 key value f
 unfolding version_form_at
 version_takes key value f e =
     let g = when_then (eqb (length key) 0) (version_value_at value) f e in
     let w = when_some (same_text value (1 ∷ [])) version f g.1 in
     subst (IsSaid 0 key value) w.1 (tt, ap (λ (k : List ℕ). 0 ∷ k) (nil_from_length key (eqb-true _ _ g.0)), (bytes_eq-Decides value (1 ∷ [])).0 w.0)
-  where
-    when_then : {A : Type 0} (b : Bool) (x : Option A) (y : A) → cond b x None ≡ Some y → (b ≡ true) × (x ≡ Some y)
-    when_then true x y e = (refl, e)
-    when_then false x y e = absurd (cc)
 
 type_takes : (key value : List ℕ) (f : Form) → IsBytes key → IsBytes value → type_form_at key value ≡ Some f → IsSaid 1 key value f
 unfolding type_form_at

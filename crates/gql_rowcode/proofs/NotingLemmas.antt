@@ -1,5 +1,5 @@
 -- What a node or an edge changes of what is known, where the graph's place was found.
-use Rattle.std.proofs.Common.{◌≡◌, ◌∙◌, ℕ, ◌<◌, Bool, true, false, List, map, length, get_or, Option, Some, None, refl, sym, ap, subst}
+use Rattle.std.proofs.Common.{◌≡◌, ◌∙◌, ℕ, Bool, true, false, List, map, get_or, Option, Some, None, refl, sym, ap, subst}
 use Rattle.std.specs.Prelude.{option_map, position, slice_set}
 use Rattle.std.specs.List.{list_all}
 use Rattle.gql_values3.specs.PropertyGraph.{are_nodes}
@@ -17,7 +17,8 @@ use Rattle.gql_rowcode.specs.Machinery.KeyOrder.{AreListed}
 use Rattle.gql_rowcode.specs.Machinery.Noted.{note, node_joins, edge_joins, noted_after, noted_of, IsNoted, graph_seen, named_seen, with_node_seen, with_edge_seen}
 use Rattle.gql_rowcode.proofs.MemberLemmas.{Has, has_map, all_has}
 use Rattle.gql_rowcode.proofs.NameLemmas.{named_has}
-use Rattle.gql_rowcode.proofs.PlaceLemmas.{pass, skip, place_within, has_get, named_at, named_nowhere, named_seen-under, changed_at}
+use Rattle.gql_rowcode.proofs.SortedLemmas.{when, unless}
+use Rattle.gql_rowcode.proofs.PlaceLemmas.{place_within, has_get, named_at, named_nowhere, named_seen-under, changed_at}
 
 -- a graph type that is found is in order
 pub type_in_order : (types : List (List ℕ × GraphType)) (name : List ℕ) (t : GraphType) → list_all (λ (t : List ℕ × GraphType). is_graph_type t.1) types ≡ true → Some t ≡ named name types → is_graph_type t ≡ true
@@ -32,11 +33,11 @@ nowhere s name e = sym (named_seen-under name s.graphs.items) ∙ ap (option_map
 
 pub node_nowhere : (s : Seen) (name : List ℕ) (r : NodeRecord) (first : Bool) → PlaceIs s name None → noted_after first (noted_of s) (node name r) ≡ None
 node_nowhere s name r first e =
-    skip (node_joins s.types.items r (named name (noted_of s).graphs)) (Some (note (noted_of s) (node name r))) None (ap (node_joins s.types.items r) (nowhere s name e))
+    unless (node_joins s.types.items r (named name (noted_of s).graphs)) (Some (note (noted_of s) (node name r))) None (ap (node_joins s.types.items r) (nowhere s name e))
 
 pub edge_nowhere : (s : Seen) (name : List ℕ) (r : EdgeRecord) (first : Bool) → PlaceIs s name None → noted_after first (noted_of s) (edge name r) ≡ None
 edge_nowhere s name r first e =
-    skip (edge_joins s.types.items r (named name (noted_of s).graphs)) (Some (note (noted_of s) (edge name r))) None (ap (edge_joins s.types.items r) (nowhere s name e))
+    unless (edge_joins s.types.items r (named name (noted_of s).graphs)) (Some (note (noted_of s) (edge name r))) None (ap (edge_joins s.types.items r) (nowhere s name e))
 
 module _ (s : Seen) (name : List ℕ) (place : ℕ) (x : List ℕ × GraphSeen) (at : PlaceIs s name (Some place)) (is : x ≡ get_or s.graphs.items place x) where
   found : named name (noted_of s).graphs ≡ Some (graph_seen x.1)
@@ -51,11 +52,11 @@ module _ (s : Seen) (name : List ℕ) (place : ℕ) (x : List ℕ × GraphSeen) 
   module _ (first : Bool) where
     pub node_refused : (r : NodeRecord) → node_joins s.types.items r (Some (graph_seen x.1)) ≡ false → noted_after first (noted_of s) (node name r) ≡ None
     node_refused r no_join =
-        skip (node_joins s.types.items r (named name (noted_of s).graphs)) (Some (note (noted_of s) (node name r))) None (ap (node_joins s.types.items r) found ∙ no_join)
+        unless (node_joins s.types.items r (named name (noted_of s).graphs)) (Some (note (noted_of s) (node name r))) None (ap (node_joins s.types.items r) found ∙ no_join)
 
     pub edge_refused : (r : EdgeRecord) → edge_joins s.types.items r (Some (graph_seen x.1)) ≡ false → noted_after first (noted_of s) (edge name r) ≡ None
     edge_refused r no_join =
-        skip (edge_joins s.types.items r (named name (noted_of s).graphs)) (Some (note (noted_of s) (edge name r))) None (ap (edge_joins s.types.items r) found ∙ no_join)
+        unless (edge_joins s.types.items r (named name (noted_of s).graphs)) (Some (note (noted_of s) (edge name r))) None (ap (edge_joins s.types.items r) found ∙ no_join)
 
     pub node_noted : (r : NodeRecord) (next : Seen) → AreListed s.graphs.items → node_joins s.types.items r (Some (graph_seen x.1)) ≡ true
         → ((d : List ℕ × GraphSeen) → next.graphs.items ≡ slice_set s.graphs.items place (with_node_seen r (get_or s.graphs.items place d))) → next.types.items ≡ s.types.items
@@ -63,7 +64,7 @@ module _ (s : Seen) (name : List ℕ) (place : ℕ) (x : List ℕ × GraphSeen) 
     node_noted r next listed joins graphs types =
         let set : map named_seen next.graphs.items ≡ (on_graph name (and_node r) (noted_of s)).graphs = ap (map named_seen) (graphs x) ∙ sym (changed_at name (and_node r) (with_node_seen r) (λ g. refl) s.graphs.items place x listed at) in
         let same : note (noted_of s) (node name r) ≡ noted_of next = λ i. record { graphs = sym set i; types = sym types i } in
-        pass (node_joins s.types.items r (named name (noted_of s).graphs)) (Some (note (noted_of s) (node name r))) None (ap (node_joins s.types.items r) found ∙ joins) ∙ ap (λ (c : CatalogData). Some c) same
+        when (node_joins s.types.items r (named name (noted_of s).graphs)) (Some (note (noted_of s) (node name r))) None (ap (node_joins s.types.items r) found ∙ joins) ∙ ap (λ (c : CatalogData). Some c) same
 
     pub edge_noted : (r : EdgeRecord) (next : Seen) → AreListed s.graphs.items → edge_joins s.types.items r (Some (graph_seen x.1)) ≡ true
         → ((d : List ℕ × GraphSeen) → next.graphs.items ≡ slice_set s.graphs.items place (with_edge_seen r (get_or s.graphs.items place d))) → next.types.items ≡ s.types.items
@@ -71,4 +72,4 @@ module _ (s : Seen) (name : List ℕ) (place : ℕ) (x : List ℕ × GraphSeen) 
     edge_noted r next listed joins graphs types =
         let set : map named_seen next.graphs.items ≡ (on_graph name (and_edge r) (noted_of s)).graphs = ap (map named_seen) (graphs x) ∙ sym (changed_at name (and_edge r) (with_edge_seen r) (λ g. refl) s.graphs.items place x listed at) in
         let same : note (noted_of s) (edge name r) ≡ noted_of next = λ i. record { graphs = sym set i; types = sym types i } in
-        pass (edge_joins s.types.items r (named name (noted_of s).graphs)) (Some (note (noted_of s) (edge name r))) None (ap (edge_joins s.types.items r) found ∙ joins) ∙ ap (λ (c : CatalogData). Some c) same
+        when (edge_joins s.types.items r (named name (noted_of s).graphs)) (Some (note (noted_of s) (edge name r))) None (ap (edge_joins s.types.items r) found ∙ joins) ∙ ap (λ (c : CatalogData). Some c) same

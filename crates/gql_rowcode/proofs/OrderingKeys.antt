@@ -18,6 +18,7 @@ use Rattle.gql_fields.specs.Spelling.{spelled}
 use Rattle.gql_rowcode.specs.Records.{Form, version, graph_type, graph, node, edge, key_of}
 use Rattle.gql_rowcode.specs.StandFor.{graph_forms, catalog_forms}
 use Rattle.gql_rowcode.specs.Machinery.Writing.{text_cmp}
+use Rattle.gql_rowcode.proofs.NumberLemmas.{numbers_bound}
 use Rattle.gql_rowcode.proofs.OrderingLists.{all_always, all_weaker, all_append, all_map, all_flat_map, Across, Pairs, pairs_append, pairs_weaker, pairs_map, pairs_of_map, pairs_flat_map}
 
 -- ---- parts of keys
@@ -70,18 +71,12 @@ names_differ (k ∷ ks) h = (all_weaker (λ j. text_cmp k j ≡ Less) (λ j. k �
 abbrev Below : ℕ → ℕ → ℕ → Type 0
 Below high n m = (n < m) × (m < high)
 
-bounds_ascend : (low : ℕ) (ns : List ℕ) (high : ℕ) → numbers_ascend low ns high ≡ true → low < high
-bounds_ascend low [] high h = ltb-true low high h
-bounds_ascend low (n ∷ ns) high h =
-    let parts = and_parts (ltb low n) (numbers_ascend n ns high) h in
-    omega (arith, ltb-true low n parts.0, bounds_ascend n ns high parts.1)
-
 numbers_above : (low : ℕ) (ns : List ℕ) (high : ℕ) → numbers_ascend low ns high ≡ true → AllByRecursion (Below high low) ns
 numbers_above low [] high h = tt
 numbers_above low (n ∷ ns) high h =
     let parts = and_parts (ltb low n) (numbers_ascend n ns high) h in
     let first : low < n = ltb-true low n parts.0 in
-    ((first, bounds_ascend n ns high parts.1), all_weaker (Below high n) (Below high low) (λ m p. (omega (arith, first, p.0), p.1)) ns (numbers_above n ns high parts.1))
+    ((first, numbers_bound n ns high parts.1), all_weaker (Below high n) (Below high low) (λ m p. (omega (arith, first, p.0), p.1)) ns (numbers_above n ns high parts.1))
 
 numbers_pairs : (low : ℕ) (ns : List ℕ) (high : ℕ) → numbers_ascend low ns high ≡ true → Pairs (Below high) ns
 numbers_pairs low [] high h = tt

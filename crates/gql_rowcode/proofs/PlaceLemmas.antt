@@ -1,7 +1,7 @@
 -- What a search by the order of keys finds, and what a change at its place does.
-use Rattle.std.proofs.Common.{◌≡◌, ◌≢◌, ◌∙◌, ℕ, zero, suc, ◌+◌, ◌<◌, ◌≤◌, nat_lt, ltb, cond, Bool, true, false, not, ◌&&◌, List, [], ◌∷◌, ◌++◌, map, length, get_or, Option, Some, None, Result, Ok, Err, refl, sym, ap, subst, arith, inl, inr, ◌⊎◌}
+use Rattle.std.proofs.Common.{◌≡◌, ◌≢◌, ◌∙◌, ℕ, zero, suc, ◌+◌, ◌<◌, ◌≤◌, nat_lt, cond, Bool, true, false, not, List, [], ◌∷◌, map, length, get_or, Option, Some, None, Result, Ok, Err, refl, sym, ap, arith, inl, inr}
 use Rattle.std.specs.Prelude.{find, option_map, position, slice_set}
-use Rattle.std.specs.List.{list_all, position_or_len}
+use Rattle.std.specs.List.{position_or_len}
 use Rattle.std.specs.List.Sorted.{IsSearchInRange, IsBinarySearchResult, IsNonDecreasingBy}
 use Rattle.std.specs.Cmp.{IsTotalOrder}
 use Rattle.std.specs.declared.cmp.Ordering.{Ordering}
@@ -12,14 +12,15 @@ use Rattle.std.proofs.lemmas.Bool.{cases_lt, cases_order, lt-ltb, le-ltb, ltb-tr
 use Rattle.std.proofs.lemmas.Cmp.{nat_cmp_total, nat_list_cmp_total, then_total, on_total, tied_itself}
 use Rattle.std.proofs.lemmas.List.{get_or-map, length-map}
 use Rattle.std.proofs.lemmas.List.Sorted.{searchable_from_sorted}
-use Rattle.gql_values3.specs.PropertyGraph.{PropertyGraph, are_nodes}
+use Rattle.gql_values3.specs.PropertyGraph.{PropertyGraph}
 use Rattle.gql_values3.specs.Texts.{same_text}
 use Rattle.gql_graph.specs.Catalog.{CatalogGraph, named}
 use Rattle.gql_rowcode.specs.declared.seen.GraphSeen.{GraphSeen}
 use Rattle.gql_rowcode.specs.Machinery.KeyOrder.{key_cmp, AreListed}
 use Rattle.gql_rowcode.specs.Machinery.Noted.{graph_seen, named_seen}
-use Rattle.gql_rowcode.proofs.MemberLemmas.{Has, has_map, all_has, find_has}
+use Rattle.gql_rowcode.proofs.MemberLemmas.{Has, find_has}
 use Rattle.gql_rowcode.proofs.NameLemmas.{text_is, text_same}
+use Rattle.gql_rowcode.proofs.SortedLemmas.{when, unless}
 use Rattle.gql_rowcode.proofs.SaidLemmas.{changed, on_one}
 
 -- ---- the order
@@ -62,14 +63,6 @@ there : {X : Type 0} (b : Bool) (x y : X) → b ≡ false → cond (not b) x y �
 there true x y e = absurd (cc)
 there false x y e = refl
 
-pub pass : {X : Type 0} (b : Bool) (x y : X) → b ≡ true → cond b x y ≡ x
-pass true x y e = refl
-pass false x y e = absurd (cc)
-
-pub skip : {X : Type 0} (b : Bool) (x y : X) → b ≡ false → cond b x y ≡ y
-skip true x y e = absurd (cc)
-skip false x y e = refl
-
 module _ {X : Type 0} (p : X → Bool) where
   place_first : (xs : List X) (i : ℕ) → i < length xs → ((d : X) → p (get_or xs i d) ≡ true) → ((j : ℕ) (d : X) → j < i → p (get_or xs j d) ≡ false) → position_or_len p xs ≡ i
   place_first [] i lt at before = absurd (omega arith)
@@ -96,10 +89,10 @@ module _ {X : Type 0} (p : X → Bool) where
       → (position_or_len p ys < length ys → x ≡ get_or ys (position_or_len p ys) x → find p ys ≡ Some x) → find p (y ∷ ys) ≡ Some x
   found_case true y x ys e lt is rest =
       let at : position_or_len p (y ∷ ys) ≡ 0 = here (p y) (1 + position_or_len p ys) 0 e in
-      pass (p y) (Some y) (find p ys) e ∙ ap (λ (z : X). Some z) (sym (is ∙ ap (λ (n : ℕ). get_or (y ∷ ys) n x) at))
+      when (p y) (Some y) (find p ys) e ∙ ap (λ (z : X). Some z) (sym (is ∙ ap (λ (n : ℕ). get_or (y ∷ ys) n x) at))
   found_case false y x ys e lt is rest =
       let at : position_or_len p (y ∷ ys) ≡ suc (position_or_len p ys) = there (p y) (1 + position_or_len p ys) 0 e ∙ omega arith in
-      skip (p y) (Some y) (find p ys) e ∙ rest (omega arith) (is ∙ ap (λ (n : ℕ). get_or (y ∷ ys) n x) at)
+      unless (p y) (Some y) (find p ys) e ∙ rest (omega arith) (is ∙ ap (λ (n : ℕ). get_or (y ∷ ys) n x) at)
 
   find_at : (xs : List X) (x : X) → position_or_len p xs < length xs → x ≡ get_or xs (position_or_len p xs) x → find p xs ≡ Some x
   find_at [] x lt is = absurd (omega arith)
@@ -109,7 +102,7 @@ module _ {X : Type 0} (p : X → Bool) where
   none_case true y ys e le rest = let at : position_or_len p (y ∷ ys) ≡ 0 = here (p y) (1 + position_or_len p ys) 0 e in absurd (omega arith)
   none_case false y ys e le rest =
       let at : position_or_len p (y ∷ ys) ≡ suc (position_or_len p ys) = there (p y) (1 + position_or_len p ys) 0 e ∙ omega arith in
-      skip (p y) (Some y) (find p ys) e ∙ rest (omega arith)
+      unless (p y) (Some y) (find p ys) e ∙ rest (omega arith)
 
   find_past : (xs : List X) → length xs ≤ position_or_len p xs → find p xs ≡ None
   find_past [] le = refl
@@ -170,10 +163,10 @@ module _ {A : Type 0} (name : List ℕ) (xs : List (List ℕ × A)) (listed : Ar
       ]
 
   position_at : (i : ℕ) → i < length xs → position_or_len has_name xs ≡ i → position has_name xs ≡ Some i
-  position_at i lt e = pass (nat_lt (position_or_len has_name xs) (length xs)) (Some (position_or_len has_name xs)) None (lt-ltb (position_or_len has_name xs) (length xs) (omega arith)) ∙ ap (λ (n : ℕ). Some n) e
+  position_at i lt e = when (nat_lt (position_or_len has_name xs) (length xs)) (Some (position_or_len has_name xs)) None (lt-ltb (position_or_len has_name xs) (length xs) (omega arith)) ∙ ap (λ (n : ℕ). Some n) e
 
   position_past : position_or_len has_name xs ≡ length xs → position has_name xs ≡ None
-  position_past e = skip (nat_lt (position_or_len has_name xs) (length xs)) (Some (position_or_len has_name xs)) None (le-ltb (position_or_len has_name xs) (length xs) (omega arith))
+  position_past e = unless (nat_lt (position_or_len has_name xs) (length xs)) (Some (position_or_len has_name xs)) None (le-ltb (position_or_len has_name xs) (length xs) (omega arith))
 
   missed : (i : ℕ) → ((j : ℕ) (d : List ℕ × A) → j < i → key_cmp (get_or xs j d).0 name ≡ Less) → ((j : ℕ) (d : List ℕ × A) → i ≤ j → j < length xs → key_cmp (get_or xs j d).0 name ≡ Greater) → (j : ℕ) (d : List ℕ × A) → j < length xs → has_name (get_or xs j d) ≡ false
   missed i less more j d lt =
@@ -221,10 +214,10 @@ named_seen-under name (g ∷ gs) = named_case name (same_text name g.0) g (find 
 -- one graph changed at its place is each graph of the name changed
 module _ (name : List ℕ) (change : PropertyGraph → PropertyGraph) (here_changed : List ℕ × GraphSeen → List ℕ × GraphSeen) (is : (g : List ℕ × GraphSeen) → named_seen (here_changed g) ≡ (g.0, changed change (graph_seen g.1))) where
   one_stays : (g : List ℕ × GraphSeen) → same_text name g.0 ≡ false → on_one name change (named_seen g) ≡ named_seen g
-  one_stays g e = skip (same_text name g.0) (g.0, changed change (graph_seen g.1)) (named_seen g) e
+  one_stays g e = unless (same_text name g.0) (g.0, changed change (graph_seen g.1)) (named_seen g) e
 
   one_changes : (g : List ℕ × GraphSeen) → same_text name g.0 ≡ true → on_one name change (named_seen g) ≡ named_seen (here_changed g)
-  one_changes g e = pass (same_text name g.0) (g.0, changed change (graph_seen g.1)) (named_seen g) e ∙ sym (is g)
+  one_changes g e = when (same_text name g.0) (g.0, changed change (graph_seen g.1)) (named_seen g) e ∙ sym (is g)
 
   all_stay : (gs : List (List ℕ × GraphSeen)) → ((j : ℕ) (d : List ℕ × GraphSeen) → j < length gs → same_text name (get_or gs j d).0 ≡ false) → map (on_one name change) (map named_seen gs) ≡ map named_seen gs
   all_stay [] none = refl

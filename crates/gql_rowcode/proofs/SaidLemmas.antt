@@ -1,11 +1,11 @@
 -- What a catalog says, and what it says once a form more is told.
-use Rattle.std.proofs.Common.{◌≡◌, ℕ, ◌∙◌, cond, Bool, true, false, List, [], ◌∷◌, ◌++◌, map, Option, Some, None, refl, sym, ap, subst, inl, inr, ◌⊎◌}
+use Rattle.std.proofs.Common.{◌≡◌, ℕ, ◌∙◌, cond, Bool, true, false, List, [], ◌∷◌, map, Option, Some, refl, sym, ap, subst, inl, inr, ◌⊎◌}
 use Rattle.std.specs.List.{flat_map}
 use Rattle.gql_values3.specs.Texts.{same_text}
 use Rattle.gql_values3.specs.PropertyGraph.{PropertyGraph}
 use Rattle.gql_values3.specs.declared.records.NodeRecord.{NodeRecord}
 use Rattle.gql_values3.specs.declared.records.EdgeRecord.{EdgeRecord}
-use Rattle.gql_graph.specs.Catalog.{CatalogGraph, CatalogData, named, held_in, put_named}
+use Rattle.gql_graph.specs.Catalog.{CatalogGraph, CatalogData, held_in}
 use Rattle.gql_graph.specs.declared.graph_type.GraphType.{GraphType}
 use Rattle.gql_rowcode.specs.Records.{Form, version, graph_type, graph, node, edge}
 use Rattle.gql_rowcode.specs.StandFor.{graph_forms, catalog_forms}
@@ -97,9 +97,6 @@ module _ (name : List ℕ) (change : PropertyGraph → PropertyGraph) where
     -- a number or a name that the change keeps
     pub kept_before : {Y : Type 0} (v : CatalogGraph → Y) (y : Y) → ((g : CatalogGraph) → v (changed change g) ≡ v g) → (m : List ℕ) (h g : CatalogGraph) → h ≡ on_held (same_text name m) change g → v h ≡ y → v g ≡ y
     kept_before v y same m h g is e = sym (kept v same (same_text name m) g) ∙ sym (ap v is) ∙ e
-
-    abbrev Keeps : Type 0
-    Keeps = ((g : PropertyGraph) → (change g).next_node ≡ g.next_node) × ((g : PropertyGraph) → (change g).next_edge ≡ g.next_edge)
 
     pub graph_said_back : ((g : PropertyGraph) → (change g).next_node ≡ g.next_node) → ((g : PropertyGraph) → (change g).next_edge ≡ g.next_edge) → (m : List ℕ) (k : Option (List ℕ)) (x y : ℕ) → Says (on_graph name change c) (graph m k x y) → Says c (graph m k x y)
     graph_said_back same_n same_e m k x y s =

@@ -1,6 +1,6 @@
 -- What has a name, put in order by name at last: what stands under a name is found all the same, and one item more, or the items seen
 -- otherwise, are so in order, too.
-use Rattle.std.proofs.Common.{◌≡◌, ℕ, ◌∙◌, cond, Bool, true, false, List, [], ◌∷◌, ◌++◌, map, Option, Some, None, refl, sym, ap, subst, inl, inr, ◌⊎◌}
+use Rattle.std.proofs.Common.{◌≡◌, ℕ, ◌∙◌, cond, Bool, true, false, List, [], ◌∷◌, ◌++◌, map, refl, sym, ap, inl, inr, ◌⊎◌}
 use Rattle.std.specs.Ordering.{is_lt, is_eq, nat_cmp, ordering_reverse}
 use Rattle.std.specs.declared.cmp.Ordering.{Ordering}
 use Rattle.std.specs.declared.cmp.Ordering.TheVariants.{Less, Equal, Greater}
@@ -26,11 +26,11 @@ below_or a b c less no_less = elim (not_before c b (slice_cmp nat_cmp c b) refl 
   | inr above ↦ below_chain a b c less above
 ]
 
-when : {X : Type 0} (b : Bool) (x y : X) → b ≡ true → cond b x y ≡ x
+pub when : {X : Type 0} (b : Bool) (x y : X) → b ≡ true → cond b x y ≡ x
 when true x y e = refl
 when false x y e = absurd (cc)
 
-unless : {X : Type 0} (b : Bool) (x y : X) → b ≡ false → cond b x y ≡ y
+pub unless : {X : Type 0} (b : Bool) (x y : X) → b ≡ false → cond b x y ≡ y
 unless true x y e = absurd (cc)
 unless false x y e = refl
 

@@ -1,13 +1,13 @@
 -- Going over records from the first on: behind a record that may stand there all is known that was known before, and it; a record that may
 -- not is at fault.
-use Rattle.std.proofs.Common.{◌≡◌, ◌≢◌, ◌∙◌, ℕ, zero, suc, ◌+◌, ◌<◌, ◌≤◌, eqb, cond, Bool, true, false, ◌&&◌, List, [], ◌∷◌, ◌++◌, map, length, get_or, take, Option, Some, None, Result, Err, refl, sym, ap, subst, arith, inl, inr, ◌⊎◌}
+use Rattle.std.proofs.Common.{◌≡◌, ◌≢◌, ◌∙◌, ℕ, zero, suc, ◌+◌, ◌<◌, ◌≤◌, eqb, Bool, true, false, List, [], ◌∷◌, ◌++◌, map, length, get_or, take, Option, Some, None, Result, Err, refl, sym, ap, subst, arith, inl, inr}
 use Rattle.std.specs.Prelude.{slice_get}
-use Rattle.std.specs.List.{list_all, AllByRecursion}
-use Rattle.std.proofs.lemmas.Bool.{cases_lt, and_parts, and_from, eqb-true, ne_eqb, eq-eqb}
-use Rattle.std.proofs.lemmas.List.{take_more, take_all, append-nil}
-use Rattle.std.proofs.lemmas.Option.{get_or_from_slice_get, slice_get_within}
+use Rattle.std.specs.List.{list_all}
+use Rattle.std.proofs.lemmas.Bool.{cases_lt, and_parts, and_from, eqb-true}
+use Rattle.std.proofs.lemmas.List.{take_more, take_all}
+use Rattle.std.proofs.lemmas.Option.{get_or_from_slice_get}
 use Rattle.gql_values3.specs.PropertyGraph.{are_numbers, are_nodes, is_node_record, numbers_ascend}
-use Rattle.gql_values3.specs.Texts.{ascend_above, texts_ascend}
+use Rattle.gql_values3.specs.Texts.{ascend_above}
 use Rattle.gql_fields.specs.Machinery.Reading.{◌>>=◌}
 use Rattle.gql_graph.specs.Catalog.{CatalogGraph, CatalogData, is_before}
 use Rattle.gql_graph.specs.declared.graph_type.GraphType.{GraphType}
@@ -16,17 +16,17 @@ use Rattle.gql_ports.specs.Held.{keys_ascend}
 use Rattle.gql_ports.specs.declared.stored.Record.{Record}
 use Rattle.gql_rowcode.specs.Records.{Form, version, graph_type, graph, node, edge, key_of, value_of, record_of, IsForm}
 use Rattle.gql_rowcode.specs.StandFor.{StandFor}
-use Rattle.gql_rowcode.specs.FirstBad.{described, Follows, IsGood, FirstBad}
+use Rattle.gql_rowcode.specs.FirstBad.{Follows, IsGood, FirstBad}
 use Rattle.gql_rowcode.specs.declared.fault.ReadFault.{ReadFault}
 use Rattle.gql_rowcode.specs.declared.fault.ReadFault.TheVariants.{BadRecord}
 use Rattle.gql_rowcode.specs.Machinery.FormReading.{form_at}
 use Rattle.gql_rowcode.specs.Machinery.KeyOrder.{AreListed}
 use Rattle.gql_rowcode.specs.Machinery.Noted.{note, may_join, noted_after, record_after, in_order, IsNoted, WasRead}
 use Rattle.gql_rowcode.proofs.MemberLemmas.{Has, all_from, each_has}
-use Rattle.gql_rowcode.proofs.SortedLemmas.{has_sorted}
+use Rattle.gql_rowcode.proofs.SortedLemmas.{when, has_sorted}
 use Rattle.gql_rowcode.proofs.SoundLemmas.{IsGraph, Sound, node_number}
 use Rattle.gql_rowcode.proofs.KeyLemmas.{record_key, forms_in_order}
-use Rattle.gql_rowcode.proofs.FormLemmas.{form_again}
+use Rattle.gql_rowcode.proofs.FormLemmas.{when_then, form_again}
 use Rattle.gql_rowcode.proofs.NotedLemmas.{noted, noted-push, described-noted, follows_joins, joins_follow}
 use Rattle.gql_rowcode.proofs.KeyOrderLemmas.{types_are_listed, graphs_are_listed}
 use Rattle.gql_rowcode.proofs.KnownLemmas.{Known, known_nothing, known_more, known_stand, is_good, good_form}
@@ -73,14 +73,6 @@ keys_from (s ∷ rs) r f is up = push_from s.key rs r up
 
 -- ---- one record
 
-when : {X : Type 0} (b : Bool) (x y : X) → b ≡ true → cond b x y ≡ x
-when true x y e = refl
-when false x y e = absurd (cc)
-
-when_some : {X : Type 0} (b : Bool) (x : Option X) (y : X) → cond b x None ≡ Some y → (b ≡ true) × (x ≡ Some y)
-when_some true x y e = (refl, e)
-when_some false x y e = absurd (cc)
-
 some_same : (a b : CatalogData) → Some a ≡ Some b → a ≡ b
 some_same a b e = cc
 
@@ -93,7 +85,7 @@ after_spelled last first c r f fits is lt =
 
 after_is_before : (last : List ℕ) (first : Bool) (c next : CatalogData) (r : Record) → record_after last first c r.key r.value ≡ Some next → is_before last r.key ≡ true
 unfolding record_after
-after_is_before last first c next r e = (when_some (is_before last r.key) (form_at r.key r.value >>= noted_after first c) next e).0
+after_is_before last first c next r e = (when_then (is_before last r.key) (form_at r.key r.value >>= noted_after first c) next e).0
 
 -- ---- what is known of the records before a place
 
@@ -172,10 +164,10 @@ module _ (records : List Record) (place : ℕ) (last : List ℕ) (c : CatalogDat
       told = sym (after_spelled last (eqb place 0) c r f fits is before) ∙ after
 
       joins : may_join (eqb place 0) c f ≡ true
-      joins = (when_some (may_join (eqb place 0) c f) (Some (note c f)) next told).0
+      joins = (when_then (may_join (eqb place 0) c f) (Some (note c f)) next told).0
 
       noted_next : note c f ≡ next
-      noted_next = some_same (note c f) next (when_some (may_join (eqb place 0) c f) (Some (note c f)) next told).1
+      noted_next = some_same (note c f) next (when_then (may_join (eqb place 0) c f) (Some (note c f)) next told).1
 
       ordered : keys_ascend (take place records ++ r ∷ []) ≡ true
       ordered = keys_to (take place records) r read.known.ordered (ap (λ (k : List ℕ). is_before k r.key) (sym read.last_is) ∙ before)

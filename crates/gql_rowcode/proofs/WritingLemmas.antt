@@ -19,12 +19,13 @@ use Rattle.gql_graph.specs.declared.graph_type.PropType.{PropType}
 use Rattle.gql_graph.specs.declared.graph_type.EdgeType.{EdgeType}
 use Rattle.gql_graph.specs.declared.graph_type.GraphType.{GraphType}
 use Rattle.gql_type.specs.GraphTypes.{is_content_type, is_node_type, is_edge_type, is_graph_type}
-use Rattle.gql_type.specs.SoundCatalog.{fits_kind, is_sound}
+use Rattle.gql_type.specs.SoundCatalog.{is_sound}
 use Rattle.gql_typecode.specs.TypeOrder.{IsNodeTypeInOrder, IsEdgeTypeInOrder, IsTypeInOrder}
 use Rattle.gql_rowcode.specs.Records.{Form, version, graph_type, graph, node, edge, record_of, IsForm}
 use Rattle.gql_rowcode.specs.StandFor.{graph_forms, catalog_forms, AreRecordsOf, StandFor}
 use Rattle.gql_rowcode.specs.Machinery.Writing.{Says, SayAlso, key_before}
 use Rattle.gql_rowcode.proofs.OrderingLists.{all_append, pairs_map, contains_of_map, contains_map}
+use Rattle.gql_rowcode.proofs.CatalogLemmas.{sound_catalog}
 use Rattle.gql_rowcode.proofs.OrderingKeys.{catalog_apart}
 use Rattle.gql_rowcode.proofs.OrderingSort.{KeysDiffer, sorted_ascends}
 
@@ -128,11 +129,6 @@ type_in_order t h =
         and_parts (texts_ascend e.labels) (texts_ascend (map (λ (q : PropType). q.name) e.body)) content.0
 
 -- ---- in order by key
-
-pub sound_catalog : (c : CatalogData) → is_sound c ≡ true → is_catalog c ≡ true
-sound_catalog c h =
-    (and_parts (is_catalog c) (list_all (λ (t : List ℕ × GraphType). is_graph_type t.1) c.types)
-    (and_parts (is_catalog c && list_all (λ (t : List ℕ × GraphType). is_graph_type t.1) c.types) (list_all (λ (g : List ℕ × CatalogGraph). fits_kind c.types g.1.graph g.1.kind) c.graphs) h).0).0
 
 pub all_ascend : (c : CatalogData) (all sorted : List Record) → is_catalog c ≡ true → SayAlso (catalog_forms c) [] all → sorted ≡ stably_sorted key_before all → keys_ascend sorted ≡ true
 all_ascend c all sorted h say order =

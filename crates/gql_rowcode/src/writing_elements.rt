@@ -9,7 +9,7 @@ ghost use Rattle.gql_fields.specs.Kept.{IsKeptContent};
 ghost use Rattle.gql_rowcode.specs.Records.{node, edge, ends_spelled, AreKeptEnds};
 ghost use Rattle.gql_rowcode.specs.Machinery.Writing.{Says};
 
-use crate::writing_keys::element_key;
+use crate::writing_keys::{element_key, with_room};
 use gql_fields::{put_labels, put_properties, put_u32};
 use gql_ports::Record;
 use gql_values3::{Bytes, EdgeRecord, Ends, Names, NodeRecord, OutOfMemory, Properties};
@@ -22,7 +22,8 @@ pub fn node_record(alloc: Global, name: &str, element: &NodeRecord) -> Result<Re
     ensures { IfOk result (Says (node name.now element.now)) }
 {
     let key = element_key(alloc, 3, name, element.number.0)?;
-    let mut value = Bytes::new(alloc);
+    let room = content_room(&element.labels, &element.properties);
+    let mut value = with_room(alloc, room)?;
     put_content(&mut value, &element.labels, &element.properties)?;
     Ok(Record { key, value })
 }
@@ -34,10 +35,19 @@ pub fn edge_record(alloc: Global, name: &str, element: &EdgeRecord) -> Result<Re
     ensures { IfOk result (Says (edge name.now element.now)) }
 {
     let key = element_key(alloc, 4, name, element.number.0)?;
-    let mut value = Bytes::new(alloc);
+    let room = content_room(&element.labels, &element.properties);
+    let mut value = with_room(alloc, room.saturating_add(9))?;
     put_ends(&mut value, element.ends)?;
     put_content(&mut value, &element.labels, &element.properties)?;
     Ok(Record { key, value })
+}
+
+/// Room for the labels and the properties of most elements: behind each length a text of eight bytes, and a number. Where it
+/// is not enough the bytes grow.
+fn content_room(labels: &Names, properties: &Properties) -> usize {
+    let labels = labels.len().saturating_mul(16);
+    let properties = properties.len().saturating_mul(26);
+    labels.saturating_add(properties).saturating_add(16)
 }
 
 fn put_content(out: &mut Bytes, labels: &Names, properties: &Properties) -> Result<(), OutOfMemory>

@@ -1,6 +1,6 @@
 //! Keys of records.
 
-ghost use Rattle.std.specs.Prelude.{◌≡◌, ◌∷◌, ◌++◌, ◌<◌, ◌^◌, IfOk, OnOk};
+ghost use Rattle.std.specs.Prelude.{◌≡◌, [], ◌∷◌, ◌++◌, ◌<◌, ◌^◌, IfOk, OnOk};
 ghost use Rattle.std.specs.Int.{w32, to_be_bytes};
 ghost use Rattle.gql_fields.specs.Spelling.{spelled};
 ghost use Rattle.gql_fields.specs.Kept.{IsText};
@@ -14,10 +14,18 @@ pub fn name_key(alloc: Global, kind: u8, name: &str) -> Result<Bytes, OutOfMemor
     ensures written { IfOk result (λ key. key ≡ kind ∷ spelled name.now) }
     ensures kept { OnOk result (IsText name.now) }
 {
-    let mut key = Bytes::new(alloc);
+    // The byte, the length and the name, and the number that an element's key ends in.
+    let mut key = with_room(alloc, name.len().saturating_add(13))?;
     key.push(kind)?;
     put_text(&mut key, name)?;
     Ok(key)
+}
+
+/// No bytes, with room for so many.
+pub fn with_room(alloc: Global, count: usize) -> Result<Bytes, OutOfMemory>
+    ensures { IfOk result (λ bytes. bytes ≡ []) }
+{
+    Ok(Bytes::from_vec(Vec::with_capacity(alloc, count)?))
 }
 
 /// The key of an element: a byte that tells its kind, the name of its graph, and its number.

@@ -1,5 +1,5 @@
 -- What is asked of the maps of an INSERT, over two lists.
-use Rattle.std.proofs.Common.{◌≡◌, ℕ, ◌+◌, ◌<◌, List, [], ◌∷◌, ◌++◌, length, drop, get_or, Option, Some, None, Result, refl, sym, ap, subst, ◌∙◌}
+use Rattle.std.proofs.Common.{◌≡◌, ℕ, ◌+◌, ◌<◌, List, [], ◌∷◌, ◌++◌, length, drop, get_or, Option, None, Result, refl, sym, ap, subst, ◌∙◌}
 use Rattle.std.specs.List.{flat_map, list_any}
 use Rattle.std.specs.Option.{option_or}
 use Rattle.gql_values3.specs.Datum.{Datum}
@@ -21,10 +21,7 @@ use Rattle.gql_scope.specs.declared.insert_maps.MapQuestion.{MapQuestion}
 use Rattle.gql_scope.specs.declared.insert_maps.MapQuestion.TheVariants as question
 use Rattle.gql_expr_checks.proofs.RefusalLemmas.{first_of_in_two, misuse_in_two, unset_of_two, stops, goes_on}
 use Rattle.gql_expr_checks.proofs.DropLemmas.{drop_step}
-
-or_assoc : (o p q : Option Refusal) → option_or o (option_or p q) ≡ option_or (option_or o p) q
-or_assoc None p q = refl
-or_assoc (Some r) p q = refl
+use Rattle.gql_scope.proofs.CodeLemmas.{or_assoc}
 
 pub maps_of_two : (q : MapQuestion) (xs ys : Spots) → first_in_maps q (xs ++ ys) ≡ option_or (first_in_maps q xs) (first_in_maps q ys)
 maps_of_two q [] ys = refl

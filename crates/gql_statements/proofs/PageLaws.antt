@@ -21,7 +21,7 @@ use Rattle.gql_statements.specs.PartWords.{direction_words, direction_word, null
 use Rattle.gql_statements.specs.PageGrammar.{IsDirection, IsNullOrder, IsSortItem, IsSkip, IsLimit}
 use Rattle.gql_parts.specs.Machinery.PartReaders.{read_value, led}
 use Rattle.gql_statements.specs.Machinery.PageReaders.{or_ascending, direction_of, sort_item_of, sort_items_of, order_of, skip_of, limit_of, order_page_of, skip_page_of, limit_page_of}
-use Rattle.gql_parts.proofs.PartLaws.{Stops, left_stops, right_stops, Apart, bind_then, finish, passes_after, after_passes, passes_shorter, word_apart, passes_stops, begins_stops, optional_stops, optional_shorter, led_sound, led_exact}
+use Rattle.gql_parts.proofs.PartLaws.{either_apart, Stops, left_stops, right_stops, Apart, bind_then, finish, passes_after, after_passes, passes_shorter, word_apart, passes_stops, begins_stops, optional_stops, optional_shorter, led_sound, led_exact}
 use Rattle.gql_parts.proofs.ListLaws.{listed_sound, listed_exact, list_shorter}
 use Rattle.gql_parts.proofs.ValueLaws.{value_sound, value_exact, value_shorter}
 
@@ -141,11 +141,7 @@ order_shorter is ts r h = omega (arith, passes_shorter (is_word BY) ts h.0 h.1, 
 -- OFFSET and LIMIT
 
 pub skip_apart : (g : Lexeme → Bool) → ((x : List ℕ) → g (lex.Word OFFSET x) ≡ false) → ((x : List ℕ) → g (lex.Word SKIP x) ≡ false) → Apart is_skip g
-skip_apart g offset skip t p h = go (is_word OFFSET t) refl p
-  where
-    go : (b : Bool) → is_word OFFSET t ≡ b → (b || is_word SKIP t) ≡ true → ⊥
-    go true e q = word_apart OFFSET g offset t e h
-    go false e q = word_apart SKIP g skip t q h
+skip_apart g offset skip = either_apart (is_word OFFSET) (is_word SKIP) g (word_apart OFFSET g offset) (word_apart SKIP g skip)
 
 pub skip_sound : Sound (IsOptional IsSkip) skip_of
 unfolding skip_of

@@ -1,5 +1,6 @@
 -- The laws of queries.
 use Rattle.std.proofs.Common.{◌≡◌, ◌≤◌, Bool, true, false, not, ◌&&◌, ℕ, zero, suc, List, [], ◌∷◌, ◌++◌, length, Option, Some, None, refl, sym, ap, subst, ◌∙◌, arith}
+use Rattle.std.proofs.lemmas.Bool.{and_parts}
 use Rattle.gql_lexer.specs.declared.lexeme.Lexeme.{Lexeme}
 use Rattle.gql_lexer.specs.declared.lexeme.Lexeme.TheVariants as lex
 use Rattle.gql_ast.specs.declared.change.ChangeClause.{ChangeClause}
@@ -142,14 +143,6 @@ ended_cons c xs ts ys s e = go (after (is_word RETURN) ts) e
     go (Some a) e = bind_then (return_of a) _ (ys, s) e (λ r p e. rw p (one (xs ++ clause.Return r.0 ∷ []) r.1 e))
     go None e = let k = cond_some_is (ends_in_change xs) (xs, ts) (ys, s) e in rw (still xs k.0) (one xs ts (ap (λ (z : List Clause × List Lexeme). Some z) k.1))
 
-and_left : (a b : Bool) → (a && b) ≡ true → a ≡ true
-and_left true b e = refl
-and_left false b e = absurd cc
-
-and_right : (a b : Bool) → (a && b) ≡ true → b ≡ true
-and_right true b e = e
-and_right false b e = absurd cc
-
 -- the clauses that are read one after another, and the whole with its end
 record Split (b : ℕ) (ts : List Lexeme) (cs : List Clause) : Type 0 where
   first : List Clause
@@ -175,8 +168,9 @@ clauses_exact b c [] ts le h ok = last_exact c b ts le h
 clauses_exact zero c (d ∷ cs) ts le h ok = absurd (omega (arith, clause_shorter c ts h.0 h.1))
 clauses_exact (suc b) c (d ∷ cs) ts le h ok =
     let shorter = clause_shorter c ts h.0 h.1 in
-    let rest = clauses_exact b d cs h.0 (omega arith) h.2 (and_right (not (is_page c && is_page d)) (no_pages_meet (d ∷ cs)) ok) in
-    let stop = next_stops c d cs h.0 [] (and_left (not (is_page c && is_page d)) (no_pages_meet (d ∷ cs)) ok) h.2 in
+    let apart = and_parts (not (is_page c && is_page d)) (no_pages_meet (d ∷ cs)) ok in
+    let rest = clauses_exact b d cs h.0 (omega arith) h.2 apart.1 in
+    let stop = next_stops c d cs h.0 [] apart.0 h.2 in
     record {
       first = c ∷ rest.first;
       middle = rest.middle;

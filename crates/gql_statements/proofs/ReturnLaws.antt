@@ -1,7 +1,6 @@
 -- The laws of RETURN.
 use Rattle.std.proofs.Common.{◌≡◌, ◌<◌, ◌≤◌, inl, inr, Bool, true, ◌||◌, ℕ, List, [], ◌∷◌, length, Option, Some, None, refl, ap, ◌∙◌, arith}
 use Rattle.gql_lexer.specs.declared.lexeme.Lexeme.{Lexeme}
-use Rattle.gql_lexer.specs.declared.lexeme.Lexeme.TheVariants as lex
 use Rattle.gql_ast.specs.declared.page.SortItem.{SortItem}
 use Rattle.gql_ast.specs.declared.projection.Return.{Return}
 use Rattle.gql_ast.specs.declared.projection.ReturnItem.{ReturnItem}
@@ -18,6 +17,7 @@ use Rattle.gql_front.proofs.TableLemmas.{begins_read, read_begins, begins_shorte
 use Rattle.gql_exprs.specs.ExprWords.{quantifier_words, quantifier_op}
 use Rattle.gql_exprs.specs.Grammar.{IsQuantifier}
 use Rattle.gql_exprs.specs.Machinery.LeafReaders.{quantifier_or_all, quantifier_of}
+use Rattle.gql_exprs.proofs.ExprAtomSound.{quantifier_is}
 use Rattle.gql_exprs.proofs.ExprLists.{goes_or}
 use Rattle.gql_parts.specs.Parts.{Passes, IsOptional, IsListOf}
 use Rattle.gql_statements.specs.PartWords.{is_skip}
@@ -32,24 +32,6 @@ use Rattle.gql_parts.proofs.ValueLaws.{value_sound, value_exact, value_shorter, 
 use Rattle.gql_statements.proofs.PageLaws.{Ordered, goes_order, order_sound, order_exact, skip_apart, skip_sound, skip_exact, skip_stops, limit_sound, limit_exact, limit_stops}
 
 -- DISTINCT and ALL
-
-quantifier_sound : (ts : List Lexeme) → IsQuantifier (quantifier_of ts).0 ts (quantifier_of ts).1
-unfolding quantifier_of
-quantifier_sound ts = go (op_at quantifier_op ts) refl
-  where
-    says : SetQuantifier → Lexeme → Type 0
-    says quantifier.Distinct t = (x : List ℕ) × (t ≡ lex.Word DISTINCT x)
-    says quantifier.All t = (x : List ℕ) × (t ≡ lex.Word ALL x)
-
-    at : (q : SetQuantifier) (t : Lexeme) (r : List Lexeme) → ts ≡ t ∷ r → says q t → IsQuantifier q ts r
-    at quantifier.Distinct t r e h = (h.0, e ∙ ap (λ (t : Lexeme). t ∷ r) h.1)
-    at quantifier.All t r e h = inr (h.0, e ∙ ap (λ (t : Lexeme). t ∷ r) h.1)
-
-    go : (o : Option (SetQuantifier × List Lexeme)) → op_at quantifier_op ts ≡ o → IsQuantifier (quantifier_or_all ts o).0 ts (quantifier_or_all ts o).1
-    go None e = inl refl
-    go (Some x) e =
-        let h = read_begins quantifier_op ts x.0 x.1 e in
-        at x.0 h.0 x.1 h.2 (word_row (λ t q. says q t) quantifier_words (λ y. ((y, refl), ((y, refl), tt))) h.0 x.0 h.1)
 
 no_quantifier : (ts : List Lexeme) → Stops (is_word DISTINCT) ts → Stops (is_word ALL) ts → op_at quantifier_op ts ≡ None
 no_quantifier [] distinct all = refl
@@ -212,7 +194,7 @@ return_sound ts ret r h =
     bind_then (limit_of s.1) _ (ret, r) h (λ l e h.
     finish (λ ret r. Returned ret ts r) (record { quantifier = q.0; items = is.0; grouping = g.0; order = o.0; skip = s.0; limit = l.0 }) l.1 ret r h (
       q.1,
-      quantifier_sound ts,
+      quantifier_is ts,
       is.1,
       return_items_sound q.1 is.0 is.1 a,
       g.1,

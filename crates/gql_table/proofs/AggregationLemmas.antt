@@ -70,10 +70,6 @@ pub over_group_is : (columns : ColumnList) (row : List Datum) (e : Tree) → len
 over_group_is columns row e h =
     sym (any_found (is_group_name (row_scope columns row)) (names_in e)) ∙ any_same (is_group_name (row_scope columns row)) (λ x. holds_group (kind_of_name columns x)) (λ x. blank_group columns row x h) (names_in e)
 
-pub any_tree : {A : Type 0} (p : Tree → Bool) (f : A → Tree) (xs : List A) → list_any p (map f xs) ≡ list_any (λ x. p (f x)) xs
-any_tree p f [] = refl
-any_tree p f (x ∷ xs) = ap (λ b. p (f x) || b) (any_tree p f xs)
-
 -- names are no aggregates
 pub no_name_has_one : (all columns : ColumnList) → list_any (λ e. not (is_key all e)) (map (λ (c : List ℕ × ColumnKind). name c.0) columns) ≡ false
 unfolding row_aggregates

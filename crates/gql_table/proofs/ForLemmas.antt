@@ -1,6 +1,6 @@
 -- FOR, item by item.
 use Rattle.std.proofs.Common.{◌≡◌, ℕ, suc, List, [], ◌∷◌, ◌++◌, map, refl, ap, ◌∙◌, Some, None, Result, Ok}
-use Rattle.gql_values3.specs.Datum.{Datum, data_of, items_of}
+use Rattle.gql_values3.specs.Datum.{Datum}
 use Rattle.gql_ast.specs.declared.fault.DataFault.{DataFault}
 use Rattle.gql_ast.specs.declared.clause.Counting.{Counting}
 use Rattle.gql_ast.specs.Operators.{counted}
@@ -8,10 +8,6 @@ use Rattle.gql_eval.specs.Machinery.Next.{next}
 use Rattle.gql_eval.specs.RowLists.{RowList}
 use Rattle.gql_table.specs.For.{item_rows}
 use Rattle.gql_eval.proofs.EachSteps.{each_cons}
-
-pub items_back : (ds : List Datum) → items_of (data_of ds) ≡ ds
-items_back [] = refl
-items_back (d ∷ ds) = ap (λ es. d ∷ es) (items_back ds)
 
 pub plain_items : (n : ℕ) (row ds : List Datum) → item_rows None n row ds ≡ Ok (map (λ (d : Datum). row ++ d ∷ []) ds)
 plain_items n row [] = refl

@@ -1,6 +1,7 @@
 -- Rows that join the groups of their keys, one after the other, give for each key the rows of that key: the key's group
 -- is there once, and a row changes no other.
 use Rattle.std.proofs.Common.{◌≡◌, Bool, true, false, cond, not, List, [], ◌∷◌, ◌++◌, length, map, refl, sym, ap, subst, ◌∙◌, append_assoc, append-nil, arith}
+use Rattle.std.proofs.lemmas.Bool.{or_parts}
 use Rattle.std.specs.Prelude.{filter, ◌||◌}
 use Rattle.gql_values3.specs.Datum.{Datum}
 use Rattle.gql_eval.specs.RowLists.{RowList}
@@ -8,7 +9,7 @@ use Rattle.gql_table.specs.Distinct.{same_row, distinct_rows}
 use Rattle.gql_table.specs.Machinery.Places.{among, added}
 use Rattle.gql_table.specs.Machinery.GroupPlan.{Gathered, joined_group, gathered_rows}
 use Rattle.gql_table.proofs.RowOrder.{same_row_exact, same_row_itself}
-use Rattle.gql_table.proofs.PlaceLemmas.{news, news_of_none, among_more, news_more, news_known, or_right, or_false_left, or_false_right}
+use Rattle.gql_table.proofs.PlaceLemmas.{news, news_of_none, among_more, news_more, news_known, or_rest}
 
 -- the rows of a key, of rows whose keys are given
 abbrev pub with_key : List Datum → RowList → RowList → RowList
@@ -44,9 +45,9 @@ differ a b p = differ_case a b (same_row b a) refl p
 apart_last : (ks : RowList) (k : List Datum) → Apart ks → among ks k ≡ false → Apart (ks ++ k ∷ [])
 apart_last [] k apart fresh = (refl, tt)
 apart_last (x ∷ xs) k apart fresh =
-    let other : same_row k x ≡ false = differ x k (or_false_left (same_row x k) (among xs k) fresh) in
+    let other : same_row k x ≡ false = differ x k (or_parts (same_row x k) (among xs k) fresh).0 in
     let none : among (xs ++ k ∷ []) x ≡ false = among_more xs k x ∙ (λ i. apart.0 i || other i) in
-    (none, apart_last xs k apart.1 (or_false_right (same_row x k) (among xs k) fresh))
+    (none, apart_last xs k apart.1 (or_parts (same_row x k) (among xs k) fresh).1)
 
 apart_case : (ks : RowList) (k : List Datum) (b : Bool) → among ks k ≡ b → Apart ks → Apart (cond b ks (ks ++ k ∷ []))
 apart_case ks k true p apart = apart
@@ -76,15 +77,15 @@ apart_joined gs k r apart = subst Apart (sym (keys_joined gs k r)) (apart_case (
 others_stay : (gs : List Gathered) (k r : List Datum) (ks rs : RowList) → among (keys_of gs) k ≡ false → map (grown ks rs) gs ≡ map (grown (k ∷ ks) (r ∷ rs)) gs
 others_stay [] k r ks rs p = refl
 others_stay (g ∷ gs) k r ks rs p =
-    let other : same_row g.0 k ≡ false = or_false_left (same_row g.0 k) (among (keys_of gs) k) p in
-    let rest = others_stay gs k r ks rs (or_false_right (same_row g.0 k) (among (keys_of gs) k) p) in
+    let other : same_row g.0 k ≡ false = (or_parts (same_row g.0 k) (among (keys_of gs) k) p).0 in
+    let rest = others_stay gs k r ks rs (or_parts (same_row g.0 k) (among (keys_of gs) k) p).1 in
     λ i. (g.0, g.1 ++ cond (sym other i) (r ∷ with_key g.0 ks rs) (with_key g.0 ks rs)) ∷ rest i
 
 joined_new : (gs : List Gathered) (k r : List Datum) → among (keys_of gs) k ≡ false → joined_group gs k r ≡ gs ++ (k, r ∷ []) ∷ []
 joined_new [] k r p = refl
 joined_new (g ∷ gs) k r p =
-    let other : same_row g.0 k ≡ false = or_false_left (same_row g.0 k) (among (keys_of gs) k) p in
-    ap (λ b. cond b ((g.0, g.1 ++ r ∷ []) ∷ gs) (g ∷ joined_group gs k r)) other ∙ ap (λ l. g ∷ l) (joined_new gs k r (or_false_right (same_row g.0 k) (among (keys_of gs) k) p))
+    let other : same_row g.0 k ≡ false = (or_parts (same_row g.0 k) (among (keys_of gs) k) p).0 in
+    ap (λ b. cond b ((g.0, g.1 ++ r ∷ []) ∷ gs) (g ∷ joined_group gs k r)) other ∙ ap (λ l. g ∷ l) (joined_new gs k r (or_parts (same_row g.0 k) (among (keys_of gs) k) p).1)
 
 joins_case : (s : Bool) (g : Gathered) (gs : List Gathered) (k r : List Datum) (ks rs : RowList) → same_row g.0 k ≡ s → among (keys_of gs) g.0 ≡ false
     → (s ≡ false → map (grown ks rs) (joined_group gs k r) ≡ map (grown (k ∷ ks) (r ∷ rs)) gs)
@@ -102,7 +103,7 @@ joins : (gs : List Gathered) (k r : List Datum) (ks rs : RowList) → Apart (key
     → map (grown ks rs) (joined_group gs k r) ≡ map (grown (k ∷ ks) (r ∷ rs)) gs
 joins [] k r ks rs apart p = absurd (cc)
 joins (g ∷ gs) k r ks rs apart p =
-    joins_case (same_row g.0 k) g gs k r ks rs refl apart.0 (λ q. joins gs k r ks rs apart.1 (or_right (same_row g.0 k) (among (keys_of gs) k) p q))
+    joins_case (same_row g.0 k) g gs k r ks rs refl apart.0 (λ q. joins gs k r ks rs apart.1 (or_rest (same_row g.0 k) (among (keys_of gs) k) p q))
 
 -- groups of keys that are not among those with k don't have its row
 later_case : (b : Bool) (x k r : List Datum) (ks rs : RowList) (rest more : List Gathered) (c : Bool) → same_row x k ≡ c → (b ≡ true → c ≡ false) → rest ≡ more

@@ -1,5 +1,6 @@
 -- The rows of a grouped RETURN, as they are worked out, are those that are defined.
 use Rattle.std.proofs.Common.{◌≡◌, ℕ, ◌<◌, Bool, true, false, cond, not, List, [], ◌∷◌, length, map, refl, sym, ap, ◌∙◌, arith, Result, Ok, Err}
+use Rattle.std.proofs.lemmas.Bool.{or_right, or_left}
 use Rattle.std.specs.Prelude.{filter, ◌||◌}
 use Rattle.std.specs.List.{list_any, AllByRecursion}
 use Rattle.gql_values3.specs.Datum.{Datum}
@@ -17,7 +18,7 @@ use Rattle.gql_table.specs.Grouping.{Note, key_in, group_with, groups_of, note_r
 use Rattle.gql_table.specs.Machinery.GroupPlan.{all_groups, has_key, rows_kept_behind, values_in_group, row_of_group, rows_of_groups}
 use Rattle.gql_table.proofs.RowOrder.{same_row_exact, same_row_itself}
 use Rattle.gql_table.proofs.ReturnLemmas.{next_next, map_long}
-use Rattle.gql_table.proofs.PlaceLemmas.{or_right}
+use Rattle.gql_table.proofs.PlaceLemmas.{or_rest}
 use Rattle.gql_table.proofs.GatherLemmas.{with_key, whole_group, gathered_all, differ}
 use Rattle.gql_table.proofs.NoteLemmas.{plans, arguments_in, Shaped, rows_kept_is, note_shaped, each_all, filter_keeps, no_keys}
 use Rattle.gql_table.proofs.ResultLemmas.{parts_from, parts_are, none_dropped, behind_is, parts_shaped, parts_keys, values_are}
@@ -48,25 +49,17 @@ first_of : (f : Note → List Datum) (key : List Datum) (notes : List Note) → 
 first_of f key [] p = absurd (cc)
 first_of f key (n ∷ ns) p =
     first_case f key (same_row key (f n)) n (filter (λ m. same_row key (f m)) ns) refl
-    (λ q. first_of f key ns (or_right (same_row (f n) key) (among (map f ns) key) p (differ key (f n) q)))
+    (λ q. first_of f key ns (or_rest (same_row (f n) key) (among (map f ns) key) p (differ key (f n) q)))
 
 -- the first of each kind are among all
-some_front : (b c : Bool) → b ≡ true → (b || c) ≡ true
-some_front true c p = refl
-some_front false c p = absurd (cc)
-
-some_back : (b c : Bool) → c ≡ true → (b || c) ≡ true
-some_back true c p = refl
-some_back false c p = p
-
 more_among : (r : List Datum) (rs ds : RowList) → AllByRecursion (λ d. among rs d ≡ true) ds → AllByRecursion (λ d. among (r ∷ rs) d ≡ true) ds
 more_among r rs [] all = tt
-more_among r rs (d ∷ ds) all = (some_back (same_row r d) (among rs d) all.0, more_among r rs ds all.1)
+more_among r rs (d ∷ ds) all = (or_right (same_row r d) (among rs d) all.0, more_among r rs ds all.1)
 
 distinct_among : (rs : RowList) → AllByRecursion (λ d. among rs d ≡ true) (distinct_rows rs)
 distinct_among [] = tt
 distinct_among (r ∷ rs) = (
-  some_front (same_row r r) (among rs r) (same_row_itself r),
+  or_left (same_row r r) (among rs r) (same_row_itself r),
   filter_keeps (λ d. among (r ∷ rs) d ≡ true) (λ s. not (same_row r s)) (distinct_rows rs) (more_among r rs (distinct_rows rs) (distinct_among rs)),
 )
 

@@ -1,5 +1,6 @@
 -- What is kept of rows, against what is noted of them: the keys, and the arguments, each in one list.
 use Rattle.std.proofs.Common.{◌≡◌, ℕ, Bool, true, false, cond, List, [], ◌∷◌, ◌++◌, length, map, refl, sym, ap, subst, ◌∙◌, append_assoc, append-nil, Result, Ok, Err}
+use Rattle.std.proofs.lemmas.Bool.{or_parts}
 use Rattle.std.specs.Prelude.{filter, ◌||◌}
 use Rattle.std.specs.List.{list_any, AllByRecursion}
 use Rattle.gql_values3.specs.Datum.{Datum}
@@ -112,7 +113,7 @@ Shaped columns [] (n ∷ ns) = ⊥
 Shaped columns (e ∷ es) [] = ⊥
 Shaped columns (e ∷ es) (n ∷ ns) = (length n ≡ width_of (row_aggregates columns e)) × Shaped columns es ns
 
-inside : {A : Type 0} {x y : A} → ◌≡◌ {A = Result A DataFault} (Ok x) (Ok y) → x ≡ y
+pub inside : {A : Type 0} {x y : A} → ◌≡◌ {A = Result A DataFault} (Ok x) (Ok y) → x ≡ y
 inside p = cc
 
 -- two steps that came to something
@@ -158,14 +159,10 @@ none_key : (b c : Bool) (n K : List Datum) → (b || c) ≡ false → K ≡ [] �
 none_key true c n K p q = absurd (cc)
 none_key false c n K p q = q
 
-or_right_false : (b c : Bool) → (b || c) ≡ false → c ≡ false
-or_right_false true c p = absurd (cc)
-or_right_false false c p = p
-
 -- items of which none is a key have none
 pub no_keys : (columns : ColumnList) (es : List Tree) (note : Note) → list_any (is_key columns) es ≡ false → key_in columns es note ≡ []
 no_keys columns [] note p = refl
 no_keys columns (e ∷ es) [] p = refl
 no_keys columns (e ∷ es) (n ∷ ns) p =
     none_key (is_key columns e) (list_any (is_key columns) es) n (key_in columns es ns) p
-    (no_keys columns es ns (or_right_false (is_key columns e) (list_any (is_key columns) es) p))
+    (no_keys columns es ns (or_parts (is_key columns e) (list_any (is_key columns) es) p).1)

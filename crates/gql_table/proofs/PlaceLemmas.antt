@@ -1,5 +1,6 @@
 -- The groups of equal rows, as they grow row by row.
 use Rattle.std.proofs.Common.{◌≡◌, ℕ, zero, suc, ◌+◌, ◌<◌, Bool, true, false, cond, not, List, [], ◌∷◌, ◌++◌, length, drop, get_or, add-one, refl, sym, ap, ◌∙◌, append_assoc, append-nil, arith, Some, None}
+use Rattle.std.proofs.lemmas.Bool.{or_parts}
 use Rattle.std.specs.Prelude.{filter, ◌||◌}
 use Rattle.gql_values3.specs.Datum.{Datum}
 use Rattle.gql_eval.specs.RowLists.{RowList}
@@ -80,27 +81,19 @@ known_place : (b : Bool) (m n : ℕ) → (b ≡ false → m < n) → cond b 0 (s
 known_place true m n h = omega arith
 known_place false m n h = let below : m < n = h refl in omega arith
 
-pub or_right : (b c : Bool) → (b || c) ≡ true → b ≡ false → c ≡ true
-or_right true c p q = absurd (cc)
-or_right false c p q = p
-
-pub or_false_left : (b c : Bool) → (b || c) ≡ false → b ≡ false
-or_false_left true c p = absurd (cc)
-or_false_left false c p = refl
-
-pub or_false_right : (b c : Bool) → (b || c) ≡ false → c ≡ false
-or_false_right true c p = absurd (cc)
-or_false_right false c p = p
+pub or_rest : (b c : Bool) → (b || c) ≡ true → b ≡ false → c ≡ true
+or_rest true c p q = absurd (cc)
+or_rest false c p q = p
 
 -- a row has a place among them where it is one of them, and else their number
 pub place_known : (ks : RowList) (r : List Datum) → among ks r ≡ true → place ks r < length ks
 place_known [] r p = absurd (cc)
-place_known (k ∷ ks) r p = known_place (same_row k r) (place ks r) (length ks) (λ q. place_known ks r (or_right (same_row k r) (among ks r) p q))
+place_known (k ∷ ks) r p = known_place (same_row k r) (place ks r) (length ks) (λ q. place_known ks r (or_rest (same_row k r) (among ks r) p q))
 
 pub place_new : (ks : RowList) (r : List Datum) → among ks r ≡ false → place ks r ≡ length ks
 place_new [] r p = refl
 place_new (k ∷ ks) r p =
-    ap (λ b. cond b 0 (suc (place ks r))) (or_false_left (same_row k r) (among ks r) p) ∙ ap suc (place_new ks r (or_false_right (same_row k r) (among ks r) p))
+    ap (λ b. cond b 0 (suc (place ks r))) (or_parts (same_row k r) (among ks r) p).0 ∙ ap suc (place_new ks r (or_parts (same_row k r) (among ks r) p).1)
 
 added_if : (ks : RowList) (r : List Datum) (b : Bool) → among ks r ≡ b → place ks r ≡ length ks → cond b ks (ks ++ r ∷ []) ≡ ks ++ r ∷ []
 added_if ks r true known p = let below = place_known ks r known in absurd (omega arith)
@@ -155,12 +148,12 @@ before_case false m n h = ap suc (h refl)
 
 pub place_before : (ks zs : RowList) (s : List Datum) → among ks s ≡ true → place (ks ++ zs) s ≡ place ks s
 place_before [] zs s p = absurd (cc)
-place_before (k ∷ ks) zs s p = before_case (same_row k s) (place (ks ++ zs) s) (place ks s) (λ q. place_before ks zs s (or_right (same_row k s) (among ks s) p q))
+place_before (k ∷ ks) zs s p = before_case (same_row k s) (place (ks ++ zs) s) (place ks s) (λ q. place_before ks zs s (or_rest (same_row k s) (among ks s) p q))
 
 pub place_last : (ks : RowList) (r s : List Datum) → among ks s ≡ false → same_row r s ≡ true → place (ks ++ r ∷ []) s ≡ length ks
 place_last [] r s p q = ap (λ b. cond b 0 1) q
 place_last (k ∷ ks) r s p q =
-    ap (λ b. cond b 0 (suc (place (ks ++ r ∷ []) s))) (or_false_left (same_row k s) (among ks s) p) ∙ ap suc (place_last ks r s (or_false_right (same_row k s) (among ks s) p) q)
+    ap (λ b. cond b 0 (suc (place (ks ++ r ∷ []) s))) (or_parts (same_row k s) (among ks s) p).0 ∙ ap suc (place_last ks r s (or_parts (same_row k s) (among ks s) p).1 q)
 
 more_found : (ks : RowList) (r s : List Datum) (b c : Bool) → among ks s ≡ b → same_row r s ≡ c → (c ≡ true → b ≡ false)
     → cond (b || c) (Some (place (ks ++ r ∷ []) s)) None ≡ cond c (Some (length ks)) (cond b (Some (place ks s)) None)

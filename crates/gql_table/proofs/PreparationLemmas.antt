@@ -67,12 +67,6 @@ module _ (g : PropertyGraph) (params : List (List ℕ × Datum)) where
       → each (keyed_by g (map (prepared_under columns params) (map (λ (i : SortItem). tree_of i.key) items))) rows ≡ each (keyed g params columns items) rows
   keyed_are columns items rows = λ j. each (λ (r : Sortable). next (keys_are columns items r.1 j) (λ keys. Ok (keys, r.0))) rows
 
--- a value more in a row
-pub with_step : (g : PropertyGraph) (left ps : List Preparation) (p : Preparation) (row : List Datum) (d : Datum) → left ≡ p ∷ ps
-    → prepared_value g p row ≡ Ok d → row_with g left row ≡ row_with g ps (row ++ d ∷ [])
-with_step g left ps p row d q given =
-    ap (λ l. row_with g l row) q ∙ ap (λ (r : Result Datum DataFault). next r (λ x. row_with g ps (row ++ x ∷ []))) given
-
 -- an item that goes to an earlier place
 pub swapped_rest : {A : Type 0} (xs : List A) (k i : ℕ) (x : A) → k ≤ i → i < length xs → x ≡ get_or xs i x → drop (i + 1) (swap xs k i) ≡ drop (i + 1) xs
 swapped_rest xs k i x le below here =

@@ -1,9 +1,10 @@
 -- The results of all items stand in one list, and arguments in one list a row: the parts of the items are pieces of them.
 use Rattle.std.proofs.Common.{◌≡◌, ℕ, zero, suc, ◌+◌, ◌<◌, ◌≤◌, Bool, true, false, cond, not, List, [], ◌∷◌, ◌++◌, length, map, take, drop, refl, sym, ap, subst, ◌∙◌, append_assoc, append-nil, add-zero, add-suc, length-append, arith, Result, Ok, Err}
-use Rattle.std.specs.Prelude.{slice_index_or, filter, ◌||◌}
+use Rattle.std.specs.Prelude.{slice_index_or, filter}
 use Rattle.std.specs.List.{list_any, AllByRecursion}
 use Rattle.std.proofs.lemmas.List.{get_or_append_left, get_or-drop}
 use Rattle.std.proofs.Common.{drop-drop}
+use Rattle.std.proofs.lemmas.Bool.{or_right, or_left}
 use Rattle.gql_values3.specs.Datum.{Datum, null}
 use Rattle.gql_values3.specs.Datum.{is_null}
 use Rattle.gql_values3.specs.PropertyGraph.{PropertyGraph}
@@ -255,14 +256,6 @@ module _ (g : PropertyGraph) (params : List (List ℕ × Datum)) (columns : Colu
   nonempty_case false e es G p k given some shaped =
       results_long 0 (row_aggregates columns e) (map first_note G) p (sym (other_part e (map first_note G) k) ∙ given) ∙ sym (width_other (row_aggregates columns e) k)
 
-  or_left : (b c : Bool) → b ≡ true → (b || c) ≡ true
-  or_left true c p = refl
-  or_left false c p = absurd (cc)
-
-  or_more : (b c : Bool) → c ≡ true → (b || c) ≡ true
-  or_more true c p = refl
-  or_more false c p = p
-
   map_some : {A B : Type 0} (f : A → B) (xs : List A) → 0 < length xs → 0 < length (map f xs)
   map_some f [] p = p
   map_some f (x ∷ xs) p = omega arith
@@ -275,7 +268,7 @@ module _ (g : PropertyGraph) (params : List (List ℕ × Datum)) (columns : Colu
   parts_shaped (e ∷ es) G parts some shaped given =
       let both = both_ok (group_part g params columns e (map first_note G)) (parts_from es (map later_notes G)) parts given in
       let long = nonempty_case (is_key columns e) e es G both.0 refl both.2 (λ q. some (or_left (is_key columns e) (list_any (is_key columns) es) q)) shaped in
-      let more = parts_shaped es (map later_notes G) both.1 (λ q. map_some later_notes G (some (or_more (is_key columns e) (list_any (is_key columns) es) q))) (later_shaped e es G shaped) both.3 in
+      let more = parts_shaped es (map later_notes G) both.1 (λ q. map_some later_notes G (some (or_right (is_key columns e) (list_any (is_key columns) es) q))) (later_shaped e es G shaped) both.3 in
       subst (Shaped columns (e ∷ es)) both.4 (long, more)
 
   key_case : (b : Bool) (e : Tree) (x p : List Datum) (xs K L : List Datum) (ns : List Note) → is_key columns e ≡ b → group_part g params columns e (x ∷ map first_note ns) ≡ Ok p → K ≡ L

@@ -1,19 +1,16 @@
 -- Rows in the order of their values: what the order doesn't tell apart is the same row.
-use Rattle.std.proofs.Common.{◌≡◌, Bool, true, false, List, [], ◌∷◌, ◌∙◌, refl, ap}
+use Rattle.std.proofs.Common.{◌≡◌, true, List, [], ◌∷◌, ◌∙◌, refl, ap}
 use Rattle.std.specs.Prelude.{◌&&◌}
 use Rattle.std.specs.declared.cmp.Ordering.{Ordering}
 use Rattle.std.specs.declared.cmp.Ordering.TheVariants.{Less, Equal, Greater}
 use Rattle.std.specs.Ordering.{ordering_then, is_eq}
-use Rattle.std.specs.Cmp.{IsTotalOrder}
 use Rattle.std.specs.Cmp.Lexicographic.{slice_cmp}
-use Rattle.std.proofs.lemmas.Cmp.{lists_total, tied_itself}
+use Rattle.std.proofs.lemmas.Cmp.{tied_itself}
+use Rattle.std.proofs.lemmas.Bool.{and_parts}
 use Rattle.gql_values3.specs.Datum.{Datum}
 use Rattle.gql_values3.specs.ValueOrder.{datum_cmp}
 use Rattle.gql_values3.proofs.OrderLaws.{datum_cmp_total, exact_datum}
 use Rattle.gql_table.specs.Distinct.{same_row}
-
-pub row_cmp_total : IsTotalOrder (slice_cmp datum_cmp)
-row_cmp_total = lists_total datum_cmp_total
 
 both_equal : (o p : Ordering) → is_eq (ordering_then o p) ≡ (is_eq o && is_eq p)
 both_equal Less p = refl
@@ -32,21 +29,13 @@ equal_if Less p = cc
 equal_if Equal p = refl
 equal_if Greater p = cc
 
-left_true : (b c : Bool) → (b && c) ≡ true → b ≡ true
-left_true true c p = refl
-left_true false c p = cc
-
-right_true : (b c : Bool) → (b && c) ≡ true → c ≡ true
-right_true true c p = p
-right_true false c p = absurd (cc)
-
 pub same_row_exact : (a b : List Datum) → same_row a b ≡ true → a ≡ b
 same_row_exact [] [] p = refl
 same_row_exact [] (y ∷ ys) p = absurd (cc)
 same_row_exact (x ∷ xs) [] p = absurd (cc)
 same_row_exact (x ∷ xs) (y ∷ ys) p =
-    let head : x ≡ y = exact_datum x y (equal_if (datum_cmp x y) (left_true (is_eq (datum_cmp x y)) (same_row xs ys) p)) in
-    let rest : xs ≡ ys = same_row_exact xs ys (right_true (is_eq (datum_cmp x y)) (same_row xs ys) p) in
+    let head : x ≡ y = exact_datum x y (equal_if (datum_cmp x y) (and_parts (is_eq (datum_cmp x y)) (same_row xs ys) p).0) in
+    let rest : xs ≡ ys = same_row_exact xs ys (and_parts (is_eq (datum_cmp x y)) (same_row xs ys) p).1 in
     λ i. head i ∷ rest i
 
 pub same_row_itself : (a : List Datum) → same_row a a ≡ true

@@ -2,13 +2,13 @@
 use Rattle.std.proofs.Common.{◌≡◌, ℕ, zero, suc, ◌<◌, ◌≤◌, ◌+◌, Bool, true, false, cond, List, [], ◌∷◌, ◌++◌, length, map, take, drop, get_or, set, refl, sym, ap, subst, ◌∙◌, length-append, append_assoc, append-nil, add-one, arith, Result, Ok, Err}
 use Rattle.std.specs.List.{AllByRecursion}
 use Rattle.std.proofs.lemmas.List.{map-append, take_more_set, drop-set-lt, drop_all, take_all}
+use Rattle.std.proofs.lemmas.Bool.{or_parts}
 use Rattle.gql_values3.specs.Datum.{Datum}
 use Rattle.gql_values3.specs.PropertyGraph.{PropertyGraph}
 use Rattle.gql_ast.specs.Faults.{each}
 use Rattle.gql_ast.specs.Projections.{has_none}
 use Rattle.gql_ast.specs.declared.fault.DataFault.{DataFault}
 use Rattle.gql_eval.specs.Machinery.Next.{next}
-use Rattle.gql_eval.specs.declared.error.EvalError.{EvalError}
 use Rattle.gql_eval.specs.RowLists.{RowList}
 use Rattle.gql_table.specs.Distinct.{same_row}
 use Rattle.gql_table.specs.Sorting.{first_key, later_keys}
@@ -19,8 +19,9 @@ use Rattle.gql_eval.proofs.EachSteps.{drop_here}
 use Rattle.gql_table.proofs.RowOrder.{same_row_itself}
 use Rattle.gql_table.proofs.KeyLemmas.{later_drop}
 use Rattle.gql_table.proofs.ReturnLemmas.{next_next, map_long}
-use Rattle.gql_table.proofs.PlaceLemmas.{or_false_left, or_false_right, place_new, place_known, place_last}
+use Rattle.gql_table.proofs.PlaceLemmas.{place_new, place_known, place_last}
 use Rattle.gql_table.proofs.RunningLemmas.{after, after_last, finished_behind}
+use Rattle.gql_table.proofs.NoteLemmas.{inside}
 
 -- a group with what its aggregates have come to, in place of its rows
 abbrev pub run : List Standing → Gathered → Stood
@@ -43,9 +44,6 @@ gathered_last gs [] (x ∷ xs) k r long = absurd (omega (arith, long))
 gathered_last gs (x ∷ xs) [] k r long = absurd (omega (arith, long))
 gathered_last gs (x ∷ xs) (y ∷ ys) k r long = gathered_last (joined_group gs x y) xs ys k r (omega (arith, long))
 
-inside : {A : Type 0} {x y : A} → ◌≡◌ {A = Result A DataFault} (Ok x) (Ok y) → x ≡ y
-inside p = cc
-
 module _ (g : PropertyGraph) where
   -- items of which none is a key keep none
   no_key_case : (p : PreparedPlan) (ps : List PreparedPlan) (kept after_all : Kept) (row : List Datum) (r : Result (List Datum) DataFault) → has_none p.aggregates ≡ false
@@ -58,8 +56,8 @@ module _ (g : PropertyGraph) where
   no_key : (plan : List PreparedPlan) (kept after_all : Kept) (row : List Datum) → has_key plan ≡ false → kept_behind g kept plan row ≡ Ok after_all → after_all.0 ≡ kept.0
   no_key [] kept after_all row none given = sym (ap (λ (k : Kept). k.0) (inside given))
   no_key (p ∷ ps) kept after_all row none given =
-      no_key_case p ps kept after_all row (note_in g p row) (or_false_left (has_none p.aggregates) (has_key ps) none)
-      (λ made given. no_key ps (kept.0, made) after_all row (or_false_right (has_none p.aggregates) (has_key ps) none) given) given
+      no_key_case p ps kept after_all row (note_in g p row) (or_parts (has_none p.aggregates) (has_key ps) none).0
+      (λ made given. no_key ps (kept.0, made) after_all row (or_parts (has_none p.aggregates) (has_key ps) none).1 given) given
 
   module _ (plan : List PreparedPlan) where
     -- with a key, the groups of the rows so far
@@ -213,9 +211,9 @@ module _ (fresh : List Standing) where
   joined_new : (gs : List Stood) (k r : List Datum) → among (stood_keys gs) k ≡ false → joined_stood fresh gs k r ≡ joined_stood fresh (gs ++ (k, fresh) ∷ []) k r
   joined_new [] k r p = sym (ap (λ b. cond b ((k, row_past fresh r) ∷ []) ((k, fresh) ∷ (k, row_past fresh r) ∷ [])) (same_row_itself k))
   joined_new (s ∷ gs) k r p =
-      let other : same_row s.0 k ≡ false = or_false_left (same_row s.0 k) (among (stood_keys gs) k) p in
+      let other : same_row s.0 k ≡ false = (or_parts (same_row s.0 k) (among (stood_keys gs) k) p).0 in
       ap (λ b. cond b ((s.0, row_past s.1 r) ∷ gs) (s ∷ joined_stood fresh gs k r)) other
-      ∙ ap (λ l. s ∷ l) (joined_new gs k r (or_false_right (same_row s.0 k) (among (stood_keys gs) k) p))
+      ∙ ap (λ l. s ∷ l) (joined_new gs k r (or_parts (same_row s.0 k) (among (stood_keys gs) k) p).1)
       ∙ sym (ap (λ b. cond b ((s.0, row_past s.1 r) ∷ gs ++ (k, fresh) ∷ []) (s ∷ joined_stood fresh (gs ++ (k, fresh) ∷ []) k r)) other)
 
   opened_joined : (gs : List Stood) (k r : List Datum) (b : Bool) → among (stood_keys gs) k ≡ b → joined_stood fresh gs k r ≡ joined_stood fresh (cond b gs (gs ++ (k, fresh) ∷ [])) k r

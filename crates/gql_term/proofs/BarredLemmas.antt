@@ -6,6 +6,7 @@ use Rattle.std.specs.Option.{option_or}
 use Rattle.std.proofs.lemmas.Bool.Decides.{nat_tests}
 use Rattle.std.proofs.lemmas.List.Folds.{list_any-append}
 use Rattle.std.proofs.lemmas.List.Concat.{flat_map-append}
+use Rattle.std.proofs.lemmas.Bool.{le-leb}
 use Rattle.gql_values3.specs.Texts.{same_text}
 use Rattle.gql_values3.specs.declared.table.ColumnKind.{ColumnKind}
 use Rattle.gql_values3.specs.declared.table.ColumnKind.TheVariants as kind
@@ -19,8 +20,9 @@ use Rattle.gql_norm.specs.PredicateSpot.{PredicateSpot, predicates_in, predicate
 use Rattle.gql_norm.specs.Termination.{protects, unprotected, open_references}
 use Rattle.gql_term.specs.Machinery.OpenEnds.{is_open}
 use Rattle.gql_term.specs.Machinery.OpenReferences.{is_variable, declares_open, declares_open_side, Barred, none_barred, barred_behind, first_barred, first_barred_side, first_barred_path}
-use Rattle.gql_term.proofs.CrossingLemmas.{or_none, outside, bars, crossing_is, at_or_before, not_entered, left_behind, within, unseen, unseen_sides, stable}
+use Rattle.gql_term.proofs.CrossingLemmas.{or_none, outside, bars, crossing_is}
 use Rattle.gql_term.proofs.OpenPlaceLemmas.{above_other, below_other, Tells, TellsSides, body_tells}
+use Rattle.gql_norm.proofs.VisibleLemmas.{not_entered, left_behind, within, unseen, unseen_sides, stable}
 
 bars_both : (f : ℕ → Bool) (around : List ℕ) (ds es : List Declared) (x : List ℕ) → bars f around (ds ++ es) x ≡ (bars f around ds x || bars f around es x)
 bars_both f around ds es x = list_any-append (λ (d : Declared). same_text x d.name && outside f around d.quants) ds es
@@ -60,7 +62,7 @@ one_bars f around k a qs (Some y) x false h = ap (λ b. (same_text x y && b) || 
 
 one_seen : (f : ℕ → Bool) (around : List ℕ) (k : ColumnKind) (a at : ℕ) (qs : List ℕ) (v : Option (List ℕ)) (x : List ℕ) (u : Bool) → a ≤ at → outside f around qs ≡ u
     → bars f around (declaration k a qs v (nat_le a at)) x ≡ (u && is_variable v x)
-one_seen f around k a at qs v x u l h = ap (λ b. bars f around (declaration k a qs v b) x) (at_or_before a at l) ∙ one_bars f around k a qs v x u h
+one_seen f around k a at qs v x u l h = ap (λ b. bars f around (declaration k a qs v b) x) (le-leb a at l) ∙ one_bars f around k a qs v x u h
 
 module _ (f : ℕ → Bool) where
   module _ (around : List ℕ) (at : ℕ) (x : List ℕ) where

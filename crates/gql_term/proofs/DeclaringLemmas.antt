@@ -1,4 +1,5 @@
 -- Names that several parts declare under an unprotected quantifier.
+use mathlib.Core.Bool.{or_assoc}
 use Rattle.std.proofs.Common.{◌≡◌, ℕ, Bool, true, false, ◌||◌, List, [], ◌∷◌, ◌++◌, refl, sym, ap, ◌∙◌}
 use Rattle.std.specs.List.{list_any}
 use Rattle.std.proofs.lemmas.List.Folds.{list_any-append}
@@ -8,10 +9,6 @@ use Rattle.gql_term.specs.Machinery.OpenReferences.{declares_open, declares_open
 or_false : (a : Bool) → a ≡ (a || false)
 or_false true = refl
 or_false false = refl
-
-or_assoc : (a b c : Bool) → ((a || b) || c) ≡ (a || (b || c))
-or_assoc true b c = refl
-or_assoc false b c = refl
 
 -- some of several parts declares the name so
 abbrev pub some_declares : List Part → Bool → Bool → List ℕ → Bool

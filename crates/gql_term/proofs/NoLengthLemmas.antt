@@ -1,4 +1,5 @@
 -- What one walk tells of lengths is what the definitions say.
+use mathlib.Core.Bool.{and_assoc, or_assoc}
 use Rattle.std.proofs.Common.{◌≡◌, ℕ, zero, suc, ◌+◌, ◌*◌, min, Bool, true, false, ◌&&◌, ◌||◌, ◌==◌, List, [], ◌∷◌, length, map, Option, refl, sym, ap, ◌∙◌, arith}
 use Rattle.std.specs.List.{list_any, list_all}
 use Rattle.std.proofs.lemmas.Bool.Decides.{nat_tests}
@@ -24,14 +25,6 @@ product_is_none : (m n : ℕ) → ((m * n) == 0) ≡ ((m == 0) || (n == 0))
 product_is_none zero n = grind (arith, nat_tests)
 product_is_none (suc m) zero = grind (arith, nat_tests)
 product_is_none (suc m) (suc n) = grind (arith, nat_tests)
-
-and_assoc : (a b c : Bool) → (a && (b && c)) ≡ ((a && b) && c)
-and_assoc true b c = refl
-and_assoc false b c = refl
-
-or_assoc : (a b c : Bool) → (a || (b || c)) ≡ ((a || b) || c)
-or_assoc true b c = refl
-or_assoc false b c = refl
 
 and_true : (a : Bool) → a ≡ (a && true)
 and_true true = refl
@@ -61,8 +54,8 @@ row_has_loop p (r ∷ rs) = ap (λ b. has_empty_loop p || b) (row_has_loop r rs)
 pub rows_are : (p r : Part) (rs : List Part) → row_lengths (lengths_of p) (lengths_of r) (list_lengths_of rs) ≡ lengths_of (Concat p (in_a_row r rs))
 rows_are p r rs =
     same_lengths _ _ _ _
-    (sym (and_assoc (has_no_length p) (has_no_length r) (list_all has_no_length rs)) ∙ sym (row_is_none p (r ∷ rs)))
-    (sym (or_assoc (has_empty_loop p) (has_empty_loop r) (list_any has_empty_loop rs)) ∙ sym (row_has_loop p (r ∷ rs)))
+    (and_assoc (has_no_length p) (has_no_length r) (list_all has_no_length rs) ∙ sym (row_is_none p (r ∷ rs)))
+    (or_assoc (has_empty_loop p) (has_empty_loop r) (list_any has_empty_loop rs) ∙ sym (row_has_loop p (r ∷ rs)))
 
 -- parts beside each other
 beside_is_none : (p : Part) (ps : List Part) → has_no_length (side_by_side p ps) ≡ (has_no_length p || list_any has_no_length ps)
@@ -78,8 +71,8 @@ beside_has_loop p (r ∷ rs) = ap (λ b. has_empty_loop p || b) (beside_has_loop
 pub sides_are : (p r : Part) (rs : List Part) → side_lengths (lengths_of p) (lengths_of r) (list_lengths_of rs) ≡ lengths_of (Union p (side_by_side r rs))
 sides_are p r rs =
     same_lengths _ _ _ _
-    (sym (or_assoc (has_no_length p) (has_no_length r) (list_any has_no_length rs)) ∙ sym (beside_is_none p (r ∷ rs)))
-    (sym (or_assoc (has_empty_loop p) (has_empty_loop r) (list_any has_empty_loop rs)) ∙ sym (beside_has_loop p (r ∷ rs)))
+    (or_assoc (has_no_length p) (has_no_length r) (list_any has_no_length rs) ∙ sym (beside_is_none p (r ∷ rs)))
+    (or_assoc (has_empty_loop p) (has_empty_loop r) (list_any has_empty_loop rs) ∙ sym (beside_has_loop p (r ∷ rs)))
 
 -- sides whose number is told
 sides_are_none : (k : ℕ) (ps : List Part) → (least_length_beside k (sides_of ps) == 0) ≡ ((k == 0) || list_any has_no_length ps)

@@ -1,7 +1,7 @@
 -- Where no quantifier is unprotected no reference crosses one.
 use Rattle.std.proofs.Common.{◌≡◌, ℕ, Bool, false, ◌||◌, cond, List, [], ◌∷◌, find, Some, None, refl, sym, ap, ◌∙◌}
 use Rattle.std.specs.Option.{option_or}
-use Rattle.std.proofs.lemmas.Bool.{or_parts}
+use Rattle.std.proofs.lemmas.Bool.{or_parts, or_from}
 use Rattle.gql_norm.specs.NormalPattern.{Part, Node, Edge, Concat, Union, Alt, Quant, Opt, Scope, Sides, NoSide, Side}
 use Rattle.gql_norm.specs.Termination.{protects}
 use Rattle.gql_term.specs.Machinery.OpenEnds.{is_open, has_open, has_open_side}
@@ -27,23 +27,20 @@ none_found : (barred : Barred) (xs : List (List ℕ)) → ((x : List ℕ) → ba
 none_found barred [] h = refl
 none_found barred (x ∷ xs) h = ap (λ b. cond b (Some x) (find barred xs)) (h x) ∙ none_found barred xs h
 
-neither : (a b : Bool) → a ≡ false → b ≡ false → (a || b) ≡ false
-neither a b h k = λ i. h i || k i
-
 mutual
   bars_none : (p : Part) (safe : Bool) (barred : Barred) → has_open p safe ≡ false → ((x : List ℕ) → barred x ≡ false) → first_barred p safe barred ≡ None
   bars_none (Node w) safe barred h k = none_found barred (names_of_element w) k
   bars_none (Edge d w) safe barred h k = none_found barred (names_of_element w) k
   bars_none (Concat p r) safe barred h k =
       let both = or_parts (has_open p safe) (has_open r safe) h in
-      λ i. option_or (bars_none p safe barred both.0 k i) (bars_none r safe (λ x. barred x || declares_open p safe false x) both.1 (λ x. neither (barred x) _ (k x) (declares_none p safe x both.0)) i)
+      λ i. option_or (bars_none p safe barred both.0 k i) (bars_none r safe (λ x. barred x || declares_open p safe false x) both.1 (λ x. or_from (barred x) _ (k x) (declares_none p safe x both.0)) i)
   bars_none (Union p r) safe barred h k = λ i. option_or (bars_none p safe barred (or_parts _ _ h).0 k i) (bars_none r safe barred (or_parts _ _ h).1 k i)
   bars_none (Alt ss) safe barred h k = sides_bar_none ss safe barred h k
   bars_none (Quant b l n) safe barred h k = bars_none b safe barred (or_parts (is_open safe n) (has_open b safe) h).1 k
   bars_none (Opt b) safe barred h k = bars_none b safe barred h k
   bars_none (Scope m b c) safe barred h k =
       let inside = safe || protects m in
-      λ i. option_or (bars_none b inside barred h k i) (none_found (λ x. barred x || declares_open b inside false x) (names_of_condition c) (λ x. neither (barred x) _ (k x) (declares_none b inside x h)) i)
+      λ i. option_or (bars_none b inside barred h k i) (none_found (λ x. barred x || declares_open b inside false x) (names_of_condition c) (λ x. or_from (barred x) _ (k x) (declares_none b inside x h)) i)
 
   sides_bar_none : (ss : Sides) (safe : Bool) (barred : Barred) → has_open_side ss safe ≡ false → ((x : List ℕ) → barred x ≡ false) → first_barred_side ss safe barred ≡ None
   sides_bar_none NoSide safe barred h k = refl

@@ -48,10 +48,6 @@ or_false : (a : Bool) → a ≡ (a || false)
 or_false true = refl
 or_false false = refl
 
-or_assoc : (a b c : Bool) → (a || (b || c)) ≡ ((a || b) || c)
-or_assoc true b c = refl
-or_assoc false b c = refl
-
 -- parts in a row, beside each other, and told
 row_open : (p : Part) (ps : List Part) (safe : Bool) → has_open (in_a_row p ps) safe ≡ (has_open p safe || list_any (λ q. has_open q safe) ps)
 row_open p [] safe = or_false (has_open p safe)

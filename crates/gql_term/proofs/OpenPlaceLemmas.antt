@@ -8,10 +8,7 @@ use Rattle.gql_norm.specs.Places.{size, size_all}
 use Rattle.gql_norm.specs.PathMode.{is_number_among}
 use Rattle.gql_norm.specs.Termination.{protects, if_open, unprotected, unprotected_beside}
 use Rattle.gql_term.specs.Machinery.OpenEnds.{is_open}
-
-or_none : (a b : Bool) → b ≡ false → (a || b) ≡ a
-or_none true b h = refl
-or_none false b h = h
+use Rattle.gql_term.proofs.CrossingLemmas.{or_none}
 
 none_or : (a b : Bool) → a ≡ false → (a || b) ≡ b
 none_or a b h = ap (λ c. c || b) h

@@ -180,6 +180,16 @@ changes_differ before after up up' =
     (all_weaker (HasValue after) (λ (r : Record). list_any (same_text r.key) (drops_of before after) ≡ false) (λ r there. not_dropped before after r up there) (puts_of before after)
     (all_of_filter (HasValue after) (λ (r : Record). not (has_record before r)) after (all_have_value after)))
 
+-- ---- where there was none before
+
+-- all are new
+pub all_put : (after : List Record) → puts_of [] after ≡ after
+all_put [] = refl
+all_put (x ∷ xs) = ap (λ (rs : List Record). x ∷ rs) (all_put xs)
+
+pub all_differ : (after : List Record) → keys_ascend after ≡ true → texts_differ (keys after ++ []) ≡ true
+all_differ after up = ap (λ (rs : List Record). texts_differ (keys rs ++ [])) (sym (all_put after)) ∙ changes_differ [] after refl up
+
 -- ---- one record more
 
 pub passes_more : (test : Record → Bool) (xs : List Record) (i : ℕ) (x : Record) → slice_get xs i ≡ Some x → test x ≡ true → filter test (take (i + 1) xs) ≡ filter test (take i xs) ++ x ∷ []

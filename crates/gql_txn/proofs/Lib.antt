@@ -1,4 +1,5 @@
 pub mod ValueLemmas
+pub mod SameLemmas
 pub mod ChangeLemmas
 pub mod StoreLemmas
 pub mod SoundLemmas

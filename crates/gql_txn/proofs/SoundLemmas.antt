@@ -1,22 +1,20 @@
 -- Each change of a sound catalog leaves a sound one.
 use Rattle.std.proofs.Common.{◌≡◌, ◌≢◌, ℕ, Bool, true, false, cond, not, ◌&&◌, List, [], ◌∷◌, map, Option, Some, None, refl, sym, ap, ◌∙◌, IsTrue}
 use Rattle.std.specs.Prelude.{find, is_some, option_map, if◌then◌else◌}
-use Rattle.std.specs.Option.{option_or}
 use Rattle.std.specs.List.{AllByRecursion, list_all}
 use Rattle.std.proofs.lemmas.Bool.{and_from, and_parts}
 use Rattle.gql_values3.specs.PropertyGraph.{PropertyGraph, is_graph}
 use Rattle.gql_values3.specs.Texts.{same_text, texts_ascend}
-use Rattle.gql_values3.specs.declared.element.Elem.TheVariants as elem
-use Rattle.gql_values3.specs.declared.records.NodeRecord.{NodeRecord}
-use Rattle.gql_values3.specs.declared.records.EdgeRecord.{EdgeRecord}
 use Rattle.gql_graph.specs.Catalog.{CatalogGraph, CatalogData, is_catalog, named, put_named, without_named, is_before, held_in, type_in, with_graph, without_graph, with_type, without_type, replaced, empty_graph}
 use Rattle.gql_graph.specs.declared.graph_type.GraphType.{GraphType}
 use Rattle.gql_graph.proofs.CatalogLemmas.{names}
 use Rattle.gql_graph.proofs.NamedLemmas.{list_all-put, list_all-without}
-use Rattle.gql_type.specs.Conformance.{node_fits, edge_fits, conforms, first_misfit}
+use Rattle.gql_type.specs.Conformance.{conforms}
 use Rattle.gql_type.specs.GraphTypes.{is_graph_type}
+use Rattle.gql_type.proofs.ConformanceLemmas.{no_misfit}
 use Rattle.gql_type.specs.SoundCatalog.{conforms_to, fits_kind, is_sound}
-use Rattle.gql_rowcode.proofs.NameLemmas.{named_here, named_later, text_is, text_same}
+use Rattle.gql_rowcode.proofs.MemberLemmas.{all_has}
+use Rattle.gql_rowcode.proofs.NameLemmas.{named_has, named_here, named_later, text_is, text_same}
 use Rattle.gql_rowcode.proofs.OrderingLists.{Pairs, all_of_map}
 use Rattle.gql_rowcode.proofs.OrderingKeys.{names_differ}
 use Rattle.gql_txn.specs.TxnData.{type_named, type_of_held, type_of_graph, misfit_under, misfit_in, new_graph}
@@ -161,17 +159,7 @@ sound_without_type name c h unused one =
 
 -- a type that is found by its name is one
 found_passes : (n : List ℕ) (ts : List (List ℕ × GraphType)) (t : GraphType) → named n ts ≡ Some t → list_all is_type ts ≡ true → is_graph_type t ≡ true
-found_passes n [] t e all = absurd cc
-found_passes n (s ∷ ts) t e all =
-    let parts = and_parts (is_type s) (list_all is_type ts) all in
-    by_case (same_text n s.0) refl parts.0 (λ behind. found_passes n ts t behind parts.1)
-  where
-    by_case : (b : Bool) → same_text n s.0 ≡ b → is_type s ≡ true → (named n ts ≡ Some t → is_graph_type t ≡ true) → is_graph_type t ≡ true
-    by_case true h here more =
-        let one : Some s.1 ≡ Some t = sym (named_here n s ts h) ∙ e in
-        let same : s.1 ≡ t = cc in
-        ap is_graph_type (sym same) ∙ here
-    by_case false h here more = more (sym (named_later n s ts h) ∙ e)
+found_passes n ts t e all = all_has is_type ts (n, t) all (named_has n ts t e)
 
 kind_passes : (types : List (List ℕ × GraphType)) (kind : Option (List ℕ)) (t : GraphType) → list_all is_type types ≡ true → type_named types kind ≡ Some t → is_graph_type t ≡ true
 kind_passes types None t all e = absurd cc
@@ -186,25 +174,6 @@ pub type_passes : (c : CatalogData) (name : List ℕ) (t : GraphType) → is_sou
 type_passes c name t h e = held_passes c (held_in c name) t (parts_of c h).types e
 
 -- ---- a graph in the place of another
-
-none_found : {X : Type 0} (p : X → Bool) (xs : List X) → find (λ x. not (p x)) xs ≡ None → list_all p xs ≡ true
-none_found p [] h = refl
-none_found p (x ∷ xs) h = by_case (p x) h (none_found p xs)
-  where
-    by_case : (b : Bool) → cond (not b) (Some x) (find (λ y. not (p y)) xs) ≡ None → (find (λ y. not (p y)) xs ≡ None → list_all p xs ≡ true) → (b && list_all p xs) ≡ true
-    by_case true e more = more e
-    by_case false e more = absurd cc
-
-neither_found : {A B C : Type 0} (f : A → C) (g : B → C) (a : Option A) (b : Option B) → option_or (option_map f a) (option_map g b) ≡ None → (a ≡ None) × (b ≡ None)
-neither_found f g None None h = (refl, refl)
-neither_found f g None (Some y) h = absurd cc
-neither_found f g (Some x) b h = absurd cc
-
--- a graph without a misfit conforms
-no_misfit : (g : PropertyGraph) (t : GraphType) → first_misfit g t ≡ None → conforms g t ≡ true
-no_misfit g t h =
-    let none = neither_found (λ (r : NodeRecord). elem.Node r.number) (λ (r : EdgeRecord). elem.Edge r.number) (find (λ (r : NodeRecord). not (node_fits t r)) g.nodes) (find (λ (r : EdgeRecord). not (edge_fits g t r)) g.edges) h in
-    and_from (list_all (node_fits t) g.nodes) (list_all (edge_fits g t) g.edges) (none_found (node_fits t) g.nodes none.0) (none_found (edge_fits g t) g.edges none.1)
 
 conforms_too : (g graph : PropertyGraph) (o : Option GraphType) → misfit_under o graph ≡ None → conforms_to g o ≡ true → conforms_to graph o ≡ true
 conforms_too g graph None none h = h

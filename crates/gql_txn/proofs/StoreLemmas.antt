@@ -1,25 +1,18 @@
 -- A store that was told what leads from the records of one catalog to those of another keeps the other.
-use Rattle.std.proofs.Common.{◌≡◌, ◌≢◌, ◌⊎◌, ℕ, zero, suc, ◌<◌, Bool, true, false, cond, not, List, [], ◌∷◌, ◌++◌, map, length, get_or, Option, Some, None, inl, inr, refl, sym, ap, subst, ◌∙◌, arith, IsTrue}
-use Rattle.std.specs.Prelude.{Contains, filter, is_some, IfSome, Result, OnOk, ◌==◌, ◌&&◌}
-use Rattle.std.proofs.lemmas.Bool.{and_parts}
-use Rattle.std.proofs.lemmas.Bool.Decides.{nat_tests}
+use Rattle.std.proofs.Common.{◌≡◌, ◌⊎◌, ℕ, ◌<◌, true, List, [], ◌∷◌, length, Option, Some, None, inl, inr, refl, sym, ap, subst, ◌∙◌, arith}
+use Rattle.std.specs.Prelude.{Contains, IfSome, Result, OnOk}
 use Rattle.std.proofs.lemmas.List.{nil_from_length}
-use Rattle.std.specs.List.{AllByRecursion}
-use Rattle.std.proofs.lemmas.List.Elements.{Contains-get_or, recursion_from_All}
-use Rattle.gql_graph.specs.Catalog.{CatalogData, initial_catalog}
-use Rattle.gql_ports.specs.Held.{Holding, keys_ascend, value_at, value_after, Applies}
+use Rattle.gql_graph.specs.Catalog.{CatalogData}
+use Rattle.gql_ports.specs.Held.{Holding, keys_ascend, value_at, value_after}
 use Rattle.gql_ports.specs.Told.{MatchTold}
 use Rattle.gql_ports.specs.declared.stored.Record.{Record}
-use Rattle.gql_rowcode.specs.Records.{Form, record_of}
-use Rattle.gql_rowcode.specs.StandFor.{catalog_forms, AreRecordsOf, StandFor}
-use Rattle.gql_rowcode.proofs.NameLemmas.{text_same}
-use Rattle.gql_rowcode.proofs.OrderingLists.{all_weaker}
+use Rattle.gql_rowcode.specs.StandFor.{AreRecordsOf, StandFor}
 use Rattle.gql_rowcode.proofs.ReadLemmas.{stand_for_one}
 use Rattle.gql_txn.specs.Keeps.{Keeps}
-use Rattle.gql_txn.specs.Machinery.Changes.{is_value, has_record, has_key, puts_of, gone_of, drops_of}
+use Rattle.gql_txn.specs.Machinery.Changes.{puts_of, drops_of}
 use Rattle.gql_txn.specs.Machinery.Storing.{AppliesInOrder, Leads}
-use Rattle.gql_txn.proofs.ValueLemmas.{rest_ascends, value_first, value_behind, same_records, one_list, contained_value}
-use Rattle.gql_txn.proofs.ChangeLemmas.{changes_lead}
+use Rattle.gql_txn.proofs.ValueLemmas.{same_records, one_list}
+use Rattle.gql_txn.proofs.ChangeLemmas.{changes_lead, all_put}
 
 -- ---- one list of records for each catalog
 
@@ -60,46 +53,19 @@ leads_held before after h k up up' some told = record {
 }
 
 -- and so does one without records that is told all of them
-pub leads_empty : (before after : List Record) (h k : Holding) → keys_ascend after ≡ true → h.records ≡ [] → AppliesInOrder (puts_of [] after) (drops_of [] after) h k → Leads before after h k
+pub leads_empty : (before after : List Record) (h k : Holding) → keys_ascend after ≡ true → h.records ≡ [] → AppliesInOrder after [] h k → Leads before after h k
 leads_empty before after h k up none told =
-    let all : k.records ≡ after = applied [] after h k refl up none told in
+    let put : AppliesInOrder (puts_of [] after) [] h k = subst (λ (rs : List Record). AppliesInOrder rs [] h k) (sym (all_put after)) told in
+    let all : k.records ≡ after = applied [] after h k refl up none put in
     record { name = told.0.name; held = λ e. all; empty = λ e. inl all }
 
--- where nothing is to be told, both are the same records
-pub nothing_told : (before after puts : List Record) (drops : List (List ℕ)) → keys_ascend before ≡ true → keys_ascend after ≡ true → puts ≡ [] → drops ≡ [] → puts ≡ puts_of before after → drops ≡ drops_of before after → after ≡ before
-nothing_told before after puts drops up up' none none' are are' =
-    same_records after before up' up (λ key.
-    sym (changes_lead before after up up' key)
-    ∙ ap (λ (rs : List Record). value_after rs (drops_of before after) key (value_at before key)) (sym are ∙ none)
-    ∙ ap (λ (ks : List (List ℕ)). value_after [] ks key (value_at before key)) (sym are' ∙ none'))
-
+-- the same records lead to themselves
 pub leads_same : (before after : List Record) (h : Holding) → after ≡ before → Leads before after h h
 leads_same before after h same = record {
   name = refl;
   held = λ e. e ∙ sym same;
   empty = λ e. inr (e, same);
 }
-
--- ---- the same records
-
-filter_none : (test : Record → Bool) (xs : List Record) → AllByRecursion (λ (r : Record). test r ≡ false) xs → filter test xs ≡ []
-filter_none test [] all = refl
-filter_none test (x ∷ xs) all = ap (λ (b : Bool). cond b (x ∷ filter test xs) (filter test xs)) all.0 ∙ filter_none test xs all.1
-
--- each record of a list in order has its value there
-all_there : (xs : List Record) → keys_ascend xs ≡ true → AllByRecursion (λ (r : Record). value_at xs r.key ≡ Some r.value) xs
-all_there xs up = recursion_from_All (λ (r : Record). value_at xs r.key ≡ Some r.value) xs (λ k d lt. contained_value xs (get_or xs k d) up (Contains-get_or xs k d lt))
-
-pub no_puts : (xs : List Record) → keys_ascend xs ≡ true → puts_of xs xs ≡ []
-no_puts xs up =
-    filter_none (λ (r : Record). not (has_record xs r)) xs
-    (all_weaker (λ (r : Record). value_at xs r.key ≡ Some r.value) (λ (r : Record). not (has_record xs r) ≡ false) (λ r there. ap (λ (o : Option (List ℕ)). not (is_value r.value o)) there ∙ ap not (text_same r.value)) xs (all_there xs up))
-
-pub no_drops : (xs : List Record) → keys_ascend xs ≡ true → drops_of xs xs ≡ []
-no_drops xs up =
-    ap (map (λ (r : Record). r.key))
-    (filter_none (λ (r : Record). not (has_key xs r)) xs
-    (all_weaker (λ (r : Record). value_at xs r.key ≡ Some r.value) (λ (r : Record). not (has_key xs r) ≡ false) (λ r there. ap (λ (o : Option (List ℕ)). not (is_some o)) there) xs (all_there xs up)))
 
 -- ---- what a store tells before and after
 
@@ -131,22 +97,6 @@ told_some None n h count some e none = absurd cc
 told_some (Some k) n h count some e none =
     let same : k ≡ h = cc in
     some (count ∙ ap (λ (x : Holding). length x.records) same ∙ ap (λ (rs : List Record). length rs) none)
-
--- a list without items
-pub is_empty : {A : Type 0} (xs : List A) → (length xs == 0) ≡ true → xs ≡ []
-is_empty [] h = refl
-is_empty (x ∷ xs) h = nil_from_length (x ∷ xs) (grind (arith, nat_tests))
-
--- both lists have no items
-pub both_empty : {A B : Type 0} (xs : List A) (ys : List B) (b : Bool) → b ≡ ((length xs == 0) && (length ys == 0)) → b ≡ true → (xs ≡ []) × (ys ≡ [])
-both_empty xs ys b e t =
-    let parts = and_parts (length xs == 0) (length ys == 0) (sym e ∙ t) in
-    (is_empty xs parts.0, is_empty ys parts.1)
-
-pub not_both_empty : {A B : Type 0} (xs : List A) (ys : List B) (b : Bool) → b ≡ ((length xs == 0) && (length ys == 0)) → b ≡ false → xs ≡ [] → ys ≡ [] → ⊥
-not_both_empty xs ys b e f p q =
-    let never : true ≡ false = (λ i. (length (sym p i) == 0) && (length (sym q i) == 0)) ∙ sym e ∙ f in
-    cc
 
 -- ---- the store keeps the other catalog
 

@@ -1,8 +1,8 @@
 //! What a store is told so that it holds other records.
 
-ghost use Rattle.std.specs.Prelude.{◌≡◌, ◌==◌, ◌&&◌, length, IfOk, IsTrue};
+ghost use Rattle.std.specs.Prelude.{◌≡◌, ◌↔◌, IfOk, IsTrue};
 ghost use Rattle.gql_ports.specs.Held.{keys_ascend};
-ghost use Rattle.gql_txn.specs.Machinery.Changes.{has_record, has_key, puts_of, drops_of};
+ghost use Rattle.gql_txn.specs.Machinery.Changes.{same_record, same_records, has_record, has_key, puts_of, drops_of};
 
 use gql_ports::{Key, Record, Records};
 use gql_values3::OutOfMemory;
@@ -15,13 +15,35 @@ pub struct Changes {
     pub drops: Vec<Key>,
 }
 
-impl Changes {
-    /// Whether there are none.
-    pub fn is_none(&self) -> bool
-        ensures { result ≡ ((length self.now.puts.items == 0) && (length self.now.drops.items == 0)) }
-    {
-        self.puts.is_empty() && self.drops.is_empty()
+/// Whether both are the same records, found without a copy.
+pub fn are_same(before: &Records, after: &Records) -> bool
+    ensures same { IsTrue result ↔ (after.now ≡ before.now) }
+    ensures before { IsTrue (keys_ascend before.now) }
+    ensures after { IsTrue (keys_ascend after.now) }
+{
+    // The lengths' clauses say that the records are in order.
+    let (_, _) = (before.len(), after.len());
+    same_records(before.as_slice(), after.as_slice())
+}
+
+fn same_records(some: &[Record], others: &[Record]) -> bool
+    ensures { result ≡ same_records some.now others.now }
+{
+    if some.len() != others.len() {
+        return false;
     }
+    for i in 0..some.len() {
+        if !same_record(&some[i], &others[i]) {
+            return false;
+        }
+    }
+    true
+}
+
+fn same_record(a: &Record, b: &Record) -> bool
+    ensures { result ≡ same_record a.now b.now }
+{
+    a.key.as_slice() == b.key.as_slice() && a.value.as_slice() == b.value.as_slice()
 }
 
 /// What leads from the one list of records to the other.

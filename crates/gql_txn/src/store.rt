@@ -11,10 +11,10 @@ ghost use Rattle.gql_txn.specs.Keeps.{Keeps, IsSameStore};
 ghost use Rattle.gql_txn.specs.Machinery.Changes.{puts_of, drops_of};
 ghost use Rattle.gql_txn.specs.Machinery.Storing.{AppliesInOrder, Leads};
 
-use crate::changes::{Changes, changes_of};
+use crate::changes::{are_same, changes_of};
 use crate::commit::CommitFault;
 use gql_graph::Catalog;
-use gql_ports::{KeepFault, Keeper, Records};
+use gql_ports::{KeepFault, Keeper, Key, Record, Records};
 use gql_rowcode::records;
 use std::alloc::Global;
 
@@ -54,25 +54,21 @@ fn store_records<K: Keeper>(
     ensures failed { result ≡ Err CommitFault.Store → Rose (K.faults keeper.old) (K.faults keeper.new) }
     ensures risen { K.faults keeper.new ≡ after_commit result (K.faults keeper.old) }
 {
-    let changes = changes_of(alloc, before, after)?;
-    if changes.is_none() {
+    if are_same(before, after) {
         return Ok(());
     }
-    store_changes(alloc, keeper, before, after, &changes)
+    store_changes(alloc, keeper, before, after)
 }
 
-/// Tells the store the changes. A store without records gets all of those after.
+/// Tells the store what has to change. A store without records gets all of those after.
 fn store_changes<K: Keeper>(
     alloc: Global,
     keeper: &mut K,
     before: &Records,
     after: &Records,
-    changes: &Changes,
 ) -> Result<(), CommitFault>
     requires before { IsTrue (keys_ascend before.now) }
     requires after { IsTrue (keys_ascend after.now) }
-    requires puts { changes.now.puts.items ≡ puts_of before.now after.now }
-    requires drops { changes.now.drops.items ≡ drops_of before.now after.now }
     ensures ok { OnOk result (MatchTold (K.held keeper.old) (K.held keeper.new) (Leads before.now after.now)) }
     ensures stays { OnErr result (K.held keeper.new ≡ K.held keeper.old) }
     ensures later { K.faults keeper.old ≤ K.faults keeper.new }
@@ -80,34 +76,51 @@ fn store_changes<K: Keeper>(
     ensures risen { K.faults keeper.new ≡ after_commit result (K.faults keeper.old) }
 {
     if keeper.len() == 0 {
-        tell_all(alloc, keeper, after)
+        tell_all(keeper, after)
     } else {
-        tell(keeper, changes)
+        tell_changes(alloc, keeper, before, after)
     }
 }
 
-/// Tells the store all of the records.
-fn tell_all<K: Keeper>(alloc: Global, keeper: &mut K, after: &Records) -> Result<(), CommitFault>
-    ensures ok { OnOk result (MatchTold (K.held keeper.old) (K.held keeper.new) (AppliesInOrder (puts_of [] after.now) (drops_of [] after.now))) }
+/// Tells the store all of the records, and copies none.
+fn tell_all<K: Keeper>(keeper: &mut K, after: &Records) -> Result<(), CommitFault>
+    requires { IsTrue (keys_ascend after.now) }
+    ensures ok { OnOk result (MatchTold (K.held keeper.old) (K.held keeper.new) (AppliesInOrder after.now [])) }
     ensures stays { OnErr result (K.held keeper.new ≡ K.held keeper.old) }
     ensures later { K.faults keeper.old ≤ K.faults keeper.new }
     ensures failed { result ≡ Err CommitFault.Store → Rose (K.faults keeper.old) (K.faults keeper.new) }
     ensures risen { K.faults keeper.new ≡ after_commit result (K.faults keeper.old) }
 {
-    let all = changes_of(alloc, &Records::new(alloc), after)?;
-    tell(keeper, &all)
+    tell(keeper, after.as_slice(), &[])
+}
+
+/// Tells the store what leads from the one list of records to the other.
+fn tell_changes<K: Keeper>(
+    alloc: Global,
+    keeper: &mut K,
+    before: &Records,
+    after: &Records,
+) -> Result<(), CommitFault>
+    ensures ok { OnOk result (MatchTold (K.held keeper.old) (K.held keeper.new) (AppliesInOrder (puts_of before.now after.now) (drops_of before.now after.now))) }
+    ensures stays { OnErr result (K.held keeper.new ≡ K.held keeper.old) }
+    ensures later { K.faults keeper.old ≤ K.faults keeper.new }
+    ensures failed { result ≡ Err CommitFault.Store → Rose (K.faults keeper.old) (K.faults keeper.new) }
+    ensures risen { K.faults keeper.new ≡ after_commit result (K.faults keeper.old) }
+{
+    let changes = changes_of(alloc, before, after)?;
+    tell(keeper, changes.puts.as_slice(), changes.drops.as_slice())
 }
 
 /// Tells the store all at once.
-fn tell<K: Keeper>(keeper: &mut K, changes: &Changes) -> Result<(), CommitFault>
-    requires { IsTrue (texts_differ (map (λ r. r.key) changes.now.puts.items ++ changes.now.drops.items)) }
-    ensures ok { OnOk result (MatchTold (K.held keeper.old) (K.held keeper.new) (AppliesInOrder changes.now.puts.items changes.now.drops.items)) }
+fn tell<K: Keeper>(keeper: &mut K, puts: &[Record], drops: &[Key]) -> Result<(), CommitFault>
+    requires { IsTrue (texts_differ (map (λ r. r.key) puts.now ++ drops.now)) }
+    ensures ok { OnOk result (MatchTold (K.held keeper.old) (K.held keeper.new) (AppliesInOrder puts.now drops.now)) }
     ensures stays { OnErr result (K.held keeper.new ≡ K.held keeper.old) }
     ensures later { K.faults keeper.old ≤ K.faults keeper.new }
     ensures failed { result ≡ Err CommitFault.Store → Rose (K.faults keeper.old) (K.faults keeper.new) }
     ensures risen { K.faults keeper.new ≡ after_commit result (K.faults keeper.old) }
 {
-    match keeper.apply(changes.puts.as_slice(), changes.drops.as_slice()) {
+    match keeper.apply(puts, drops) {
         Ok(()) => {
             // The length's clause says that the records are in order.
             let _count = keeper.len();

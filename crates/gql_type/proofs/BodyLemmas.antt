@@ -28,12 +28,9 @@ use Rattle.gql_type.specs.Conformance.{contains_name}
 use Rattle.gql_type.specs.BodyFaults.{repeated, alias_in, aliases_in, unknown, aliases_at_fault, wrong_aliases, names_given, repeated_names}
 use Rattle.gql_type.specs.BodyMeaning.{labels_meant, property_type, name_before, properties_meant, node_type, node_types, place_of, edge_type, edge_types, graph_type_of}
 use Rattle.gql_graph.proofs.AscendingTexts.{text_cmp, turned, tied}
+use Rattle.gql_type.proofs.ConformanceLemmas.{or_second}
 use Rattle.gql_type.proofs.SortedTexts.{IsNew, inserted_ascends}
 use Rattle.gql_type.proofs.MatchingLemmas.{names_of}
-
-or_second : (a b : Bool) → b ≡ true → (a || b) ≡ true
-or_second true b h = refl
-or_second false b h = h
 
 -- neither less nor the same is greater
 above_case : (o : Ordering) (a b : List ℕ) → text_cmp a b ≡ o → is_before a b ≡ false → same_text a b ≡ false → text_cmp b a ≡ Less

@@ -155,14 +155,14 @@ found_unless p (x ∷ xs) = by_case (p x) x (find (λ y. not (p y)) xs) (list_al
     by_case true x r c h = h
     by_case false x r c h = refl
 
+no_not : (b : Bool) → not b ≡ false → b ≡ true
+no_not true h = refl
+no_not false h = absurd (cc)
+
 none_found : {A : Type 0} (p : A → Bool) (xs : List A) → None ≡ find (λ x. not (p x)) xs → list_all p xs ≡ true
 none_found p xs e = no_not (list_all p xs) (sym (found_unless p xs) ∙ ap is_some (sym e))
-  where
-    no_not : (b : Bool) → not b ≡ false → b ≡ true
-    no_not true h = refl
-    no_not false h = absurd (cc)
 
-or_second : (a b : Bool) → b ≡ true → (a || b) ≡ true
+pub or_second : (a b : Bool) → b ≡ true → (a || b) ≡ true
 or_second true b h = refl
 or_second false b h = h
 
@@ -201,7 +201,7 @@ module _ {A : Type 0} (key : A → ℕ) (p : A → Bool) (high : ℕ) where
       let parts = and_parts (nat_lt low (key x)) (numbers_ascend (key x) (map key xs) high) up in
       least_case (p x) x y xs refl parts.1 (λ r. least_found (key x) xs y parts.1 r) e
 
-module _ (g : PropertyGraph) (t : GraphType) (one : is_graph g ≡ true) where
+module _ (g : PropertyGraph) (t : GraphType) where
   abbrev some_of : {A : Type 0} {B : Type 0} (f : A → Elem) (h : B → Elem) (a : Option A) (b : Option B) → is_some (option_or (option_map f a) (option_map h b)) ≡ (is_some a || is_some b)
   some_of f h None None = refl
   some_of f h None (Some b) = refl
@@ -217,6 +217,10 @@ module _ (g : PropertyGraph) (t : GraphType) (one : is_graph g ≡ true) where
       either true b = refl
       either false b = refl
 
+  pub no_misfit : first_misfit g t ≡ None → conforms g t ≡ true
+  no_misfit none = no_not (conforms g t) (sym found_conforms ∙ ap is_some none)
+
+module _ (g : PropertyGraph) (t : GraphType) (one : is_graph g ≡ true) where
   parts : (are_nodes g.nodes g.next_node ≡ true) × (are_edges g.nodes g.edges g.next_edge ≡ true)
   parts = and_parts (are_nodes g.nodes g.next_node) (are_edges g.nodes g.edges g.next_edge) one
 

@@ -1,5 +1,5 @@
 -- Names at fault: a set of names answers like the list of them, and a walk that stops at the first name at fault answers it.
-use Rattle.std.proofs.Common.{◌≡◌, ℕ, Bool, true, false, not, cond, ◌||◌, List, [], ◌∷◌, ◌++◌, map, Option, Some, None, refl, sym, ap, ◌∙◌}
+use Rattle.std.proofs.Common.{◌≡◌, ℕ, Bool, true, false, cond, ◌||◌, List, [], ◌∷◌, ◌++◌, map, None, refl, sym, ap, ◌∙◌}
 use Rattle.std.specs.List.{list_any}
 use Rattle.std.specs.Prelude.{if◌then◌else◌}
 use Rattle.std.specs.Str.{bytes_eq}
@@ -11,7 +11,7 @@ use Rattle.indexmap.specs.IndexSet.{insert_key}
 use Rattle.gql_values3.specs.Texts.{same_text}
 use Rattle.gql_ast.specs.declared.graph_type.TypeElement.{TypeElement}
 use Rattle.gql_type.specs.Conformance.{contains_name}
-use Rattle.gql_type.specs.BodyFaults.{repeated, alias_in, aliases_in, used_in, unknown, aliases_at_fault, first_name}
+use Rattle.gql_type.specs.BodyFaults.{repeated, alias_in, used_in, unknown, aliases_at_fault, first_name}
 
 -- two lists that have the same names
 abbrev pub HaveSame : List (List ℕ) → List (List ℕ) → Type 0
@@ -73,32 +73,9 @@ same_faults known others before others_before h k (e ∷ es) =
     λ i. same_repeated before others_before k (alias_in e) i ++ same_unknown known others h (used_in e) i
     ++ same_faults known others (alias_in e ++ before) (alias_in e ++ others_before) h (same_behind (alias_in e) before others_before k) es i
 
--- one more element's alias
-pub one_more : (known more : List (List ℕ)) (e : TypeElement) (es : List TypeElement) (x : List ℕ) → contains_name more x ≡ contains_name (alias_in e ++ known) x
-    → (contains_name more x || contains_name (aliases_in es) x) ≡ (contains_name known x || contains_name (aliases_in (e ∷ es)) x)
-one_more known more e es x h =
-    let k = contains_name known x in
-    let a = contains_name (alias_in e) x in
-    let r = contains_name (aliases_in es) x in
-    ap (λ (b : Bool). b || r) (h ∙ contains-append (alias_in e) known x) ∙ turn a k r ∙ ap (λ (b : Bool). k || b) (sym (contains-append (alias_in e) (aliases_in es) x))
-  where
-    turn : (a k r : Bool) → ((a || k) || r) ≡ (k || (a || r))
-    turn true true r = refl
-    turn true false r = refl
-    turn false true r = refl
-    turn false false r = refl
-
-pub or_false : (b : Bool) → (b || false) ≡ b
-or_false true = refl
-or_false false = refl
-
 pub goes_on : (xs ys : List (List ℕ)) → None ≡ first_name xs → first_name (xs ++ ys) ≡ first_name ys
 goes_on [] ys h = refl
 goes_on (y ∷ xs) ys h = absurd (cc)
-
--- a name that stands before, and one that does not
-pub is_repeated : (before : List (List ℕ)) (x : List ℕ) (xs : List (List ℕ)) → contains_name before x ≡ true → Some x ≡ first_name (repeated before (x ∷ xs))
-is_repeated before x xs h = sym (ap (λ (b : Bool). first_name (cond b (x ∷ repeated before xs) (repeated (x ∷ before) xs))) h)
 
 pub not_repeated : (before more : List (List ℕ)) (x : List ℕ) (xs : List (List ℕ)) → contains_name before x ≡ false → HaveSame more (x ∷ before) → first_name (repeated more xs) ≡ first_name (repeated before (x ∷ xs))
 not_repeated before more x xs h same =

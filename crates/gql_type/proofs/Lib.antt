@@ -2,11 +2,12 @@ mod ConformanceExamples
 pub mod SortedTexts
 mod SetLemmas
 mod MatchingLemmas
-mod ConformanceLemmas
+pub mod ConformanceLemmas
 mod BodyLemmas
 mod FaultLemmas
 mod BodyExamples
 pub mod LabelListLaws
+pub mod WordsLaws
 pub mod TypeLaws
 mod TypeExamples
 mod NumberLemmas

@@ -1,5 +1,5 @@
 -- The laws of graph types: what is read is derived, and what is derived is read.
-use Rattle.std.proofs.Common.{◌≡◌, ◌<◌, ◌≤◌, Bool, true, false, ◌||◌, ℕ, List, [], ◌∷◌, length, Option, Some, None, refl, sym, ap, subst, ◌∙◌, arith}
+use Rattle.std.proofs.Common.{◌≡◌, ◌<◌, ◌≤◌, Bool, true, false, ◌||◌, ℕ, List, length, Option, Some, None, refl, sym, ap, subst, ◌∙◌, arith}
 use Rattle.std.specs.Prelude.{if◌then◌else◌}
 use Rattle.gql_lexer.specs.declared.lexeme.Lexeme.{Lexeme}
 use Rattle.gql_lexer.specs.declared.lexeme.Lexeme.TheVariants as lex
@@ -20,38 +20,36 @@ use Rattle.gql_front.specs.Reading.{◌>>=◌, is_sign, is_word, name_in, any_na
 use Rattle.gql_front.proofs.Agree.{is_longest}
 use Rattle.gql_front.proofs.Found.{Sound, exact, is_there}
 use Rattle.gql_front.proofs.TableLemmas.{begins_read, read_begins, begins_shorter, word_row}
-use Rattle.gql_parts.specs.Parts.{Passes, IsOptional, IsListOf}
+use Rattle.gql_parts.specs.Parts.{Passes, IsOptional}
 use Rattle.gql_parts.specs.PartWords.{is_colon}
 use Rattle.gql_parts.specs.Machinery.PartReaders.{listed, past}
 use Rattle.gql_parts.specs.Machinery.FillerReaders.{variable_of}
-use Rattle.gql_parts.proofs.PartLaws.{Stops, Led, left_stops, right_stops, nothing, bind_then, finish, passes_after, after_passes, passes_shorter, may_pass_shorter, stops_after, stops_op, word_apart, sign_apart, passes_stops, begins_stops, optional_stops, optional_shorter, led_sound, led_exact, past_sound, past_exact}
-use Rattle.gql_parts.proofs.ListLaws.{listed_sound, listed_exact, list_shorter}
+use Rattle.gql_parts.proofs.PartLaws.{Stops, Led, left_stops, right_stops, nothing, bind_then, finish, passes_after, after_passes, passes_shorter, may_pass_shorter, stops_after, stops_op, word_apart, sign_apart, passes_stops, says_no_sign, begins_stops, optional_stops, optional_shorter, led_sound, led_exact, past_sound, past_exact}
+use Rattle.gql_parts.proofs.ListLaws.{listed_sound, listed_exact}
+use Rattle.gql_parts.proofs.BraceLaws.{ToBrace, to_brace_sound, to_brace_exact, to_brace_shorter}
 use Rattle.gql_parts.proofs.FillerLaws.{is_name, variable_sound, variable_exact, colon_apart}
 use Rattle.gql_type.specs.declared.segment.TypeSegment.{TypeSegment}
 use Rattle.gql_type.specs.TypeWords.{scalar_words, scalar_word, is_typed, arrow_sign, closing_of}
 use Rattle.gql_type.specs.LabelList.{BearsLabels}
-use Rattle.gql_type.specs.TypeGrammar.{IsRequired, IsKind, IsProperty, AreProperties, BearsProperties, IsContent, IsEnd, IsSegment, IsElement, IsTypeBody}
+use Rattle.gql_type.specs.TypeGrammar.{IsRequired, IsKind, IsProperty, BearsProperties, IsContent, IsEnd, IsSegment, IsElement, IsTypeBody}
 use Rattle.gql_type.specs.Machinery.LabelListReaders.{optional_labels_of}
-use Rattle.gql_type.specs.Machinery.TypeReaders.{not_null_of, required_or, required_of, list_kind_of, kind_or, kind_of, property_of, empty_or_properties, properties_of, braced_properties_of, content_of, type_node_of, end_of, bracketed_of, edge_of, segment_of, is_alone, segment_behind, made_element, element_of, type_body_of}
+use Rattle.gql_type.specs.Machinery.TypeReaders.{not_null_of, required_of, list_kind_of, kind_or, kind_of, property_of, properties_of, braced_properties_of, content_of, type_node_of, end_of, bracketed_of, edge_of, segment_of, is_alone, segment_behind, made_element, element_of, type_body_of}
+use Rattle.gql_type.proofs.WordsLaws.{words_sound, words_exact}
 use Rattle.gql_type.proofs.LabelListLaws.{labels_sound, labels_exact, labels_shorter}
 
 -- [NOT NULL]
 
 required_sound : (ts : List Lexeme) → IsRequired (required_of ts).0 ts (required_of ts).1
 unfolding required_of
-required_sound ts = go (not_null_of ts) refl
-  where
-    go : (o : Option (List Lexeme)) → not_null_of ts ≡ o → IsRequired (required_or ts o).0 ts (required_or ts o).1
-    go None e = refl
-    go (Some r) e = bind_then (after (is_word word.NOT) ts) _ r e (λ a p e. (a, after_passes (is_word word.NOT) ts a p, after_passes (is_word word.NULL) a r e))
+required_sound =
+    words_sound not_null_of IsRequired (λ ts. refl)
+    (λ ts r e. bind_then (after (is_word word.NOT) ts) _ r e (λ a p e. (a, after_passes (is_word word.NOT) ts a p, after_passes (is_word word.NULL) a r e)))
 
 required_exact : (q : Bool) (ts s : List Lexeme) → IsRequired q ts s → Stops (is_word word.NOT) s → required_of ts ≡ (q, s)
 unfolding required_of
-required_exact false ts s h stop =
-    subst (λ z. required_or z (not_null_of z) ≡ (false, s)) (sym h) (ap (λ (o : Option (List Lexeme)). required_or s (o >>= λ a. after (is_word word.NULL) a)) (stops_after (is_word word.NOT) s stop))
-required_exact true ts s h stop =
-    ap (λ (o : Option (List Lexeme)). required_or ts (o >>= λ a. after (is_word word.NULL) a)) (passes_after (is_word word.NOT) ts h.0 h.1)
-    ∙ ap (required_or ts) (passes_after (is_word word.NULL) h.0 s h.2)
+required_exact q ts s h stop =
+    words_exact not_null_of IsRequired (λ ts r h. h) (λ ts r h. rw (passes_after (is_word word.NOT) ts h.0 h.1) (passes_after (is_word word.NULL) h.0 r h.2)) q ts s h
+    (rw (stops_after (is_word word.NOT) s stop) refl)
 
 required_shorter : (q : Bool) (ts r : List Lexeme) → IsRequired q ts r → length r ≤ length ts
 required_shorter false ts r h = omega (arith, ap length h)
@@ -149,65 +147,35 @@ property_shorter p ts r h =
 
 -- Properties between braces
 
-abbrev PropertiesRest : List TypeProperty → List Lexeme → List Lexeme → Type 0
-PropertiesRest ps ts r = (b : List Lexeme) × AreProperties ps ts b × Passes (is_sign closing_brace) b r
-
-as_properties : (ps : List TypeProperty) (ts r : List Lexeme) → IsListOf IsProperty ps ts r → AreProperties ps ts r
-as_properties [] ts r h = absurd h
-as_properties (p ∷ ps) ts r h = h
-
-properties_sound : Sound PropertiesRest properties_of
+properties_sound : Sound (ToBrace IsProperty) properties_of
 unfolding properties_of
-properties_sound ts ps r e = go (after (is_sign closing_brace) ts) refl e
-  where
-    go : (o : Option (List Lexeme)) → after (is_sign closing_brace) ts ≡ o → empty_or_properties ts o ≡ Some (ps, r) → PropertiesRest ps ts r
-    go (Some a) p k = finish (λ ps r. PropertiesRest ps ts r) [] a ps r k (ts, refl, after_passes (is_sign closing_brace) ts a p)
-    go None p k =
-        bind_then (listed property_of ts) _ (ps, r) k (λ l q k.
-        bind_then (after (is_sign closing_brace) l.1) _ (ps, r) k (λ a j k.
-        finish (λ ps r. PropertiesRest ps ts r) l.0 a ps r k
-        (l.1, as_properties l.0 ts l.1 (listed_sound property_of IsProperty property_sound ts l.0 l.1 q), after_passes (is_sign closing_brace) l.1 a j)))
+properties_sound = to_brace_sound property_of IsProperty property_sound
 
-name_no_sign : (place : ℕ) (t : Lexeme) (x : List ℕ) → any_name_in t ≡ Some x → is_sign place t ≡ true → ⊥
-name_no_sign place (lex.Sign n) x e i = cc
-name_no_sign place (lex.Name y) x e i = cc
-name_no_sign place (lex.Word w y) x e i = cc
-name_no_sign place (lex.Chars y) x e i = cc
-name_no_sign place (lex.Number y) x e i = cc
-name_no_sign place (lex.Param y) x e i = cc
+property_starts : (p : TypeProperty) (ts r : List Lexeme) → IsProperty p ts r → Stops (is_sign closing_brace) ts
+property_starts p ts r h = begins_stops any_name_in (is_sign closing_brace) (says_no_sign any_name_in closing_brace refl) p.name ts h.0 h.1
 
-properties_exact : (ps : List TypeProperty) (ts s : List Lexeme) → PropertiesRest ps ts s → properties_of ts ≡ Some (ps, s)
+properties_exact : (ps : List TypeProperty) (ts s : List Lexeme) → ToBrace IsProperty ps ts s → properties_of ts ≡ Some (ps, s)
 unfolding properties_of
-properties_exact [] ts s h =
-    ap (empty_or_properties ts) (passes_after (is_sign closing_brace) ts s (subst (λ z. Passes (is_sign closing_brace) z s) (sym h.1) h.2))
-properties_exact (p ∷ ps) ts s h =
-    let list = h.1 in
-    let begins = begins_stops any_name_in (is_sign closing_brace) (name_no_sign closing_brace) p.name ts list.1.0 list.1.1 in
-    let read = listed_exact property_of IsProperty (is_word word.NOT) refl property_shorter property_exact (p ∷ ps) ts h.0 list
-    (passes_stops (is_sign closing_brace) (is_word word.NOT) (sign_apart closing_brace (is_word word.NOT) refl) h.0 s h.2)
-    (passes_stops (is_sign closing_brace) (is_sign comma) (sign_apart closing_brace (is_sign comma) refl) h.0 s h.2) in
-    ap (empty_or_properties ts) (stops_after (is_sign closing_brace) ts begins) ∙ rw (read, passes_after (is_sign closing_brace) h.0 s h.2) refl
+properties_exact = to_brace_exact property_of IsProperty property_shorter (is_word word.NOT) refl refl property_exact property_starts
 
-properties_shorter : (ps : List TypeProperty) (ts r : List Lexeme) → PropertiesRest ps ts r → length r < length ts
-properties_shorter [] ts r h = omega (arith, ap length h.1, passes_shorter (is_sign closing_brace) h.0 r h.2)
-properties_shorter (p ∷ ps) ts r h = omega (arith, list_shorter property_of IsProperty property_shorter (p ∷ ps) ts h.0 h.1, passes_shorter (is_sign closing_brace) h.0 r h.2)
-
-braces_back : (ps : List TypeProperty) (ts r : List Lexeme) → Led (is_sign opening_brace) PropertiesRest ps ts r → BearsProperties ps ts r
+braces_back : (ps : List TypeProperty) (ts r : List Lexeme) → Led (is_sign opening_brace) (ToBrace IsProperty) ps ts r → BearsProperties ps ts r
 braces_back ps ts r h = (h.0, h.1, h.2.0, h.2.1, h.2.2)
 
-braces_forth : (ps : List TypeProperty) (ts r : List Lexeme) → BearsProperties ps ts r → Led (is_sign opening_brace) PropertiesRest ps ts r
+braces_forth : (ps : List TypeProperty) (ts r : List Lexeme) → BearsProperties ps ts r → Led (is_sign opening_brace) (ToBrace IsProperty) ps ts r
 braces_forth ps ts r h = (h.0, h.1, (h.2, h.3, h.4))
 
 braced_sound : Sound (IsOptional BearsProperties) braced_properties_of
 unfolding braced_properties_of
-braced_sound = led_sound (is_sign opening_brace) properties_of BearsProperties PropertiesRest braces_back braces_forth properties_sound
+braced_sound = led_sound (is_sign opening_brace) properties_of BearsProperties (ToBrace IsProperty) braces_back braces_forth properties_sound
 
 braced_exact : (ps : Option (List TypeProperty)) (ts s : List Lexeme) → IsOptional BearsProperties ps ts s → Stops (is_sign opening_brace) s → braced_properties_of ts ≡ Some (ps, s)
 unfolding braced_properties_of
-braced_exact ps ts s h stop = led_exact (is_sign opening_brace) properties_of BearsProperties PropertiesRest braces_back braces_forth ps ts s (λ x a k. properties_exact x a s k) h stop
+braced_exact ps ts s h stop =
+    led_exact (is_sign opening_brace) properties_of BearsProperties (ToBrace IsProperty) braces_back braces_forth ps ts s (λ x a k. properties_exact x a s k) h stop
 
 bears_shorter : (ps : List TypeProperty) (ts r : List Lexeme) → BearsProperties ps ts r → length r < length ts
-bears_shorter ps ts r h = omega (arith, passes_shorter (is_sign opening_brace) ts h.0 h.1, properties_shorter ps h.0 r (h.2, h.3, h.4))
+bears_shorter ps ts r h =
+    omega (arith, passes_shorter (is_sign opening_brace) ts h.0 h.1, to_brace_shorter property_of IsProperty property_shorter ps h.0 r (h.2, h.3, h.4))
 
 -- Content
 

@@ -8,7 +8,7 @@
 --   Property = Any [TYPED or "::"] Kind [NOT NULL]
 --   Kind     = Scalar; LIST "<" Scalar [NOT NULL] ">"
 --   Scalar   = BOOL; BOOLEAN; INT; INTEGER; INT64; STRING
-use Rattle.std.specs.Prelude.{◌≡◌, ℕ, Bool, true, false, List, [], ◌∷◌}
+use Rattle.std.specs.Prelude.{◌≡◌, ℕ, Bool, true, false, List}
 use Rattle.gql_lexer.specs.declared.lexeme.Lexeme.{Lexeme}
 use Rattle.gql_lexer.specs.SymbolPlaces.{opening, closing, opening_bracket, closing_bracket, opening_brace, closing_brace, less, greater}
 use Rattle.gql_lexer.specs.WordPlaces as word
@@ -22,7 +22,7 @@ use Rattle.gql_ast.specs.declared.graph_type.TypeElement.TheVariants as element
 use Rattle.gql_ast.specs.declared.graph_type.TypeBody.{TypeBody}
 use Rattle.gql_front.specs.Tables.{Begins}
 use Rattle.gql_front.specs.Reading.{is_sign, is_word, name_in, any_name_in}
-use Rattle.gql_parts.specs.Parts.{Passes, MayPass, IsOptional, IsListOf}
+use Rattle.gql_parts.specs.Parts.{Passes, MayPass, IsOptional, IsListOf, MayList}
 use Rattle.gql_type.specs.LabelList.{BearsLabels}
 use Rattle.gql_type.specs.TypeWords.{scalar_word, is_typed, arrow_sign, closing_of}
 
@@ -46,8 +46,7 @@ IsProperty p ts r =
 
 -- [list(Property)]
 abbrev pub AreProperties : List TypeProperty → List Lexeme → List Lexeme → Type 0
-AreProperties [] ts r = ts ≡ r
-AreProperties (p ∷ ps) ts r = IsListOf IsProperty (p ∷ ps) ts r
+AreProperties = MayList IsProperty
 
 -- "{" [list(Property)] "}"
 abbrev pub BearsProperties : List TypeProperty → List Lexeme → List Lexeme → Type 0

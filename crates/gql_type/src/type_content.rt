@@ -8,8 +8,8 @@ use crate::label_list::optional_labels;
 use gql_ast::{ElementBody, TypeProperty};
 use gql_front::{NoFront, ParseResult, after_sign};
 use gql_lexer::Lexeme;
-use gql_lexer::symbols::{CLOSING_BRACE, OPENING_BRACE};
-use gql_parts::{Item, item_or_nothing, list};
+use gql_lexer::symbols::OPENING_BRACE;
+use gql_parts::{Item, item_or_nothing, list_to_brace};
 use gql_values3::Sequence;
 use std::alloc::Global;
 
@@ -25,12 +25,7 @@ impl Item<TypeParts> for Sequence<TypeProperty> {
 
     #[tactic(auto, unfolding(crate::specs::Machinery::TypeReaders::properties_of))]
     fn read<'a>(alloc: Global, rest: &'a [Lexeme]) -> ParseResult<'a, Sequence<TypeProperty>> {
-        if let Ok(behind) = after_sign(CLOSING_BRACE, rest) {
-            return Ok((Sequence::new(alloc), behind));
-        }
-        let (properties, rest) = list::<TypeParts, TypeProperty>(alloc, rest)?;
-        let rest = after_sign(CLOSING_BRACE, rest)?;
-        Ok((properties, rest))
+        list_to_brace::<TypeParts, TypeProperty>(alloc, rest)
     }
 }
 

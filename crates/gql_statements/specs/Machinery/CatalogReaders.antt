@@ -1,5 +1,5 @@
 -- CatalogReaders: reading statements about the graphs and graph types.
-use Rattle.std.specs.Prelude.{ℕ, Bool, true, false, List, Option, Some, None}
+use Rattle.std.specs.Prelude.{ℕ, Bool, List, Option, Some, None}
 use Rattle.gql_lexer.specs.declared.lexeme.Lexeme.{Lexeme}
 use Rattle.gql_ast.specs.declared.statement.CatalogStatement.{CatalogStatement}
 use Rattle.gql_ast.specs.declared.statement.CatalogStatement.TheVariants as catalog
@@ -9,13 +9,8 @@ use Rattle.gql_lexer.specs.WordPlaces.{ANY, AS, EXISTS, IF, NOT, TYPE}
 use Rattle.gql_front.specs.Reading.{◌>>=◌, Reader, is_word, name_in, after, op_at}
 use Rattle.gql_parts.specs.Machinery.PartReaders.{past}
 use Rattle.gql_type.specs.TypeWords.{is_typed}
-use Rattle.gql_type.specs.Machinery.TypeReaders.{type_body_of}
+use Rattle.gql_type.specs.Machinery.TypeReaders.{are_said, type_body_of}
 use Rattle.gql_statements.specs.Machinery.GraphReaders.{after_graph, past_graph}
-
--- whether words stand at the front, and what is behind them
-abbrev pub are_said : List Lexeme → Option (List Lexeme) → Bool × List Lexeme
-are_said ts None = (false, ts)
-are_said ts (Some r) = (true, r)
 
 -- behind IF NOT EXISTS
 unfoldable pub after_if_not_exists : List Lexeme → Option (List Lexeme)

@@ -1,8 +1,17 @@
 -- What a store has to be told so that it holds other records: what is new or differs, and which keys are gone.
-use Rattle.std.specs.Prelude.{ℕ, Bool, false, not, List, map, filter, is_some, Option, Some, None}
+use Rattle.std.specs.Prelude.{ℕ, Bool, false, not, ◌&&◌, List, map, filter, is_some, Option, Some, None}
+use Rattle.std.specs.Cmp.Lexicographic.{pointwise}
 use Rattle.gql_values3.specs.Texts.{same_text}
 use Rattle.gql_ports.specs.Held.{value_at}
 use Rattle.gql_ports.specs.declared.stored.Record.{Record}
+
+-- the same key and the same value
+abbrev pub same_record : Record → Record → Bool
+same_record a b = same_text a.key b.key && same_text a.value b.value
+
+-- the same records in the same order
+abbrev pub same_records : List Record → List Record → Bool
+same_records some others = pointwise same_record some others
 
 abbrev pub is_value : List ℕ → Option (List ℕ) → Bool
 is_value value None = false

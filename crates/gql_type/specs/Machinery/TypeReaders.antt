@@ -1,5 +1,5 @@
 -- Reading the body of a graph type.
-use Rattle.std.specs.Prelude.{ℕ, Bool, true, false, not, ◌&&◌, if◌then◌else◌, List, [], Option, Some, None, is_some}
+use Rattle.std.specs.Prelude.{ℕ, Bool, true, false, not, ◌&&◌, if◌then◌else◌, List, Option, Some, None, is_some}
 use Rattle.gql_lexer.specs.declared.lexeme.Lexeme.{Lexeme}
 use Rattle.gql_lexer.specs.SymbolPlaces.{opening, closing, opening_bracket, closing_bracket, opening_brace, closing_brace, less, greater}
 use Rattle.gql_lexer.specs.WordPlaces as word
@@ -13,7 +13,7 @@ use Rattle.gql_ast.specs.declared.graph_type.TypeElement.{TypeElement}
 use Rattle.gql_ast.specs.declared.graph_type.TypeElement.TheVariants as element
 use Rattle.gql_ast.specs.declared.graph_type.TypeBody.{TypeBody}
 use Rattle.gql_front.specs.Reading.{◌>>=◌, Reader, is_sign, is_word, name_in, any_name_in, after, op_at, opted}
-use Rattle.gql_parts.specs.Machinery.PartReaders.{led, listed, past}
+use Rattle.gql_parts.specs.Machinery.PartReaders.{led, listed, listed_to_brace, past}
 use Rattle.gql_parts.specs.Machinery.FillerReaders.{variable_of}
 use Rattle.gql_type.specs.Machinery.LabelListReaders.{optional_labels_of}
 use Rattle.gql_type.specs.TypeWords.{scalar_word, is_typed, arrow_sign, closing_of}
@@ -23,13 +23,14 @@ use Rattle.gql_type.specs.declared.segment.TypeSegment.{TypeSegment}
 abbrev pub not_null_of : List Lexeme → Option (List Lexeme)
 not_null_of ts = after (is_word word.NOT) ts >>= λ a. after (is_word word.NULL) a
 
-abbrev pub required_or : List Lexeme → Option (List Lexeme) → Bool × List Lexeme
-required_or ts None = (false, ts)
-required_or ts (Some r) = (true, r)
+-- whether words stand at the front, and what is behind them
+abbrev pub are_said : List Lexeme → Option (List Lexeme) → Bool × List Lexeme
+are_said ts None = (false, ts)
+are_said ts (Some r) = (true, r)
 
 -- [NOT NULL]
 unfoldable pub required_of : List Lexeme → Bool × List Lexeme
-required_of ts = required_or ts (not_null_of ts)
+required_of ts = are_said ts (not_null_of ts)
 
 unfoldable pub list_kind_of : Reader PropKind
 list_kind_of ts = do
@@ -53,15 +54,8 @@ property_of ts = do
   Some (record { name = x.0; kind = k.0; required = (required_of k.1).0 }, (required_of k.1).1)
 
 -- [list(Property)] "}"
-abbrev pub empty_or_properties : List Lexeme → Option (List Lexeme) → Option (List TypeProperty × List Lexeme)
-empty_or_properties ts (Some r) = Some ([], r)
-empty_or_properties ts None = do
-  ps ← listed property_of ts
-  r ← after (is_sign closing_brace) ps.1
-  Some (ps.0, r)
-
 unfoldable pub properties_of : Reader (List TypeProperty)
-properties_of ts = empty_or_properties ts (after (is_sign closing_brace) ts)
+properties_of ts = listed_to_brace property_of ts
 
 -- ["{" [list(Property)] "}"]
 unfoldable pub braced_properties_of : Reader (Option (List TypeProperty))

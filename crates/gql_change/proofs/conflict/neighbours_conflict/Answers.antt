@@ -3,7 +3,7 @@ use Rattle.std.proofs.lemmas.List.{length-map}
 use Rattle.gql_ast.specs.declared.refusal.Refusal.{Refusal}
 use Rattle.std.specs.Option.{option_or}
 use Rattle.gql_change.specs.Conflicts.{neighbours_conflict, conflict_of}
-use Rattle.gql_change.proofs.ConflictLemmas.{seen, seen_at, neighbours_step, neighbours_end}
+use Rattle.gql_change.proofs.ConflictLemmas.{seen, seen_step, neighbours_end}
 use Rattle.gql_change.proofs.conflict.neighbours_conflict.Goals as goal
 
 pub returns-in-Some : goal.returns-in-Some
@@ -12,10 +12,8 @@ returns-in-Some c =
     let i = c.loop-i.i in
     let a = c.index-sorted-i.result in
     let b = c.index-sorted-i-in-loop-i.result in
-    let here : i < length xs = omega arith in
     let next : i + 1 < length xs = omega arith in
-    let long : i + 1 < length (seen xs) = omega (arith, length-map xs (λ r. r.now)) in
-    let step = neighbours_step (seen xs) i a.now b.now long (seen_at xs i a here c.index-sorted-i.is) (seen_at xs (i + 1) b next c.index-sorted-i-in-loop-i.is) in
+    let step = seen_step xs i a b next c.index-sorted-i.is c.index-sorted-i-in-loop-i.is in
     let told : Some c.in-Some.refusal ≡ conflict_of a.now b.now = sym c.in-Some.is ∙ c.in_ok-refusal.ensures in
     ap (λ (o : Option Refusal). option_or o (neighbours_conflict (drop (i + 1) (seen xs)))) told ∙ sym step ∙ c.loop-i.invariant
 
@@ -25,10 +23,8 @@ loop-i-preserved c =
     let i = c.loop-i.i in
     let a = c.index-sorted-i.result in
     let b = c.index-sorted-i-in-loop-i.result in
-    let here : i < length xs = omega arith in
     let next : i + 1 < length xs = omega arith in
-    let long : i + 1 < length (seen xs) = omega (arith, length-map xs (λ r. r.now)) in
-    let step = neighbours_step (seen xs) i a.now b.now long (seen_at xs i a here c.index-sorted-i.is) (seen_at xs (i + 1) b next c.index-sorted-i-in-loop-i.is) in
+    let step = seen_step xs i a b next c.index-sorted-i.is c.index-sorted-i-in-loop-i.is in
     let told : None ≡ conflict_of a.now b.now = sym c.in-None.is ∙ c.in_ok-refusal.ensures in
     ap (λ (o : Option Refusal). option_or o (neighbours_conflict (drop (i + 1) (seen xs)))) told ∙ sym step ∙ c.loop-i.invariant
 

@@ -1,4 +1,4 @@
-use Rattle.std.proofs.Common.{Bool, rules}
+use Rattle.std.proofs.Common.{rules}
 use Rattle.std.specs.Cmp.{IsStrictWeakOrder}
 use Rattle.std.proofs.lemmas.Cmp.{nat_list_cmp_total}
 use Rattle.std.proofs.lemmas.Fn.{always_returns_same}

@@ -1,7 +1,14 @@
 -- Nothing is asked behind the query for all records.
 use Rattle.std.proofs.Common.{refl}
+use Rattle.std.proofs.lemmas.List.Sorted.{IsPermutation-refl}
 use Rattle.gql_keep_sql.specs.declared.place.Place.TheVariants.{File}
 use Rattle.gql_keep_sql.proofs.place.open_file.Goals as goal
 
-pub returns-clause-selected : goal.returns-clause-selected
-returns-clause-selected c = (File c.in_ok-own.own c.establish.new.conn, (refl, c.in_ok-rows.ensures))
+pub returns-clause-all : goal.returns-clause-all
+returns-clause-all c =
+    let told = c.in_ok-records.ensures in record {
+      rows = told.0;
+      before = File c.in_ok-own.own c.establish.new.conn;
+      selected = (refl, λ clean. (told.0, told.2 clean, IsPermutation-refl told.0));
+      are = told.1;
+    }

@@ -2,7 +2,8 @@ use Rattle.std.proofs.Common.{◌≡◌, ◌<◌, List, length, refl, sym, subst
 use Rattle.gql_ports.specs.Held.{keys_ascend}
 use Rattle.gql_ports.specs.declared.stored.Record.{Record}
 use Rattle.gql_rowcode.specs.StandFor.{StandFor}
-use Rattle.gql_rowcode.proofs.WritingLemmas.{sound_catalog, all_ascend, some_records, stand_for, was_tested}
+use Rattle.gql_rowcode.proofs.CatalogLemmas.{sound_catalog}
+use Rattle.gql_rowcode.proofs.WritingLemmas.{all_ascend, some_records, stand_for, was_tested}
 use Rattle.gql_rowcode.proofs.writing.records.Goals as goal
 
 pub unwrap-requires : goal.unwrap-requires

@@ -12,7 +12,7 @@ returns-in-None c =
     let nothing : None ≡ first_misfit g t = sym c.in-None.is ∙ c.first_unmatched.ensures ∙ first_is_found g t c.count_nodes-count.ensures.graph c.requires in
     record {
       first = nothing;
-      conforms = ap (λ (o : Option Elem). is_some o) nothing ∙ found_conforms g t c.count_nodes-count.ensures.graph;
+      conforms = ap (λ (o : Option Elem). is_some o) nothing ∙ found_conforms g t;
       least = tt;
     }
 
@@ -23,6 +23,6 @@ returns-in-Some c =
     let one : Some c.in-Some.elem ≡ first_misfit g t = sym c.in-Some.is ∙ c.first_unmatched.ensures ∙ first_is_found g t c.count_nodes-count.ensures.graph c.requires in
     record {
       first = one;
-      conforms = ap (λ (o : Option Elem). is_some o) one ∙ found_conforms g t c.count_nodes-count.ensures.graph;
+      conforms = ap (λ (o : Option Elem). is_some o) one ∙ found_conforms g t;
       least = found_is_least g t c.count_nodes-count.ensures.graph c.in-Some.elem (sym one);
     }

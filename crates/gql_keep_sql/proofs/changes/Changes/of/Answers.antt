@@ -10,7 +10,7 @@ returns-clause-put c =
     let sorted = c.sort_by.new.self.items in
     let puts = map put_of c.args.puts.now in
     let drops = map drop_of c.args.drops.now in
-    let made = c.in_ok-push_drops.ensures ∙ ap (λ (xs : List Change). xs ++ drops) (c.in_ok-push_puts.ensures ∙ ap (λ (xs : List Change). xs ++ puts) c.new-items.ensures.items) in
+    let made = c.in_ok-push_drops.ensures ∙ ap (λ (xs : List Change). xs ++ drops) (c.in_ok-push_puts.ensures ∙ ap (λ (xs : List Change). xs ++ puts) c.in_ok-items.ensures.items) in
     let same = subst (λ xs. IsPermutation xs sorted) made c.sort_by.ensures.permutation in
     let_through _ (changes_ascend sorted) sorted c.ascending.result c.ascending.ensures (put_by c.args.puts.now c.args.drops.now sorted same)
 
@@ -19,6 +19,6 @@ returns-clause-changed c =
     let sorted = c.sort_by.new.self.items in
     let puts = map put_of c.args.puts.now in
     let drops = map drop_of c.args.drops.now in
-    let made = c.in_ok-push_drops.ensures ∙ ap (λ (xs : List Change). xs ++ drops) (c.in_ok-push_puts.ensures ∙ ap (λ (xs : List Change). xs ++ puts) c.new-items.ensures.items) in
+    let made = c.in_ok-push_drops.ensures ∙ ap (λ (xs : List Change). xs ++ drops) (c.in_ok-push_puts.ensures ∙ ap (λ (xs : List Change). xs ++ puts) c.in_ok-items.ensures.items) in
     let same = subst (λ xs. IsPermutation xs sorted) made c.sort_by.ensures.permutation in
     let_through _ (changes_ascend sorted) sorted c.ascending.result c.ascending.ensures (changed_by c.args.puts.now c.args.drops.now sorted same)
