@@ -21,7 +21,7 @@ pub fn label_set(alloc: Global, labels: &Option<Names>) -> Result<Names, OutOfMe
 fn set_of(alloc: Global, labels: &[Text]) -> Result<Names, OutOfMemory>
     ensures { IfOk result (λ set. set ≡ label_set labels.now) }
 {
-    let mut set = Vec::new(alloc);
+    let mut set = Vec::with_capacity(alloc, labels.len())?;
     for i in (0..labels.len()).rev() {
         put_label(&mut set, labels[i].try_copy(alloc)?)?;
     }
@@ -33,7 +33,7 @@ pub fn property_set(alloc: Global, given: Properties) -> Result<Properties, OutO
     ensures { IfOk result (λ set. set ≡ property_set given) }
 {
     let mut left = given.into_vec();
-    let mut set = Vec::new(alloc);
+    let mut set = Vec::with_capacity(alloc, left.len())?;
     while let Some((name, value)) = left.pop() {
         with_property(&mut set, name, value)?;
     }

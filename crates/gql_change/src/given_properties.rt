@@ -1,6 +1,6 @@
 //! The properties that a row gives a new element.
 
-ghost use Rattle.std.specs.Prelude.{◌≡◌};
+ghost use Rattle.std.specs.Prelude.{◌≡◌, [], IfOk};
 ghost use Rattle.gql_values3.specs.Meaning.{datum_of};
 ghost use Rattle.gql_ast.specs.Faults.{each};
 ghost use Rattle.gql_eval.specs.Gives.{Gives};
@@ -12,7 +12,7 @@ use crate::prepared_property::{PreparedProperty, value_in};
 use crate::storing::is_storable;
 use gql_ast::DataFault;
 use gql_eval::EvalError;
-use gql_values3::{Properties, Row, Sequence, Text, Value, View};
+use gql_values3::{OutOfMemory, Properties, Row, Sequence, Text, Value, View};
 use std::alloc::Global;
 
 /// The properties with their values in a row, in the order of the text; NULL is among them.
@@ -24,12 +24,19 @@ pub fn given_properties<V: View>(
 ) -> Result<Properties, EvalError>
     ensures { Gives (λ ps. ps) result (each (λ p. property_in p (V.graph view.now) row.now) properties.now) }
 {
-    let mut given = Sequence::new(alloc);
+    let mut given = none_given(alloc, properties.len())?;
     for i in 0..properties.len() {
         let pair = property_in(alloc, view, row, &properties[i])?;
         given.push(pair)?;
     }
     Ok(Properties::from_vec(given.into_vec()))
+}
+
+/// None, with room for so many.
+fn none_given(alloc: Global, count: usize) -> Result<Sequence<(Text, Value)>, OutOfMemory>
+    ensures { IfOk result (λ given. given ≡ []) }
+{
+    Ok(Sequence::from_vec(Vec::with_capacity(alloc, count)?))
 }
 
 fn property_in<V: View>(

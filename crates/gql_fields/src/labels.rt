@@ -6,7 +6,8 @@ ghost use Rattle.gql_fields.specs.Machinery.Reading.{Gives, items_at, text_at, l
 
 use crate::bytes::{text_of, u64_at};
 use crate::misread::Misread;
-use gql_values3::{Names, Sequence, Text, keys_ascend};
+use crate::room::with_room;
+use gql_values3::{Names, Text, keys_ascend};
 use std::alloc::Global;
 
 /// The set of labels at the front, behind their count, and the bytes after it.
@@ -26,7 +27,7 @@ pub fn label_set_of(alloc: Global, bytes: &[u8]) -> Result<(Names, &[u8]), Misre
 fn texts_of(alloc: Global, count: u64, bytes: &[u8]) -> Result<(Names, &[u8]), Misread>
     ensures { Gives (λ x. (x.0, x.1.now)) result (items_at text_at count bytes.now) }
 {
-    let mut texts = Sequence::new(alloc);
+    let mut texts = with_room(alloc, count)?;
     let mut rest = bytes;
     for _ in 0..count {
         let (text, after) = text_of(alloc, rest)?;

@@ -10,6 +10,7 @@ mod labels;
 mod misread;
 mod properties;
 mod property_writing;
+mod room;
 mod value_writing;
 mod values;
 mod writing;

@@ -6,6 +6,7 @@ ghost use Rattle.gql_fields.specs.Machinery.Reading.{Gives, property_at, propert
 
 use crate::bytes::{text_of, u64_at};
 use crate::misread::Misread;
+use crate::room::with_room;
 use crate::values::value_of;
 use gql_values3::{Properties, Sequence, Text, Value, keys_ascend};
 use std::alloc::Global;
@@ -32,7 +33,7 @@ fn pairs_of(
 ) -> Result<(Sequence<(Text, Value)>, &[u8]), Misread>
     ensures { Gives (λ x. (map pair_of x.0, x.1.now)) result (items_at property_at count bytes.now) }
 {
-    let mut pairs = Sequence::new(alloc);
+    let mut pairs = with_room(alloc, count)?;
     let mut rest = bytes;
     for _ in 0..count {
         let (pair, after) = property_of(alloc, rest)?;

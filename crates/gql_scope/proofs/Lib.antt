@@ -2,6 +2,7 @@ pub mod ProjectionLemmas
 pub mod LetLemmas
 pub mod SpotLemmas
 pub mod MapLemmas
+pub mod FewItems
 pub mod CodeLemmas
 pub mod WalkLemmas
 pub mod JoinLemmas

@@ -4,6 +4,7 @@ ghost use Rattle.std.specs.Prelude.{◌≡◌};
 ghost use Rattle.std.specs.List.{flat_map};
 ghost use Rattle.gql_ast.specs.InsertColumns.{step_spots, path_spots, insert_spots};
 ghost use Rattle.gql_expr_checks.specs.Gives.{Gives};
+ghost use Rattle.gql_scope.specs.declared.insert_maps.MapQuestion.TheVariants.{Repeated};
 ghost use Rattle.gql_scope.specs.Machinery.Questions.{map_refusal, first_in_maps};
 
 use crate::misused_clauses::check_map as check_misuse;
@@ -30,9 +31,20 @@ fn ask(alloc: Global, question: &MapQuestion, items: &[MapItem]) -> Result<(), S
 {
     match question {
         MapQuestion::Misuse(scope) => check_misuse(scope, items),
-        MapQuestion::Repeated => check_properties(alloc, items),
+        MapQuestion::Repeated => check_repeated(alloc, items),
         MapQuestion::Parameter(params) => check_parameters(alloc, params, items),
     }
+}
+
+/// Whether a map names a property twice. One of fewer than two items doesn't, and takes no memory.
+#[tactic(auto, using(crate::proofs::FewItems::none_twice))]
+fn check_repeated(alloc: Global, items: &[MapItem]) -> Result<(), ScopeFault>
+    ensures { Gives result (map_refusal Repeated (Some items.now)) }
+{
+    if items.len() < 2 {
+        return Ok(());
+    }
+    check_properties(alloc, items)
 }
 
 /// Checks a map that may be there.

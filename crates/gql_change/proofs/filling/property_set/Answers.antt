@@ -4,7 +4,7 @@ use Rattle.gql_change.proofs.FillingLemmas.{one_put, put_all}
 use Rattle.gql_change.proofs.filling.property_set.Goals as goal
 
 pub loop-name-init : goal.loop-name-init
-loop-name-init c = rw (c.new-set.ensures.items, c.into_vec-left.ensures) (put_all c.args.given)
+loop-name-init c = rw (c.in_ok-set.ensures.items, c.into_vec-left.ensures) (put_all c.args.given)
 
 pub loop-name-preserved : goal.loop-name-preserved
 loop-name-preserved c =

@@ -5,7 +5,7 @@ use Rattle.gql_fields.proofs.labels.texts_of.Goals as goal
 
 pub returns-in_err-text : goal.returns-in_err-text
 returns-in_err-text c =
-    let p = err_from_is_err_and c.from_residual.result c.from_residual.ensures.1 in
+    let p = err_from_is_err_and c.from_residual-in_err-text.result c.from_residual-in_err-text.ensures.1 in
     rw (p.1, p.2) (ends c.in_err-text.field-0.0 text_at c.loop.texts c.args.count c.loop.counter c.loop.rest.now (items_at text_at c.args.count c.args.bytes.now) c.loop-test.true c.in_err-text.ensures c.loop.invariant)
 
 pub loop-preserved : goal.loop-preserved

@@ -7,7 +7,7 @@ use Rattle.gql_fields.proofs.properties.pairs_of.Goals as goal
 
 pub returns-in_err-pair : goal.returns-in_err-pair
 returns-in_err-pair c =
-    let p = err_from_is_err_and c.from_residual.result c.from_residual.ensures.1 in
+    let p = err_from_is_err_and c.from_residual-in_err-pair.result c.from_residual-in_err-pair.ensures.1 in
     rw (p.1, p.2) (ends c.in_err-pair.field-0.0 property_at (map pair_of c.loop.pairs) c.args.count c.loop.counter c.loop.rest.now (items_at property_at c.args.count c.args.bytes.now) c.loop-test.true c.in_err-pair.ensures c.loop.invariant)
 
 pub loop-preserved : goal.loop-preserved
