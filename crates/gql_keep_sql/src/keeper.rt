@@ -73,6 +73,7 @@ impl<'a> Keeper for SqlKeeper<'a> {
         ensures under { OnOk result (IsUnder (option_copied name.entry) self.new.reader.place) }
         ensures listed { OnOk result (AreAllKeys self.new.keys self.new.reader.place ⊎ ((self.new.keys ≡ self.old.keys) × (self.new.reader.place ≡ self.old.reader.place))) }
         ensures kept { OnErr result ((self.new.keys ≡ self.old.keys) × (self.new.reader.place ≡ self.old.reader.place)) }
+        ensures own { IsUnder (option_copied name.entry) self.old.reader.place → (result ≡ Ok tt) × (self.new ≡ self.old) }
     {
         if self.reader.is_open_as(name) {
             return Ok(());

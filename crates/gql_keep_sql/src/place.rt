@@ -43,7 +43,8 @@ impl Place {
 
     /// Whether it is open under that name, or without one.
     pub fn is_open_as(&self, name: Option<&str>) -> bool
-        ensures { IsTrue result → IsUnder (option_copied name.entry) self.now }
+        ensures own { IsTrue result → IsUnder (option_copied name.entry) self.now }
+        ensures other { IsUnder (option_copied name.entry) self.now → IsTrue result }
     {
         match (self, name) {
             (Place::Memory(_), None) => true,

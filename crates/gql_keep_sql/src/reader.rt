@@ -59,7 +59,8 @@ impl Reader {
 
     /// Whether it is open under that name, or without one.
     pub fn is_open_as(&self, name: Option<&str>) -> bool
-        ensures { IsTrue result → IsUnder (option_copied name.entry) self.now.place }
+        ensures own { IsTrue result → IsUnder (option_copied name.entry) self.now.place }
+        ensures other { IsUnder (option_copied name.entry) self.now.place → IsTrue result }
     {
         self.place.is_open_as(name)
     }
