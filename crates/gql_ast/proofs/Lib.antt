@@ -4,6 +4,7 @@ pub mod LabelLemmas
 pub mod LastClause
 pub mod MeaningLemmas
 pub mod NumberLemmas
+pub mod PartLemmas
 pub mod PatternLemmas
 mod EvaluationExamples
 mod NameExamples

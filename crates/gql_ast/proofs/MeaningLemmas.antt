@@ -10,11 +10,11 @@ use Rattle.gql_ast.specs.Meaning.{tree_of, expr_of}
 use Rattle.gql_ast.specs.declared.expr.Expr.{Expr}
 use Rattle.gql_ast.specs.declared.expr.Expr.TheVariants as expr
 
-items_of-data_of : (ds : List Datum) → items_of (data_of ds) ≡ ds
+pub items_of-data_of : (ds : List Datum) → items_of (data_of ds) ≡ ds
 items_of-data_of [] = refl
 items_of-data_of (d ∷ ds) = ap (λ xs. d ∷ xs) (items_of-data_of ds)
 
-as_value-datum_of : (v : Value) → as_value (datum_of v) ≡ v
+pub as_value-datum_of : (v : Value) → as_value (datum_of v) ≡ v
 as_value-datum_of value.Null = refl
 as_value-datum_of (value.Bool b) = refl
 as_value-datum_of (value.Int z) = refl

@@ -1,11 +1,11 @@
 -- What is asked of elements: properties, labels, direction and ends. NULL comes first, then a wrong kind, then a
 -- deleted element, each rule asked of both operands, where there are two, before the next.
-use Rattle.std.specs.Prelude.{ℕ, Bool, true, false, not, ◌&&◌, ◌||◌, ◌==◌, List, [], ◌∷◌, is_some, Option, Some, None, Result, Ok, Err}
+use Rattle.std.specs.Prelude.{ℕ, Bool, true, false, not, ◌&&◌, ◌||◌, ◌==◌, List, [], ◌∷◌, Option, Some, None, Result, Ok, Err}
 use Rattle.std.specs.List.{list_any}
 use Rattle.gql_values3.specs.Datum.{Datum, null, or_null, node, edge}
 use Rattle.gql_values3.specs.Texts.{same_text}
 use Rattle.gql_values3.specs.PropertyGraph.{PropertyGraph}
-use Rattle.gql_values3.specs.Lookup.{node_of, edge_of, ends_of, labels_of, property_of}
+use Rattle.gql_values3.specs.Lookup.{has_element, ends_of, labels_of, property_of}
 use Rattle.gql_values3.specs.declared.element.Elem.{Elem}
 use Rattle.gql_values3.specs.declared.element.Elem.TheVariants as elem
 use Rattle.gql_values3.specs.declared.element.Ends.{Ends}
@@ -17,14 +17,9 @@ use Rattle.gql_ast.specs.declared.fault.DataFault.{DataFault}
 use Rattle.gql_ast.specs.declared.fault.DataFault.TheVariants as fault
 use Rattle.gql_ast.specs.Faults.{◌>>=◌}
 
--- the element is in the graph; one that isn't was deleted
-abbrev pub is_there : PropertyGraph → Elem → Bool
-is_there g (elem.Node n) = is_some (node_of g n)
-is_there g (elem.Edge e) = is_some (edge_of g e)
-
--- the element, or the fault of asking for one that was deleted
+-- the element, or the fault of asking for one that isn't in the graph, so was deleted
 abbrev pub undeleted : PropertyGraph → Elem → Result Elem DataFault
-undeleted g e = alive (is_there g e)
+undeleted g e = alive (has_element g e)
   where
     alive : Bool → Result Elem DataFault
     alive true = Ok e

@@ -2,7 +2,7 @@
 
 use anyhow::{Result, bail};
 use gql_ast::{Expr, Operator, Step, Steps, Sub};
-use gql_eval::{EvalError, Header, Prepared};
+use gql_eval::{EvalError, Prepared};
 use gql_graph::{Graph, NodeRecords};
 use gql_values3::{
     ColumnKind, Columns, Comparison, List, Names, NodeId, NodeRecord, OutOfMemory, Params,
@@ -57,7 +57,7 @@ fn measure(
     ) else {
         bail!("the nodes are no graph");
     };
-    let columns = Header::Listed(setting.columns.as_slice());
+    let columns = setting.columns.as_slice();
     let Ok(prepared) = Prepared::new(alloc, columns, &setting.params, &setting.condition) else {
         bail!("no memory for the condition");
     };

@@ -1,16 +1,13 @@
 -- Lists of changes: whether they can act, where they lead and what room they take, part by part; and the states between
 -- the first of them and the last.
-use Rattle.std.proofs.Common.{◌≡◌, Bool, true, false, ◌&&◌, List, [], ◌∷◌, ◌++◌, refl, sym, ap, ◌∙◌, subst, reverse}
+use Rattle.std.proofs.Common.{◌≡◌, Bool, true, ◌&&◌, List, [], ◌∷◌, ◌++◌, refl, sym, ap, ◌∙◌, subst, reverse}
+use Rattle.std.proofs.Math.Bool.{and_assoc}
 use Rattle.std.proofs.lemmas.Bool.{and_from, and_parts}
 use Rattle.std.proofs.lemmas.List.{reverse-append}
 use Rattle.std.specs.Prelude.{IsTrue}
 use Rattle.gql_values3.specs.PropertyGraph.{PropertyGraph}
 use Rattle.gql_graph.specs.Edits.{changed, can_act, can_act_each, changed_by_each, holds_along}
 use Rattle.gql_graph.specs.declared.change.Change.{Change}
-
-and_assoc : (a b c : Bool) → (a && (b && c)) ≡ ((a && b) && c)
-and_assoc true b c = refl
-and_assoc false b c = refl
 
 -- a list behind another
 pub changed_by_each-append : (cs ds : List Change) (g : PropertyGraph) → changed_by_each (cs ++ ds) g ≡ changed_by_each ds (changed_by_each cs g)
@@ -20,7 +17,7 @@ changed_by_each-append (c ∷ cs) ds g = changed_by_each-append cs ds (changed c
 pub can_act_each-append : (cs ds : List Change) (g : PropertyGraph) → can_act_each (cs ++ ds) g ≡ (can_act_each cs g && can_act_each ds (changed_by_each cs g))
 can_act_each-append [] ds g = refl
 can_act_each-append (c ∷ cs) ds g =
-    ap (λ b. can_act c g && b) (can_act_each-append cs ds (changed c g)) ∙ and_assoc (can_act c g) (can_act_each cs (changed c g)) (can_act_each ds (changed_by_each cs (changed c g)))
+    ap (λ b. can_act c g && b) (can_act_each-append cs ds (changed c g)) ∙ sym (and_assoc (can_act c g) (can_act_each cs (changed c g)) (can_act_each ds (changed_by_each cs (changed c g))))
 
 module _ (room : PropertyGraph → Bool) where
   -- there is room for the first graph

@@ -13,7 +13,7 @@ use Rattle.gql_values3.specs.declared.element.Elem.{Elem}
 use Rattle.gql_values3.specs.declared.element.Elem.TheVariants as elem
 use Rattle.gql_values3.specs.declared.records.NodeRecord.{NodeRecord}
 use Rattle.gql_values3.specs.declared.records.EdgeRecord.{EdgeRecord}
-use Rattle.gql_ast.specs.ElementTests.{is_there}
+use Rattle.gql_values3.specs.Lookup.{has_element}
 use Rattle.gql_change.specs.Storing.{PropertyList}
 use Rattle.gql_change.specs.Conflicts.{same_elem}
 use Rattle.gql_change.specs.AssignedGraph.{acts_on, properties_after, labels_after, node_after, edge_after, assigned}
@@ -106,7 +106,7 @@ acts_on-others e t (a ∷ xs) h =
 pub acts_fit : (g : PropertyGraph) (e : Elem) (xs : List Assignment) → all_fit g xs ≡ true → list_all act_fits (acts_on e xs) ≡ true
 acts_fit g e [] h = refl
 acts_fit g e (a ∷ xs) h =
-    by (same_elem a.target e) a.act (acts_on e xs) ((and_parts (is_there g a.target) (act_fits a.act) ((and_parts (fits g a) (all_fit g xs) h).0)).1)
+    by (same_elem a.target e) a.act (acts_on e xs) ((and_parts (has_element g a.target) (act_fits a.act) ((and_parts (fits g a) (all_fit g xs) h).0)).1)
     (acts_fit g e xs ((and_parts (fits g a) (all_fit g xs) h).1)) (first_act (same_elem a.target e) a xs e refl)
   where
     by : (b : Bool) (x : Act) (rest : List Act) → act_fits x ≡ true → list_all act_fits rest ≡ true → acts_on e (a ∷ xs) ≡ cond b (x ∷ rest) rest

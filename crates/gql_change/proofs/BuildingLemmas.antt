@@ -14,7 +14,7 @@ use Rattle.gql_values3.specs.declared.element.Elem.{Elem}
 use Rattle.gql_values3.specs.declared.element.Elem.TheVariants as elem
 use Rattle.gql_values3.specs.declared.records.NodeRecord.{NodeRecord}
 use Rattle.gql_values3.specs.declared.records.EdgeRecord.{EdgeRecord}
-use Rattle.gql_ast.specs.ElementTests.{is_there}
+use Rattle.gql_values3.specs.Lookup.{has_element}
 use Rattle.gql_change.specs.Conflicts.{elem_cmp, same_elem}
 use Rattle.gql_change.specs.AssignedGraph.{acts_on, node_after, edge_after, assigned}
 use Rattle.gql_change.specs.Plans.{LeadTo}
@@ -131,7 +131,7 @@ module _ (g : PropertyGraph) (one : is_graph g ≡ true) where
   pub record AtHand (xs : List Assignment) (b : Built) : Type 0 where
     leads : LeadTo g b.changes (assigned (others b.target xs) g)
     acts : b.acts ≡ acts_on b.target xs
-    there : is_there g b.target ≡ true
+    there : has_element g b.target ≡ true
     fit : all_fit g xs ≡ true
     none_above : NoneAbove b.target xs
 
@@ -176,7 +176,7 @@ module _ (g : PropertyGraph) (one : is_graph g ≡ true) where
         leads = subst (λ (l : List Assignment). LeadTo g (b.changes ++ swaps g b.target b.acts) (assigned l g)) (sym left) (ended xs b h);
         acts = sym (acts_on-append a.target xs (a ∷ []) ∙ ap (λ (l : List Act). l ++ acts_on a.target (a ∷ [])) (acts_on-none a.target xs none)
             ∙ first_act true a [] a.target (same_elem_itself a.target));
-        there = (and_parts (is_there g a.target) (act_fits a.act) k).0;
+        there = (and_parts (has_element g a.target) (act_fits a.act) k).0;
         fit = all_fit-push xs a h.fit k;
         none_above = all_push (λ (y : Assignment). target_before (some_act a.target) y ≡ false) xs a
             (all_weaker (λ (y : Assignment). target_before (some_act b.target) y ≡ false) (λ (y : Assignment). target_before (some_act a.target) y ≡ false) xs
@@ -209,7 +209,7 @@ module _ (g : PropertyGraph) (one : is_graph g ≡ true) where
       let start : AtHand [] (built_from a.target) = record {
         leads = nothing_leads g;
         acts = refl;
-        there = (and_parts (is_there g a.target) (act_fits a.act) ((and_parts (fits g a) (all_fit g more) k).0)).0;
+        there = (and_parts (has_element g a.target) (act_fits a.act) ((and_parts (fits g a) (all_fit g more) k).0)).0;
         fit = refl;
         none_above = tt;
       } in

@@ -26,6 +26,7 @@ use Rattle.gql_change.specs.Deletion.{is_named, end_is_named, edge_goes}
 use Rattle.gql_change.specs.Machinery.DeletionSteps.{has_number, node_there, edge_there, touching_numbers, deleted_nodes, deleted_edges}
 use Rattle.gql_change.proofs.RisingLemmas.{eqb_sym, eqb_same, same_numbers, rises_tail, rises_from_graph, rises-filter}
 use Rattle.gql_change.proofs.TakingOut.{node_numbers, edge_numbers, edge_records, has_edge_if}
+use Rattle.gql_change.proofs.EndpointLemmas.{and_true}
 
 -- tests of pairs of tests
 or_both : (a b t x y : Bool) → (((a || b) && t) || (x || y)) ≡ (((a && t) || x) || ((b && t) || y))
@@ -171,14 +172,10 @@ has_touching g (m ∷ ms) n =
 
 -- an edge touches one of the nodes that go where an end of it is named
 module _ (g : PropertyGraph) (es : List Elem) where
-  and_there : (a b : Bool) → b ≡ true → (a && b) ≡ a
-  and_there true b h = h
-  and_there false b h = refl
-
   pub end_goes : (s : NodeId) → is_among g.nodes s ≡ true → has_number (deleted_nodes es g) s.0 ≡ is_named es (elem.Node s)
   end_goes s there =
       has_going_node g es s.0
-      ∙ and_there (is_named es (elem.Node s)) (list_any (λ (r : NodeRecord). eqb s.0 (node_key r)) g.nodes) (turned node_key g.nodes s.0 ∙ there)
+      ∙ sym (and_true (is_named es (elem.Node s)) (list_any (λ (r : NodeRecord). eqb s.0 (node_key r)) g.nodes) (turned node_key g.nodes s.0 ∙ there))
 
   ends_touched : (number : EdgeId) (ends : Ends) (labels : List (List ℕ)) (properties : List (List ℕ × Datum)) → are_ends g.nodes ends ≡ true
       → touched (deleted_nodes es g) (record { number = number; ends = ends; labels = labels; properties = properties }) ≡ end_is_named es ends

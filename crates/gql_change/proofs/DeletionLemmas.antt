@@ -1,6 +1,6 @@
 -- A deletion: the refusal that is found is the definition's, and the changes lead to its graph.
 use Rattle.std.proofs.Common.{◌≡◌, ℕ, suc, ◌+◌, Bool, true, false, not, cond, eqb, ◌&&◌, List, [], ◌∷◌, ◌++◌, map, reverse, Option, Some, None, Result, Ok, Err, slice_get, refl, sym, ap, ◌∙◌, subst, arith, add-zero, zero-add, length}
-use Rattle.std.proofs.lemmas.Bool.{and_from, and_parts}
+use Rattle.std.proofs.lemmas.Bool.{and_from, and_parts, or_right}
 use Rattle.std.specs.Prelude.{◌||◌, filter, find, option_map, position, nat_lt, ◌^◌}
 use Rattle.std.specs.List.{list_any, list_all, flat_map, position_from, position_or_len}
 use Rattle.std.proofs.lemmas.Bool.Decides.{nat_tests}
@@ -33,10 +33,11 @@ use Rattle.gql_change.specs.Machinery.DeletionSteps.{column_place, datum_or_null
 use Rattle.gql_change.specs.declared.fault.ChangeFault.{ChangeFault}
 use Rattle.gql_change.specs.declared.fault.ChangeFault.TheVariants as fault
 use Rattle.gql_change.proofs.ApplyLemmas.{can_act_each-append, changed_by_each-append}
-use Rattle.gql_change.proofs.RisingLemmas.{or_right, eqb_same, eqb_refl, not_among, rises_from_graph, rises-filter}
+use Rattle.gql_change.proofs.RisingLemmas.{eqb_same, eqb_refl, not_among, rises_from_graph, rises-filter}
 use Rattle.gql_change.proofs.TakingOut.{list_all_both, list_all_weaker, filter_where, without, ends_stay, node_numbers, edge_numbers, graph_of_edges, edges_out, nodes_out}
 use Rattle.gql_change.proofs.DeletedNumbers.{has_passing, node_found, edge_found, has_named_edge, nodes_rise, edges_rise}
 use Rattle.gql_change.specs.Machinery.Rising.{rises_above}
+use Rattle.gql_change.proofs.EndpointLemmas.{and_true}
 
 -- what a name stands for in a row stands at the place of its column
 shut : (cs : ColumnList) (x : List ℕ) → datum_of_name (row_scope cs []) x ≡ null
@@ -211,10 +212,6 @@ refused_first : (n : NodeRecord) (o : Option EdgeRecord) → refused_at n.number
 refused_first n None = refl
 refused_first n (Some r) = refl
 
-and_own : (a b : Bool) → b ≡ true → (a && b) ≡ a
-and_own true b h = h
-and_own false b h = refl
-
 module _ (es : List Elem) (g : PropertyGraph) where
   abbrev named_edges : List ℕ
   named_edges = deleted_edges detachment.NoDetach es g
@@ -226,7 +223,7 @@ module _ (es : List Elem) (g : PropertyGraph) where
       (find_where (is_own edge_key g.edges) (λ (r : EdgeRecord). touches n.number r && not (has_number named_edges (edge_key r))) (λ (r : EdgeRecord). touches n.number r && not (edge_goes detachment.NoDetach es r))
       (λ r own. ap (λ (b : Bool). touches n.number r && not b)
       (has_passing edge_key (edge_goes detachment.NoDetach es) g.edges (edge_key r) ∙ has_named_edge g es (edge_key r)
-      ∙ and_own (is_named es (elem.Edge r.number)) (list_any (λ (s : EdgeRecord). eqb (edge_key r) (edge_key s)) g.edges) own))
+      ∙ sym (and_true (is_named es (elem.Edge r.number)) (list_any (λ (s : EdgeRecord). eqb (edge_key r) (edge_key s)) g.edges) own)))
       g.edges (all_own edge_key g.edges))
 
   first_is : (ns : List NodeRecord) → other_edges named_edges g (map node_key (filter (λ (r : NodeRecord). is_named es (elem.Node r.number)) ns)) ≡ first_left detachment.NoDetach es g ns

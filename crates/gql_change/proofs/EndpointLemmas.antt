@@ -1,6 +1,7 @@
 -- Endpoints of an INSERT that stand already. Key idea: what is asked of spots is asked of a front of them, and then of the
 -- rest under the columns behind the front.
 use Rattle.std.proofs.Common.{◌≡◌, ℕ, suc, Bool, true, false, cond, ◌&&◌, ◌||◌, List, [], ◌∷◌, ◌++◌, Option, Some, None, refl, sym, ap, ◌∙◌, append_assoc, append-nil, slice_get}
+use Rattle.std.proofs.Math.Bool.{and_assoc}
 use Rattle.std.specs.Prelude.{option_map, find, is_some, not, unwrap_or, if◌then◌else◌}
 use Rattle.gql_values3.specs.Texts.{same_text}
 use Rattle.gql_values3.specs.declared.table.ColumnKind.{ColumnKind}
@@ -62,10 +63,6 @@ endpoint_new cs kind.Plain x h = refl
 pub and_true : (b c : Bool) → c ≡ true → b ≡ (b && c)
 and_true true c h = sym h
 and_true false c h = refl
-
-and_assoc : (a b c : Bool) → ((a && b) && c) ≡ (a && (b && c))
-and_assoc true b c = refl
-and_assoc false b c = refl
 
 empty_append : (xs ys : List (List ℕ)) → is_empty (xs ++ ys) ≡ (is_empty xs && is_empty ys)
 empty_append [] ys = refl

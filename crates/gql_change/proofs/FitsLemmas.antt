@@ -12,7 +12,8 @@ use Rattle.gql_values3.specs.declared.value.Value.TheVariants as v
 use Rattle.gql_ast.specs.Meaning.{tree_of}
 use Rattle.gql_ast.specs.Scope.{Scope, row_scope, datum_of_name}
 use Rattle.gql_ast.specs.Faults.{each}
-use Rattle.gql_ast.specs.ElementTests.{is_there, undeleted, element_in}
+use Rattle.gql_ast.specs.ElementTests.{undeleted, element_in}
+use Rattle.gql_values3.specs.Lookup.{has_element}
 use Rattle.gql_ast.specs.Evaluation.{value_of}
 use Rattle.gql_ast.specs.ClauseColumns.{ColumnList}
 use Rattle.gql_ast.specs.declared.change.RemoveItem.{RemoveItem}
@@ -87,23 +88,23 @@ stored_fits d kept h = by (is_storable d 64) refl h
     by false p q = absurd (cc)
 
 module _ (g : PropertyGraph) (params : List (List ℕ × Datum)) where
-  undeleted_there : (e f : Elem) → undeleted g e ≡ Ok f → is_there g f ≡ true
-  undeleted_there e f h = by (is_there g e) refl
+  undeleted_there : (e f : Elem) → undeleted g e ≡ Ok f → has_element g f ≡ true
+  undeleted_there e f h = by (has_element g e) refl
     where
-      by : (b : Bool) → is_there g e ≡ b → is_there g f ≡ true
-      by true p = let k = rw p at h in let same : f ≡ e = given_is e f k in ap (is_there g) same ∙ p
+      by : (b : Bool) → has_element g e ≡ b → has_element g f ≡ true
+      by true p = let k = rw p at h in let same : f ≡ e = given_is e f k in ap (has_element g) same ∙ p
       by false p = let k = rw p at h in absurd (cc)
 
-  some_there : (e f : Elem) → next (undeleted g e) (λ x. Ok (Some x)) ≡ Ok (Some f) → is_there g f ≡ true
+  some_there : (e f : Elem) → next (undeleted g e) (λ x. Ok (Some x)) ≡ Ok (Some f) → has_element g f ≡ true
   some_there e f h =
       let got = next_gives (undeleted g e) (λ x. Ok (Some x)) (Some f) h in
       let same : f ≡ got.0 = some_is got.0 f (given_is (Some got.0) (Some f) got.2) in
-      ap (is_there g) same ∙ undeleted_there e got.0 got.1
+      ap (has_element g) same ∙ undeleted_there e got.0 got.1
     where
       some_is : (a b : Elem) → Some b ≡ Some a → b ≡ a
       some_is a b p = cc
 
-  pub element_there : (d : Datum) (f : Elem) → element_in g d ≡ Ok (Some f) → is_there g f ≡ true
+  pub element_there : (d : Datum) (f : Elem) → element_in g d ≡ Ok (Some f) → has_element g f ≡ true
   element_there null f h = absurd (cc)
   element_there (node n) f h = some_there (elem.Node (record { 0 = n })) f h
   element_there (edge n) f h = some_there (elem.Edge (record { 0 = n })) f h
@@ -113,9 +114,9 @@ module _ (g : PropertyGraph) (params : List (List ℕ × Datum)) where
   element_there (list ds) f h = absurd (cc)
   element_there (path p) f h = absurd (cc)
 
-  on_fits : (t : Option Elem) (a : Act) → ((e : Elem) → t ≡ Some e → is_there g e ≡ true) → act_fits a ≡ true → all_fit g (on t a) ≡ true
+  on_fits : (t : Option Elem) (a : Act) → ((e : Elem) → t ≡ Some e → has_element g e ≡ true) → act_fits a ≡ true → all_fit g (on t a) ≡ true
   on_fits None a there fit = refl
-  on_fits (Some e) a there fit = and_from (is_there g e && act_fits a) true (and_from (is_there g e) (act_fits a) (there e refl) fit) refl
+  on_fits (Some e) a there fit = and_from (has_element g e && act_fits a) true (and_from (has_element g e) (act_fits a) (there e refl) fit) refl
 
   given_on : (scope : Scope) (x : List ℕ) (a : Act) (zs : List Assignment) → act_fits a ≡ true → next (target_in g params scope x) (λ t. Ok (on t a)) ≡ Ok zs → all_fit g zs ≡ true
   given_on scope x a zs fit h =
@@ -123,7 +124,7 @@ module _ (g : PropertyGraph) (params : List (List ℕ × Datum)) where
       ap (all_fit g) (given_is (on got.0 a) zs got.2)
       ∙ on_fits got.0 a (λ e p. element_there (datum_of_name scope x) e (got.1 ∙ ap (λ (t : Option Elem). Ok t) p)) fit
 
-  property_fits : (t : Option Elem) (p : List ℕ) (d : Datum) (zs : List Assignment) → ((e : Elem) → t ≡ Some e → is_there g e ≡ true) → set_property g params t p d ≡ Ok zs → all_fit g zs ≡ true
+  property_fits : (t : Option Elem) (p : List ℕ) (d : Datum) (zs : List Assignment) → ((e : Elem) → t ≡ Some e → has_element g e ≡ true) → set_property g params t p d ≡ Ok zs → all_fit g zs ≡ true
   property_fits None p d zs there h = ap (all_fit g) (given_is [] zs h)
   property_fits (Some e) p d zs there h =
       let got = next_gives (stored d) (λ kept. Ok (on (Some e) (act.Property p (as_value kept)))) zs h in

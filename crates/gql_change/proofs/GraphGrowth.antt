@@ -1,6 +1,6 @@
 -- A graph with one more node or edge of the next number is one, and changes that lead to it.
 use Rattle.std.proofs.Common.{◌≡◌, ℕ, suc, ◌^◌, Bool, true, false, ◌&&◌, ◌||◌, List, [], ◌∷◌, ◌++◌, map, refl, ap, ◌∙◌, arith, nat_lt, nat_le, ◌==◌}
-use Rattle.std.proofs.lemmas.Bool.{and_from, and_parts}
+use Rattle.std.proofs.lemmas.Bool.{and_from, and_parts, or_left, or_right}
 use Rattle.std.specs.List.{list_all}
 use Rattle.std.proofs.lemmas.Bool.Decides.{nat_tests}
 use Rattle.std.proofs.lemmas.List.{map-append}
@@ -16,7 +16,6 @@ use Rattle.gql_graph.specs.declared.change.Change.{Change}
 use Rattle.gql_graph.specs.declared.change.Change.TheVariants as change
 use Rattle.gql_change.specs.Plans.{LeadTo}
 use Rattle.gql_change.specs.Insertion.{is_used_up}
-use Rattle.gql_change.proofs.RisingLemmas.{or_left, or_right}
 use Rattle.gql_change.proofs.TakingOut.{list_all_weaker, nodes_are, node_numbers, edge_numbers, edge_records}
 
 -- one change more

@@ -2,7 +2,7 @@
 -- is left of a row's spots says the same of it as the names do. Each node that a later spot refers to is one of the graph
 -- so far, since it was looked at or made; so each edge has its nodes.
 use Rattle.std.proofs.Common.{◌≡◌, ℕ, suc, ◌+◌, ◌<◌, Bool, true, false, cond, List, [], ◌∷◌, ◌++◌, length, Option, Some, None, Ok, Err, refl, sym, ap, ◌∙◌, arith, length-append, ◌==◌, ◌&&◌, is_some, nat_le, nat_lt, ◌⊎◌, inl, inr}
-use Rattle.std.proofs.lemmas.Bool.{and_from}
+use Rattle.std.proofs.lemmas.Bool.{and_from, or_left, or_right}
 use Rattle.std.specs.List.{list_all}
 use Rattle.std.proofs.lemmas.Bool.Decides.{nat_tests}
 use Rattle.gql_values3.specs.Datum.{Datum, null, node, edge}
@@ -36,7 +36,6 @@ use Rattle.gql_change.specs.declared.role.Role.TheVariants as role
 use Rattle.gql_change.specs.declared.row_spots.Spot.{Spot}
 use Rattle.gql_change.specs.declared.row_spots.Spot.TheVariants as spot
 use Rattle.gql_change.specs.declared.insert_state.InsertState.{InsertState}
-use Rattle.gql_change.proofs.RisingLemmas.{or_left, or_right}
 use Rattle.gql_change.proofs.PlaceOfName.{column_placed}
 use Rattle.gql_change.proofs.StoringLemmas.{texts_ascend-label_set, are_properties-property_set}
 use Rattle.gql_change.proofs.GraphGrowth.{leads_on, among_on, among_new, node_can_act, still_graph}

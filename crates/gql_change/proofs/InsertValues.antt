@@ -1,7 +1,7 @@
 -- What is evaluated by places is what the definition evaluates by names; where it succeeds, the values may be kept, and the
 -- nodes of incoming columns that spots refer to are there.
-use Rattle.std.proofs.Common.{◌≡◌, ℕ, ◌+◌, ◌<◌, Bool, true, false, cond, ◌||◌, List, [], ◌∷◌, ◌++◌, length, Option, Some, None, Result, Ok, Err, refl, sym, ap, ◌∙◌, arith, is_some, ◌==◌, nat_lt, append_assoc, append-nil, ◌⊎◌, inl, inr}
-use Rattle.std.proofs.lemmas.Bool.{and_from}
+use Rattle.std.proofs.Common.{◌≡◌, ℕ, ◌+◌, ◌<◌, Bool, true, false, cond, ◌||◌, List, [], ◌∷◌, ◌++◌, length, Option, Some, None, Result, Ok, Err, refl, sym, ap, ◌∙◌, arith, is_some, ◌==◌, nat_lt, append_assoc, append-nil, inl, inr}
+use Rattle.std.proofs.lemmas.Bool.{and_from, or_cases}
 use Rattle.std.specs.Prelude.{option_map, find}
 use Rattle.std.proofs.lemmas.Bool.Decides.{nat_tests}
 use Rattle.gql_values3.specs.Datum.{Datum, null, boolean, integer, text, list, node, edge, path}
@@ -15,7 +15,8 @@ use Rattle.gql_values3.specs.declared.table.ColumnKind.TheVariants as kind
 use Rattle.gql_ast.specs.Meaning.{tree_of}
 use Rattle.gql_ast.specs.Scope.{row_scope, datum_of_name}
 use Rattle.gql_ast.specs.Evaluation.{value_of}
-use Rattle.gql_ast.specs.ElementTests.{element_in, is_there, undeleted}
+use Rattle.gql_ast.specs.ElementTests.{element_in, undeleted}
+use Rattle.gql_values3.specs.Lookup.{has_element}
 use Rattle.gql_ast.specs.Faults.{◌>>=◌, each}
 use Rattle.gql_ast.specs.ClauseColumns.{ColumnList, is_column}
 use Rattle.gql_ast.specs.InsertColumns.{Spots, with_variable}
@@ -161,10 +162,10 @@ module _ (g : PropertyGraph) (params : List (List ℕ × Datum)) (incoming : Col
       by true h = refl
       by false h = h
 
-  there_is : (e : Elem) → is_there g e ≡ false → undeleted g e ≡ Err fault.Deleted
+  there_is : (e : Elem) → has_element g e ≡ false → undeleted g e ≡ Err fault.Deleted
   there_is e h = rw h refl
 
-  node_looked_at : (n : ℕ) (ps : PropertyList) (b : Bool) → is_there g (elem.Node (record { 0 = n })) ≡ b → (element_in g (node n) >>= node_there g params incoming row) ≡ Ok ps → b ≡ true
+  node_looked_at : (n : ℕ) (ps : PropertyList) (b : Bool) → has_element g (elem.Node (record { 0 = n })) ≡ b → (element_in g (node n) >>= node_there g params incoming row) ≡ Ok ps → b ≡ true
   node_looked_at n ps true e h = refl
   node_looked_at n ps false e h =
       let gone : (element_in g (node n) >>= node_there g params incoming row) ≡ Err fault.Deleted =
@@ -176,7 +177,7 @@ module _ (g : PropertyGraph) (params : List (List ℕ × Datum)) (incoming : Col
   no_edge (Ok x) n ps same h =
       absurd (let f : Err fault.WrongKind ≡ Ok ps = sym (ap (λ (y : Elem). node_there g params incoming row (Some y)) (same x refl)) ∙ h in cc)
 
-  undeleted_same : (e x : Elem) (b : Bool) → is_there g e ≡ b → undeleted g e ≡ Ok x → x ≡ e
+  undeleted_same : (e x : Elem) (b : Bool) → has_element g e ≡ b → undeleted g e ≡ Ok x → x ≡ e
   undeleted_same e x true h p = sym (let f : Ok e ≡ Ok x = sym (let g1 : undeleted g e ≡ Ok e = rw h refl in g1) ∙ p in cc)
   undeleted_same e x false h p = absurd (let f : Err fault.Deleted ≡ Ok x = sym (there_is e h) ∙ p in cc)
 
@@ -188,18 +189,14 @@ module _ (g : PropertyGraph) (params : List (List ℕ × Datum)) (incoming : Col
   looked_there (list ds) ps h = absurd (cc)
   looked_there (path p) ps h = absurd (cc)
   looked_there (edge n) ps h =
-      absurd (let f : false ≡ true = no_edge (undeleted g (elem.Edge (record { 0 = n }))) n ps (λ x p. undeleted_same (elem.Edge (record { 0 = n })) x (is_there g (elem.Edge (record { 0 = n }))) refl p) h in cc)
+      absurd (let f : false ≡ true = no_edge (undeleted g (elem.Edge (record { 0 = n }))) n ps (λ x p. undeleted_same (elem.Edge (record { 0 = n })) x (has_element g (elem.Edge (record { 0 = n }))) refl p) h in cc)
   looked_there (node n) ps h =
-      (n, refl, sym (found_among g.nodes (record { 0 = n })) ∙ node_looked_at n ps (is_there g (elem.Node (record { 0 = n }))) refl h)
+      (n, refl, sym (found_among g.nodes (record { 0 = n })) ∙ node_looked_at n ps (has_element g (elem.Node (record { 0 = n }))) refl h)
 
   looked_in_time : (i : ℕ) (ps : PropertyList) → looked_at g params incoming row i ≡ Ok ps → i < length incoming → IsNodeIn g (datum_at row i)
   looked_in_time i ps h below =
       let yes : nat_lt i (length incoming) ≡ true = grind (arith, nat_tests, below) in
       looked_there (datum_at row i) ps (sym (ap (λ (b : Bool). cond b (element_in g (datum_at row i) >>= node_there g params incoming row) (Ok [])) yes) ∙ h)
-
-  either_true : (b s : Bool) → (b || s) ≡ true → (b ≡ true) ⊎ (s ≡ true)
-  either_true true s h = inl refl
-  either_true false s h = inr h
 
   some_first : {A B : Type 0} (r : Result A DataFault) (f : A → B) (y : B) → (r >>= λ x. Ok (f x)) ≡ Ok y → (x : A) × (r ≡ Ok x)
   some_first (Ok x) f y h = (x, refl)
@@ -216,7 +213,7 @@ module _ (g : PropertyGraph) (params : List (List ℕ × Datum)) (incoming : Col
   row_sure [] spots h i r below = absurd (cc)
   row_sure (q ∷ qs) spots h i r below =
       let both = first_gives (spot_of g params incoming row q) (each (spot_of g params incoming row) qs) spots h in
-      elim (either_true (is_reference i q.0) (refers_to i qs) r) [
+      elim (or_cases (is_reference i q.0) (refers_to i qs) r) [
         | inl here ↦ reference_sure i q.0 q.1 both.0 both.2 here below
         | inr later ↦ row_sure qs both.1 both.3 i later below
       ]

@@ -1,5 +1,6 @@
 -- A name among the columns of a row: what the row has there, and what the column holds.
 use Rattle.std.proofs.Common.{◌≡◌, ℕ, zero, suc, ◌+◌, ◌<◌, Bool, true, false, cond, not, ◌&&◌, ◌||◌, List, [], ◌∷◌, ◌++◌, length, Option, Some, None, refl, sym, ap, ◌∙◌, arith, ◌==◌}
+use Rattle.std.proofs.lemmas.Bool.{or_from}
 use Rattle.std.specs.Prelude.{option_map, unwrap_or, find, slice_get}
 use Rattle.std.proofs.lemmas.Bool.Decides.{nat_tests}
 use Rattle.gql_values3.specs.Datum.{Datum}
@@ -19,7 +20,6 @@ use Rattle.gql_change.specs.Machinery.Noting.{earlier}
 use Rattle.gql_change.specs.declared.role.Role.{Role}
 use Rattle.gql_change.specs.declared.role.Role.TheVariants as role
 use Rattle.gql_change.proofs.PlaceOfName.{a_column}
-use Rattle.gql_change.proofs.RisingLemmas.{both_false}
 
 -- the row's datum of the column of a place
 entry_datum : (cs : ColumnList) (row : List Datum) (i : ℕ) → i < length cs → datum_in (column_entry cs row i) ≡ datum_at row i
@@ -151,6 +151,6 @@ module _ (i : ℕ) where
   pub edge_not_referred : (cs : ColumnList) (ss : Spots) → kind_at cs i ≡ Some kind.Edge → wrong_in_spots cs ss ≡ [] → refers_to i (questions cs ss) ≡ false
   edge_not_referred cs [] p w = refl
   edge_not_referred cs (s ∷ ss) p w =
-      both_false (is_reference i (role_of cs s.0 s.1.variable)) (refers_to i (questions (with_variable cs s.0 s.1.variable) ss))
+      or_from (is_reference i (role_of cs s.0 s.1.variable)) (refers_to i (questions (with_variable cs s.0 s.1.variable) ss))
       (role_elsewhere cs s.0 s.1.variable p (front_empty (wrong_endpoint cs s.0 s.1.variable) (wrong_in_spots (with_variable cs s.0 s.1.variable) ss) w))
       (edge_not_referred (with_variable cs s.0 s.1.variable) ss (kind_stays cs s.0 s.1.variable p) (back_empty (wrong_endpoint cs s.0 s.1.variable) (wrong_in_spots (with_variable cs s.0 s.1.variable) ss) w))

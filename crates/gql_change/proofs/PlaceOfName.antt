@@ -5,6 +5,7 @@ use Rattle.std.proofs.lemmas.Slice.Eq.{bytes_eq-Decides}
 use Rattle.std.specs.Str.{bytes_eq}
 use Rattle.gql_values3.specs.Texts.{same_text}
 use Rattle.gql_values3.specs.declared.table.ColumnKind.{ColumnKind}
+use Rattle.gql_values3.proofs.WordLemmas.{same_is}
 use Rattle.gql_ast.specs.ClauseColumns.{ColumnList, is_column}
 use Rattle.gql_eval.specs.Machinery.Places.{place_among}
 use Rattle.gql_change.specs.Machinery.Noting.{earlier, place_if_same}
@@ -42,9 +43,6 @@ place_added [] name k x = alone (same_text x name)
 place_added (c ∷ cs) name k x =
     behind (same_text x c.0) (same_text x name) (place_among cs x) (place_among (cs ++ (name, k) ∷ []) x) (length cs) (place_added cs name k x)
 
-same_name : (x y : List ℕ) → same_text x y ≡ true → x ≡ y
-same_name x y h = (bytes_eq-Decides x y).0 h
-
 -- a map that knows the name
 known_at : (o : Option ℕ) (b : Bool) (n : ℕ) → (b ≡ true → is_some o ≡ true) → o ≡ earlier o (cond b (Some n) None)
 known_at (Some i) b n h = refl
@@ -52,7 +50,7 @@ known_at None true n h = absurd (let e : false ≡ true = h refl in cc)
 known_at None false n h = refl
 
 pub known : (old : List ℕ → Option ℕ) (name : List ℕ) (place : ℕ) → is_some (old name) ≡ true → (x : List ℕ) → old x ≡ earlier (old x) (place_if_same x name place)
-known old name place h x = known_at (old x) (same_text x name) place (λ s. ap (λ y. is_some (old y)) (same_name x name s) ∙ h)
+known old name place h x = known_at (old x) (same_text x name) place (λ s. ap (λ y. is_some (old y)) (same_is x name s) ∙ h)
 
 -- a map that learns it
 learnt_at : (o : Option ℕ) (b : Bool) (n : ℕ) → (b ≡ true → is_some o ≡ false) → cond b (Some n) o ≡ earlier o (cond b (Some n) None)
@@ -74,7 +72,7 @@ pub learnt : (old new : List ℕ → Option ℕ) (name bs : List ℕ) (place : �
     → ((x : List ℕ) → new x ≡ cond (bytes_eq bs x) (Some place) (old x)) → (x : List ℕ) → new x ≡ earlier (old x) (place_if_same x name place)
 learnt old new name bs place same h puts x =
     puts x ∙ ap (λ y. cond (bytes_eq y x) (Some place) (old x)) same ∙ ap (λ b. cond b (Some place) (old x)) (same_both x name)
-    ∙ learnt_at (old x) (same_text x name) place (λ s. ap (λ y. is_some (old y)) (same_name x name s) ∙ h)
+    ∙ learnt_at (old x) (same_text x name) place (λ s. ap (λ y. is_some (old y)) (same_is x name s) ∙ h)
 
 pub placed_on : (old new : List ℕ → Option ℕ) (cs : ColumnList) (name : List ℕ) (k : ColumnKind) → ((x : List ℕ) → old x ≡ place_among cs x)
     → ((x : List ℕ) → new x ≡ earlier (old x) (place_if_same x name (length cs))) → (x : List ℕ) → new x ≡ place_among (cs ++ (name, k) ∷ []) x

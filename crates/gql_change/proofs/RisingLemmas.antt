@@ -1,6 +1,6 @@
 -- Numbers that strictly ascend: which are among them, and that the numbers which are among them tell them all.
 use Rattle.std.proofs.Common.{◌≡◌, ◌≢◌, ℕ, zero, suc, ◌<◌, ◌≤◌, Bool, true, false, cond, eqb, List, [], ◌∷◌, map, length, get_or, Result, Ok, Err, refl, sym, ap, ◌∙◌, ◌⊎◌, inl, inr, arith}
-use Rattle.std.proofs.lemmas.Bool.{and_from, and_parts}
+use Rattle.std.proofs.lemmas.Bool.{and_from, and_parts, or_right, or_from, or_cases, false_from_ne_true}
 use Rattle.std.specs.Prelude.{◌||◌, filter, nat_lt, is_ok}
 use Rattle.std.specs.List.{dedup, dedup_from}
 use Rattle.std.specs.List.Sorted.{IsStrictlyIncreasing, IsPermutation, IsSorted, IsBinarySearchResult}
@@ -27,14 +27,6 @@ lt_of m n h = grind (arith, nat_tests, h)
 to_lt : (m n : ℕ) → m < n → nat_lt m n ≡ true
 to_lt m n h = grind (arith, nat_tests, h)
 
-pub or_cases : (a b : Bool) → (a || b) ≡ true → (a ≡ true) ⊎ (b ≡ true)
-or_cases true b h = inl refl
-or_cases false b h = inr h
-
-not_true : (b : Bool) → (b ≡ true → ⊥) → b ≡ false
-not_true true h = absurd (h refl)
-not_true false h = refl
-
 -- what is among numbers above a bound is above it
 pub among_above : (low : ℕ) (ns : List ℕ) (n : ℕ) → rises_above low ns ≡ true → has_number ns n ≡ true → low < n
 among_above low [] n up h = absurd (cc)
@@ -46,7 +38,7 @@ among_above low (m ∷ ms) n up h =
     ]
 
 pub not_among : (low : ℕ) (ns : List ℕ) (n : ℕ) → rises_above low ns ≡ true → n ≤ low → has_number ns n ≡ false
-not_among low ns n up le = not_true (has_number ns n) (λ h. omega (arith, among_above low ns n up h, le))
+not_among low ns n up le = false_from_ne_true (has_number ns n) (λ h. omega (arith, among_above low ns n up h, le))
 
 pub rises_tail : (low : ℕ) (ns : List ℕ) → rises_above low ns ≡ true → rises ns ≡ true
 rises_tail low [] up = refl
@@ -150,18 +142,6 @@ rises_le (n ∷ ns) up (suc i) zero le lt = absurd (omega arith)
 rises_le (n ∷ ns) up zero (suc j) le lt = omega (arith, above_at n ns j up (omega arith))
 rises_le (n ∷ ns) up (suc i) (suc j) le lt = rises_le ns (rises_tail n ns up) i j (omega arith) (omega arith)
 
-pub or_left : (a b : Bool) → a ≡ true → (a || b) ≡ true
-or_left true b h = refl
-or_left false b h = absurd (cc)
-
-pub or_right : (a b : Bool) → b ≡ true → (a || b) ≡ true
-or_right true b h = refl
-or_right false b h = h
-
-pub both_false : (a b : Bool) → a ≡ false → b ≡ false → (a || b) ≡ false
-both_false true b h k = h
-both_false false b h k = k
-
 found_here : (ns : List ℕ) (i n : ℕ) → i < length ns → get_or ns i 0 ≡ n → has_number ns n ≡ true
 found_here [] i n lt is = absurd (omega arith)
 found_here (m ∷ ms) zero n lt is = let e : eqb n m ≡ true = grind (arith, nat_tests, is) in ap (λ b. b || has_number ms n) e
@@ -170,7 +150,7 @@ found_here (m ∷ ms) (suc i) n lt is = or_right (eqb n m) (has_number ms n) (fo
 found_nowhere : (ns : List ℕ) (n : ℕ) → ((k : ℕ) → k < length ns → get_or ns k 0 ≢ n) → has_number ns n ≡ false
 found_nowhere [] n none = refl
 found_nowhere (m ∷ ms) n none =
-    both_false (eqb n m) (has_number ms n) (let h = none 0 (omega arith) in grind (arith, nat_tests, h)) (found_nowhere ms n (λ k lt is. none (suc k) (omega arith) is))
+    or_from (eqb n m) (has_number ms n) (let h = none 0 (omega arith) in grind (arith, nat_tests, h)) (found_nowhere ms n (λ k lt is. none (suc k) (omega arith) is))
 
 pub searched_number : (ns : List ℕ) (n : ℕ) (r : Result ℕ ℕ) → rises ns ≡ true → IsBinarySearchResult (λ y. nat_cmp y n) ns r → is_ok r ≡ has_number ns n
 searched_number ns n (Ok i) up found = let h = searched ns n (Ok i) found (rises_le ns up) in sym (found_here ns i n h.0 h.1)

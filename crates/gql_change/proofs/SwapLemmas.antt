@@ -6,7 +6,7 @@ use Rattle.std.specs.List.{AllByRecursion}
 use Rattle.std.proofs.lemmas.List.{map-id}
 use Rattle.std.proofs.lemmas.Bool.Decides.{nat_tests}
 use Rattle.gql_values3.specs.PropertyGraph.{PropertyGraph, is_graph, numbers_ascend}
-use Rattle.gql_values3.specs.Lookup.{node_of, edge_of, has_node, labels_in, properties_in, labels_of, properties_of}
+use Rattle.gql_values3.specs.Lookup.{node_of, edge_of, has_node, labels_in, properties_in, labels_of, properties_of, has_element}
 use Rattle.gql_values3.specs.declared.element.NodeId.{NodeId}
 use Rattle.gql_values3.specs.declared.element.EdgeId.{EdgeId}
 use Rattle.gql_values3.specs.declared.element.Ends.{Ends}
@@ -16,7 +16,6 @@ use Rattle.gql_values3.specs.declared.element.Elem.TheVariants as elem
 use Rattle.gql_values3.specs.declared.records.NodeRecord.{NodeRecord}
 use Rattle.gql_values3.specs.declared.records.EdgeRecord.{EdgeRecord}
 use Rattle.gql_values3.proofs.FindLemmas.{find-map}
-use Rattle.gql_ast.specs.ElementTests.{is_there}
 use Rattle.gql_graph.specs.Edits.{put_over, node_key, edge_key, changed, has_ends, same_ends, can_act, can_act_each}
 use Rattle.gql_graph.specs.declared.change.Change.{Change}
 use Rattle.gql_graph.specs.declared.change.Change.TheVariants as change
@@ -53,6 +52,14 @@ module _ {X : Type 0} (key : X → ℕ) (n : ℕ) where
   found_self low high (y ∷ ys) h =
       let rest = (and_parts (nat_lt low (key y)) (numbers_ascend (key y) (map key ys) high) h).1 in
       (λ p. ap (λ t. cond t (Some y) (found ys)) p, skip y ys ys (found_self (key y) high ys rest) (above (key y) (key y) high ys (omega arith) rest))
+
+-- an item is put over the one of its number, and all others are changed
+pub put_over-map : {X : Type 0} (key : X → ℕ) (item : X) (before after : X → X) (high : ℕ) (xs : List X) → numbers_ascend 0 (map key xs) high ≡ true
+    → ((x : X) → FindsItself key (key item) xs x → cond (key (before x) == key item) item (before x) ≡ after x) → put_over key item (map before xs) ≡ map after xs
+put_over-map {X} key item before after high xs up each =
+    map-map before (λ (y : X). cond (key y == key item) item y) xs
+    ∙ map_same (λ (x : X). cond (key (before x) == key item) item (before x)) after xs
+    (all_weaker (FindsItself key (key item) xs) (λ (x : X). cond (key (before x) == key item) item (before x) ≡ after x) xs each (found_self key (key item) 0 high xs up))
 
 is_some-map : {A B : Type 0} (f : A → B) (o : Option A) → is_some (option_map f o) ≡ is_some o
 is_some-map f None = refl
@@ -92,13 +99,9 @@ module _ (g : PropertyGraph) (one : is_graph g ≡ true) (xs : List Assignment) 
 
     nodes_swapped : put_over node_key swapped_node (map (node_with (others (elem.Node n) xs)) g.nodes) ≡ map (node_with xs) g.nodes
     nodes_swapped =
-        map-map (node_with (others (elem.Node n) xs)) (λ (y : NodeRecord). cond (node_key y == n.0) swapped_node y) g.nodes
-        ∙ map_same (λ (x : NodeRecord). cond (x.number.0 == n.0) swapped_node (node_with (others (elem.Node n) xs) x)) (node_with xs) g.nodes
-        (all_weaker (FindsItself (λ (r : NodeRecord). r.number.0) n.0 g.nodes)
-        (λ (x : NodeRecord). cond (x.number.0 == n.0) swapped_node (node_with (others (elem.Node n) xs) x) ≡ node_with xs x) g.nodes
+        put_over-map node_key swapped_node (node_with (others (elem.Node n) xs)) (node_with xs) g.next_node g.nodes
+        ((and_parts (numbers_ascend 0 (map node_key g.nodes) g.next_node) (nat_lt g.next_node (2 ^ 32)) (node_numbers g one)).0)
         (λ x h. node_case (x.number.0 == n.0) x refl h)
-        (found_self (λ (r : NodeRecord). r.number.0) n.0 0 g.next_node g.nodes
-        ((and_parts (numbers_ascend 0 (map (λ (r : NodeRecord). r.number.0) g.nodes) g.next_node) (nat_lt g.next_node (2 ^ 32)) (node_numbers g one)).0)))
 
     edges_stay : map (edge_with (others (elem.Node n) xs)) g.edges ≡ map (edge_with xs) g.edges
     edges_stay = λ i. map (λ (x : EdgeRecord). edge_after (acts_on-others (elem.Edge x.number) (elem.Node n) xs refl i) x) g.edges
@@ -151,13 +154,9 @@ module _ (g : PropertyGraph) (one : is_graph g ≡ true) (xs : List Assignment) 
 
     edges_swapped : put_over edge_key swapped_edge (map (edge_with (others (elem.Edge n) xs)) g.edges) ≡ map (edge_with xs) g.edges
     edges_swapped =
-        map-map (edge_with (others (elem.Edge n) xs)) (λ (y : EdgeRecord). cond (edge_key y == n.0) swapped_edge y) g.edges
-        ∙ map_same (λ (x : EdgeRecord). cond (x.number.0 == n.0) swapped_edge (edge_with (others (elem.Edge n) xs) x)) (edge_with xs) g.edges
-        (all_weaker (FindsItself (λ (r : EdgeRecord). r.number.0) n.0 g.edges)
-        (λ (x : EdgeRecord). cond (x.number.0 == n.0) swapped_edge (edge_with (others (elem.Edge n) xs) x) ≡ edge_with xs x) g.edges
+        put_over-map edge_key swapped_edge (edge_with (others (elem.Edge n) xs)) (edge_with xs) g.next_edge g.edges
+        ((and_parts (numbers_ascend 0 (map edge_key g.edges) g.next_edge) (nat_lt g.next_edge (2 ^ 32)) (edge_numbers g one)).0)
         (λ x h. edge_case (x.number.0 == n.0) x refl h)
-        (found_self (λ (r : EdgeRecord). r.number.0) n.0 0 g.next_edge g.edges
-        ((and_parts (numbers_ascend 0 (map (λ (r : EdgeRecord). r.number.0) g.edges) g.next_edge) (nat_lt g.next_edge (2 ^ 32)) (edge_numbers g one)).0)))
 
     nodes_stay : map (node_with (others (elem.Edge n) xs)) g.nodes ≡ map (node_with xs) g.nodes
     nodes_stay = λ i. map (λ (x : NodeRecord). node_after (acts_on-others (elem.Node x.number) (elem.Edge n) xs refl i) x) g.nodes
@@ -186,7 +185,7 @@ module _ (g : PropertyGraph) (one : is_graph g ≡ true) (xs : List Assignment) 
   edge_swaps n None it there = absurd (cc)
   edge_swaps n (Some old) it there = edge_leads n old it
 
-  pub swaps_lead : (e : Elem) → is_there g e ≡ true → LeadTo (assigned (others e xs) g) (swaps g e (acts_on e xs)) (assigned xs g)
+  pub swaps_lead : (e : Elem) → has_element g e ≡ true → LeadTo (assigned (others e xs) g) (swaps g e (acts_on e xs)) (assigned xs g)
   swaps_lead (elem.Node n) there = node_leads n there
   swaps_lead (elem.Edge n) there = edge_swaps n (edge_of g n) refl there
 

@@ -1,5 +1,6 @@
 -- Taking edges and nodes out of a graph one by one: it stays a graph, and what is left is a filter of its lists.
 use Rattle.std.proofs.Common.{◌≡◌, ℕ, ◌^◌, Bool, true, false, not, cond, eqb, ◌&&◌, List, [], ◌∷◌, ◌++◌, map, reverse, Option, Some, None, refl, sym, ap, ◌∙◌, arith}
+use Rattle.std.proofs.Math.Bool.{and-true}
 use Rattle.std.proofs.lemmas.Bool.{and_from, and_parts}
 use Rattle.std.specs.Prelude.{◌||◌, filter, find, is_some, nat_lt, nat_le}
 use Rattle.std.specs.List.{list_all}
@@ -190,15 +191,11 @@ has_edge_if g e (Some r) h = rw h refl
 last_out : (out : ℕ → Change) (n : ℕ) (ns : List ℕ) → map out (reverse (n ∷ ns)) ≡ map out (reverse ns) ++ out n ∷ []
 last_out out n ns = ap (map out) (reverse-append (n ∷ []) ns) ∙ map-append out (reverse ns) (n ∷ [])
 
-and_true : (b : Bool) → (b && true) ≡ b
-and_true true = refl
-and_true false = refl
-
 module _ (cs : List Change) (c : Change) (all : List Change) (g h k : PropertyGraph) (is : all ≡ cs ++ c ∷ []) (leads : changed_by_each cs g ≡ h) where
   acts_too : can_act_each cs g ≡ true → can_act c h ≡ true → can_act_each all g ≡ true
   acts_too acts act =
       ap (λ (l : List Change). can_act_each l g) is ∙ can_act_each-append cs (c ∷ []) g
-      ∙ and_from (can_act_each cs g) (can_act c (changed_by_each cs g) && true) acts (and_true (can_act c (changed_by_each cs g)) ∙ ap (can_act c) leads ∙ act)
+      ∙ and_from (can_act_each cs g) (can_act c (changed_by_each cs g) && true) acts (and-true (can_act c (changed_by_each cs g)) ∙ ap (can_act c) leads ∙ act)
 
   leads_too : changed c h ≡ k → changed_by_each all g ≡ k
   leads_too leads_on = ap (λ (l : List Change). changed_by_each l g) is ∙ changed_by_each-append cs (c ∷ []) g ∙ ap (changed c) leads ∙ leads_on

@@ -7,7 +7,6 @@ ghost use Rattle.gql_change.specs.Machinery.PreparedItems.{item_in, removed_in, 
 use crate::naming::column_place;
 use crate::prepared_property::{PreparedProperty, prepare_property};
 use gql_ast::{RemoveItem, SetItem};
-use gql_eval::Header;
 use gql_values3::{Columns, OutOfMemory, Params, Text};
 use std::alloc::Global;
 
@@ -59,8 +58,7 @@ fn prepare_set<'a>(
 {
     match item {
         SetItem::Property(variable, name, expr) => {
-            let header = Header::Listed(columns.as_slice());
-            let property = prepare_property(alloc, header, params, name, expr)?;
+            let property = prepare_property(alloc, columns.as_slice(), params, name, expr)?;
             Ok(PreparedItem {
                 target: column_place(columns.as_slice(), variable.as_str()),
                 act: PreparedAct::Property(property),

@@ -3,12 +3,11 @@
 ghost use Rattle.std.specs.Prelude.{◌≡◌, IfOk};
 ghost use Rattle.gql_values3.specs.Meaning.{datum_of};
 ghost use Rattle.gql_eval.specs.Gives.{Gives};
-ghost use Rattle.gql_eval.specs.Machinery.ScopeMeaning.{columns_of};
 ghost use Rattle.gql_change.specs.Machinery.InRow.{named_preparation, value_in};
 
 use gql_ast::Expr;
-use gql_eval::{EvalError, Header, Prepared};
-use gql_values3::{OutOfMemory, Params, Row, Text, Value, View};
+use gql_eval::{EvalError, Prepared};
+use gql_values3::{ColumnKind, OutOfMemory, Params, Row, Text, Value, View};
 use std::alloc::Global;
 use std::marker::Model;
 
@@ -36,14 +35,14 @@ impl<'a> Model for PreparedProperty<'a> {
 /// Prepares a property and its expression for the rows under some columns.
 pub fn prepare_property<'a>(
     alloc: Global,
-    header: Header<'a>,
+    columns: &'a [(Text, ColumnKind)],
     params: &'a Params,
     name: &'a Text,
     expr: &'a Expr,
 ) -> Result<PreparedProperty<'a>, OutOfMemory>
-    ensures { IfOk result (λ p. p ≡ named_preparation (columns_of header.entry) params.now name.now expr.now) }
+    ensures { IfOk result (λ p. p ≡ named_preparation columns.now params.now name.now expr.now) }
 {
-    let value = Prepared::new(alloc, header, params, expr)?;
+    let value = Prepared::new(alloc, columns, params, expr)?;
     Ok(PreparedProperty { name, value })
 }
 

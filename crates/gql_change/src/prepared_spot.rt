@@ -9,7 +9,6 @@ use crate::prepared_property::{PreparedProperty, prepare_property};
 use crate::role::Role;
 use crate::spot_question::SpotQuestion;
 use gql_ast::MapItem;
-use gql_eval::Header;
 use gql_values3::{Columns, OutOfMemory, Params};
 use std::alloc::Global;
 
@@ -83,8 +82,7 @@ fn prepare_properties<'a>(
     let mut all = Vec::with_capacity(alloc, items.len())?;
     for i in 0..items.len() {
         let item = &items[i];
-        let header = Header::Listed(columns.as_slice());
-        all.push(prepare_property(alloc, header, params, &item.name, &item.value)?)?;
+        all.push(prepare_property(alloc, columns.as_slice(), params, &item.name, &item.value)?)?;
     }
     Ok(all)
 }

@@ -5,11 +5,12 @@ use Rattle.std.specs.Prelude.{option_map, nat_le, nat_lt, if◌then◌else◌}
 use Rattle.std.proofs.lemmas.Bool.Decides.{nat_tests}
 use Rattle.std.proofs.lemmas.Bool.{leb-true, ltb-false}
 use Rattle.gql_values3.specs.Texts.{same_text}
+use Rattle.gql_values3.proofs.WordLemmas.{same_is}
 use Rattle.gql_ast.specs.ClauseColumns.{ColumnList, is_column}
 use Rattle.gql_norm.specs.Selection.{Among}
 use Rattle.gql_norm.specs.JoinDefects.{Spot, earlier, earliest}
 use Rattle.gql_degrees.specs.Machinery.JoinWalk.{sooner, sooner_named, first_among}
-use Rattle.gql_degrees.proofs.PlaceLemmas.{same_is, place_of, least_of}
+use Rattle.gql_degrees.proofs.PlaceLemmas.{place_of, least_of}
 use Rattle.gql_expr_checks.proofs.KnowingLemmas.{same_text-refl}
 
 ge_of : (a b : ℕ) → nat_le a b ≡ false → b ≤ a

@@ -3,6 +3,7 @@ use Rattle.std.proofs.Common.{◌≡◌, ℕ, suc, ◌+◌, ◌≤◌, inl, inr,
 use Prim.{⊥}
 use Rattle.std.specs.Prelude.{option_map, if◌then◌else◌}
 use Rattle.gql_values3.specs.Texts.{same_text}
+use Rattle.gql_values3.proofs.WordLemmas.{same_is}
 use Rattle.gql_ast.specs.ClauseColumns.{ColumnList}
 use Rattle.gql_norm.specs.declared.degree.Degree.{Degree}
 use Rattle.gql_norm.specs.NormalPattern.{Part, Node, Edge, Concat, Union, Alt, Quant, Opt, Scope, Sides, NoSide, Side, NormalPath}
@@ -15,7 +16,7 @@ use Rattle.gql_norm.specs.JoinDefects.{Spot, first_place, declared_in_paths, deg
 use Rattle.gql_norm.proofs.EachLemmas.{each_append, each_left, each_right, each_of, of_each}
 use Rattle.gql_degrees.specs.Machinery.KindWalk.{declared_in_all_paths}
 use Rattle.gql_degrees.specs.Machinery.JoinWalk.{suspects, first_among, first_joined}
-use Rattle.gql_degrees.proofs.PlaceLemmas.{same_is, first_named}
+use Rattle.gql_degrees.proofs.PlaceLemmas.{first_named}
 use Rattle.gql_degrees.proofs.NamedLemmas.{variable_at, named_in, named_in_sides, named_in_paths, first_place_is, first_place_in_paths}
 use Rattle.gql_degrees.proofs.WalkLemmas.{place_is}
 use Rattle.gql_degrees.proofs.OnceLemmas.{suspects_left}

@@ -1,5 +1,6 @@
 -- The names that a part declares, with their places: in the order of the text, each at a place of its own.
 use Rattle.std.proofs.Common.{◌≡◌, ℕ, suc, ◌+◌, ◌≤◌, Bool, true, false, ◌||◌, List, [], ◌∷◌, ◌++◌, map, is_some, Option, Some, None, refl, sym, ap, ◌∙◌, arith}
+use Rattle.std.proofs.Math.Bool.{or-false}
 use Rattle.std.specs.Prelude.{nat_le, option_map, if◌then◌else◌}
 use Rattle.std.proofs.lemmas.List.{map-append}
 use Rattle.std.proofs.lemmas.Bool.{le-leb}
@@ -101,10 +102,6 @@ some_optional : (d : Option Degree) → is_some d ≡ is_some (option_map under_
 some_optional None = refl
 some_optional (Some d) = refl
 
-or_false : (b : Bool) → (b || false) ≡ b
-or_false true = refl
-or_false false = refl
-
 some_element : (x : List ℕ) (v : Option (List ℕ)) (a : ℕ) → is_some (first_named x (variable_at v a)) ≡ is_some (element_degree v x)
 some_element x None a = refl
 some_element x (Some y) a = by (same_text x y)
@@ -130,7 +127,7 @@ mutual
 
   named_some_sides : (x : List ℕ) (ss : Sides) (b : ℕ) → is_some (first_named x (named_in_sides ss b)) ≡ is_some (beside_all (degrees_of ss x))
   named_some_sides x NoSide b = refl
-  named_some_sides x (Side p NoSide) b = some_first x (named_in p b) [] (is_some (degree_of p x)) false (named_some x p b) refl ∙ or_false (is_some (degree_of p x))
+  named_some_sides x (Side p NoSide) b = some_first x (named_in p b) [] (is_some (degree_of p x)) false (named_some x p b) refl ∙ or-false (is_some (degree_of p x))
   named_some_sides x (Side p (Side r ss)) b =
       some_first x (named_in p b) (named_in_sides (Side r ss) (b + size p + 1)) (is_some (degree_of p x)) (is_some (beside_all (degrees_of (Side r ss) x))) (named_some x p b) (named_some_sides x (Side r ss) (b + size p + 1))
       ∙ sym (beside_known (degree_of p x) (beside_all (degrees_of (Side r ss) x)))

@@ -1,10 +1,11 @@
 -- A name that is declared once and is no column is at no fault, and the names that are left out by the code are such.
 use Rattle.std.proofs.Common.{◌≡◌, ℕ, suc, ◌+◌, ◌≤◌, Bool, true, false, not, ◌||◌, ◌&&◌, List, [], ◌∷◌, ◌++◌, map, find, is_some, Option, Some, None, refl, sym, ap, ◌∙◌, subst, arith}
-use Prim.{⊥}
+use Rattle.std.proofs.lemmas.Bool.{both_ways}
 use Rattle.std.specs.Prelude.{option_map, if◌then◌else◌}
 use Rattle.std.proofs.lemmas.List.Folds.{list_any-append}
 use Rattle.gql_values3.specs.Texts.{same_text}
 use Rattle.gql_values3.specs.declared.table.ColumnKind.{ColumnKind}
+use Rattle.gql_values3.proofs.WordLemmas.{same_is}
 use Rattle.gql_ast.specs.ClauseColumns.{ColumnList, is_column}
 use Rattle.gql_norm.specs.declared.degree.Degree.{Degree}
 use Rattle.gql_norm.specs.NormalPattern.{Part, Node, Edge, Concat, Union, Alt, Quant, Opt, Scope, Sides, NoSide, Side, NormalPath}
@@ -17,7 +18,7 @@ use Rattle.gql_norm.specs.Machinery.ColumnGrowth.{declared_in}
 use Rattle.gql_norm.proofs.ColumnLemmas.{without_place, all_seen}
 use Rattle.gql_degrees.specs.Machinery.KindWalk.{declared_in_all_paths}
 use Rattle.gql_degrees.specs.Machinery.JoinWalk.{sooner, place_if, are_both_faulty, suspects}
-use Rattle.gql_degrees.proofs.PlaceLemmas.{place_if-none, same_is, least_of, least_append, first_named, spot_of}
+use Rattle.gql_degrees.proofs.PlaceLemmas.{place_if-none, least_of, least_append, first_named, spot_of}
 use Rattle.gql_degrees.proofs.NamedLemmas.{named_in, named_in_sides, named_in_paths, declared_named, named_some}
 use Rattle.gql_degrees.proofs.RowLemmas.{row_by, later_by, row_never, later_never}
 use Rattle.gql_degrees.proofs.WalkLemmas.{least_in_row, least_in_paths, least_at_columns}
@@ -266,17 +267,13 @@ module _ (x : List ℕ) (columns : ColumnList) where
       → (is_column (seen ++ d ∷ []) x ≡ true → times_in x ds ≡ 0) → LeftOut x columns seen named (d ∷ ds)
   this_one seen named ds d e u t s = record {
     unnamed = u;
-    none_seen = λ h. absurd (differ (is_column seen x) h (unknown_left (is_column seen x) (is_column columns x) (is_column named x) told u));
-    none_column = λ h. absurd (differ (is_column columns x) h (unknown_right (is_column seen x) (is_column columns x) (is_column named x) told u));
+    none_seen = λ h. absurd (both_ways (is_column seen x) (unknown_left (is_column seen x) (is_column columns x) (is_column named x) told u) h);
+    none_column = λ h. absurd (both_ways (is_column columns x) (unknown_right (is_column seen x) (is_column columns x) (is_column named x) told u) h);
     at_most_once = subst (λ b. one_if b + times_in x ds ≤ 1) (sym e) (once_here (times_in x ds) (s (pushed seen d ∙ here (is_column seen x) (same_text x d.0) e)));
   }
     where
       told : ((is_column seen x || is_column columns x) && not (is_column named x)) ≡ false
       told = ap (λ y. (is_column seen y || is_column columns y) && not (is_column named y)) (same_is x d.0 e) ∙ t
-
-      differ : (b : Bool) → b ≡ true → b ≡ false → ⊥
-      differ true h k = absurd (cc)
-      differ false h k = absurd (cc)
 
   left_out : (seen named ds : ColumnList) → is_column (suspects columns seen named ds) x ≡ false → LeftOut x columns seen named ds
   left_out seen named [] h = record { unnamed = h; none_seen = λ k. refl; none_column = λ k. refl; at_most_once = omega arith }

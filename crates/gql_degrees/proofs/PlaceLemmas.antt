@@ -1,8 +1,8 @@
 -- Places at fault of one name: the least of those in a list, and how lists are put together.
 use Rattle.std.proofs.Common.{◌≡◌, ℕ, min, Bool, true, false, ◌||◌, List, [], ◌∷◌, ◌++◌, map, flat_map, find, is_some, Option, Some, None, refl, sym, ap, ◌∙◌, arith}
 use Rattle.std.specs.Prelude.{option_map, if◌then◌else◌}
-use Rattle.std.specs.Cmp.Lexicographic.{same_text as is_same}
 use Rattle.gql_values3.specs.Texts.{same_text}
+use Rattle.gql_values3.proofs.WordLemmas.{same_is}
 use Rattle.gql_norm.specs.Declaration.{Declared}
 use Rattle.gql_norm.specs.JoinDefects.{Spot, first_place}
 use Rattle.gql_degrees.specs.Machinery.JoinWalk.{sooner, former, place_if}
@@ -54,10 +54,6 @@ pub place_if-either : (b c : Bool) (place : Option ℕ) → place_if (b || c) pl
 place_if-either true true place = sym (sooner_same place)
 place_if-either true false place = sym (sooner_none place)
 place_if-either false c place = refl
-
--- a name is itself, and a name that is the same is the name
-pub same_is : (x y : List ℕ) → same_text x y ≡ true → x ≡ y
-same_is x y h = is_same x y (sym h)
 
 -- the least place of a name
 abbrev pub place_of : List ℕ → Spot → Option ℕ

@@ -1,5 +1,6 @@
 -- A name in a row of parts, or in path patterns: where its degree is at fault with one before.
 use Rattle.std.proofs.Common.{◌≡◌, ℕ, suc, ◌+◌, Bool, true, false, ◌||◌, ◌&&◌, List, [], ◌∷◌, map, flat_map, is_some, Option, Some, None, refl, sym, ap, ◌∙◌}
+use Rattle.std.proofs.Math.Bool.{or-false}
 use Rattle.std.specs.Prelude.{if◌then◌else◌}
 use Rattle.gql_values3.specs.Texts.{same_text}
 use Rattle.gql_norm.specs.declared.degree.Degree.{Degree}
@@ -102,11 +103,7 @@ module _ (f : Degree → Degree → Bool) where
   behind_more b (Some Singleton) None = refl
   behind_more b (Some Conditional) None = refl
   behind_more b (Some Group) None = refl
-  behind_more b None (Some e) = sym (no_more (is_behind_fault f b (Some e)))
-    where
-      no_more : (c : Bool) → (c || false) ≡ c
-      no_more true = refl
-      no_more false = refl
+  behind_more b None (Some e) = sym (or-false (is_behind_fault f b (Some e)))
   behind_more b (Some Singleton) (Some e) = first_more b.singleton (f Singleton e) ((b.conditional && f Conditional e) || (b.group && f Group e))
   behind_more b (Some Conditional) (Some e) = second_more (b.singleton && f Singleton e) b.conditional (f Conditional e) (b.group && f Group e)
   behind_more b (Some Group) (Some e) = third_more (b.singleton && f Singleton e) (b.conditional && f Conditional e) b.group (f Group e)

@@ -9,7 +9,7 @@ ghost use Rattle.gql_degrees.specs.Machinery.KindWalk.{declared_in_all_paths};
 
 use crate::before::{Join, are_faulty, none_before};
 use crate::declared::declared_in_paths;
-use crate::walk::walked_paths;
+use crate::walk::{Sought, walked_paths};
 use crate::walked::{Walked, place_if, sooner};
 use gql_expr_checks::{KnownColumns, known_columns};
 use gql_norm::{Degree, NormalPath, NormalPattern};
@@ -121,7 +121,7 @@ fn place_of_fault(
 ) -> Result<Option<u64>, OutOfMemory>
     ensures { IfOk result (λ place. place ≡ place_of_fault (at_fault join) columns.now (map path_data paths.now) name.now) }
 {
-    let found = walked_paths(join, name, paths, 0, none_before())?;
+    let found = walked_paths(&Sought { join, name }, paths, 0, none_before())?;
     Ok(with_column(join, columns.first_kind(name), found))
 }
 

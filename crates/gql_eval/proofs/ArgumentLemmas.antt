@@ -6,7 +6,8 @@ use Rattle.gql_ast.specs.ClauseColumns.{ColumnList}
 use Rattle.gql_ast.specs.Tree.{Tree, Trees, Links, constant, unknown, number, parameter, name, property, paren, listing, count_all, aggregate, call, modulo, coalesce, signed, product, sum, comparing, test, label_test, end_test, negation, conjunction, disjunction, link, no_trees, more_trees, no_links, more_links}
 use Rattle.gql_eval.specs.Machinery.Places.{places_among}
 use Rattle.gql_eval.specs.Machinery.InstructionMeaning.{op_of, program_of}
-use Rattle.gql_eval.specs.Machinery.Program.{Op, held_name, of_one, of_two, join_side, as_truth, join_all, join_any, skip_if, add_item, end_list, is_xor, any_side, listing_steps, constant_list, compiled, compiled_items, compiled_others, compiled_chain, compiled_all, compiled_any, argument_behind, arguments_behind}
+use Rattle.gql_eval.specs.Machinery.Steps.{Op, held_name, of_one, of_two, join_side, as_truth, join_all, join_any, skip_if, add_item, end_list}
+use Rattle.gql_eval.specs.Machinery.Compiled.{is_xor, any_side, listing_steps, constant_list, compiled, compiled_items, compiled_others, compiled_chain, compiled_all, compiled_any, argument_behind, arguments_behind}
 use Rattle.gql_eval.specs.declared.instruction.Instruction.{Instruction}
 use Rattle.gql_eval.proofs.ScopeLemmas.{append_none}
 use Rattle.gql_eval.proofs.TurnedLemmas.{turned_more}

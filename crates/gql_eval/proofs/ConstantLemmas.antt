@@ -9,7 +9,7 @@ use Rattle.gql_ast.specs.Operators.{made_list}
 use Rattle.gql_ast.specs.Scope.{Scope, names_in, names_in_trees}
 use Rattle.gql_ast.specs.Tree.{Tree, Trees, constant, unknown, number, parameter, no_trees, more_trees}
 use Rattle.gql_ast.specs.Evaluation.{value_of, values_of}
-use Rattle.gql_eval.specs.Machinery.Program.{constant_of, constants_of, constant_list, both_known, where_made, list_of_known}
+use Rattle.gql_eval.specs.Machinery.Compiled.{constant_of, constants_of, constant_list, both_known, where_made, list_of_known}
 
 -- those that are known, and then the rest
 abbrev pub known_behind : List Datum → Option (List Datum) → Option (List Datum)

@@ -4,12 +4,12 @@ use Rattle.std.specs.Prelude.{Ok, find, option_map, is_some}
 use Rattle.gql_values3.specs.Datum.{Datum}
 use Rattle.gql_values3.specs.Texts.{same_text}
 use Rattle.gql_values3.specs.PropertyGraph.{PropertyGraph}
-use Rattle.gql_values3.specs.Lookup.{node_of, edge_of, property_of, properties_in}
+use Rattle.gql_values3.specs.Lookup.{node_of, edge_of, property_of, properties_in, has_element}
 use Rattle.gql_values3.specs.declared.records.NodeRecord.{NodeRecord}
 use Rattle.gql_values3.specs.declared.records.EdgeRecord.{EdgeRecord}
 use Rattle.gql_values3.specs.declared.element.Elem.{Elem}
 use Rattle.gql_values3.specs.declared.element.Elem.TheVariants as elem
-use Rattle.gql_ast.specs.ElementTests.{undeleted, is_there}
+use Rattle.gql_ast.specs.ElementTests.{undeleted}
 
 -- the value of a name among properties
 abbrev named : List (List ℕ × Datum) → List ℕ → Option Datum
@@ -20,7 +20,7 @@ found_among : {R : Type 0} (ps : R → List (List ℕ × Datum)) (o : Option R) 
 found_among ps None p d h = absurd (cc)
 found_among ps (Some r) p d h = refl
 
-there : (g : PropertyGraph) (e : Elem) (p : List ℕ) (d : Datum) → property_of g e p ≡ Some d → is_there g e ≡ true
+there : (g : PropertyGraph) (e : Elem) (p : List ℕ) (d : Datum) → property_of g e p ≡ Some d → has_element g e ≡ true
 there g (elem.Node n) p d h = found_among (λ (r : NodeRecord). r.properties) (node_of g n) p d h
 there g (elem.Edge n) p d h = found_among (λ (r : EdgeRecord). r.properties) (edge_of g n) p d h
 

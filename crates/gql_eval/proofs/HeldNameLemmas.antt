@@ -8,8 +8,10 @@ use Rattle.gql_ast.specs.Scope.{names_in, names_in_trees, names_in_links, group_
 use Rattle.gql_ast.specs.Tree.{Tree, Trees, Links, constant, unknown, number, parameter, name, property, paren, listing, count_all, aggregate, call, modulo, coalesce, signed, product, sum, comparing, test, label_test, end_test, negation, conjunction, disjunction, link, no_trees, more_trees, no_links, more_links}
 use Rattle.gql_eval.specs.Machinery.HeldGroup.{held_pair}
 use Rattle.gql_eval.specs.Machinery.Places.{places_among}
-use Rattle.gql_eval.specs.Machinery.Program.{Op, fixed, held_name, of_one, of_two, join_side, as_truth, join_all, join_any, skip_if, start_list, add_item, end_list, or_else, over_group, name_held, with_name, names_held, is_group_at, is_xor, any_side, listing_steps, constant_list, compiled, compiled_items, compiled_others, compiled_chain, compiled_all, compiled_any}
-use Rattle.gql_eval.specs.Machinery.ScopeMeaning.{columns_of, scope_of}
+use Rattle.gql_eval.specs.Machinery.AtPlaces.{is_group_at}
+use Rattle.gql_eval.specs.Machinery.Steps.{Op, fixed, held_name, of_one, of_two, join_side, as_truth, join_all, join_any, skip_if, start_list, add_item, end_list, or_else, over_group, name_held, with_name, names_held}
+use Rattle.gql_eval.specs.Machinery.Compiled.{is_xor, any_side, listing_steps, constant_list, compiled, compiled_items, compiled_others, compiled_chain, compiled_all, compiled_any}
+use Rattle.gql_eval.specs.Machinery.ScopeMeaning.{scope_of}
 use Rattle.gql_eval.specs.declared.places.Places.{Places}
 use Rattle.gql_eval.specs.declared.scope.Scope.{Scope}
 use Rattle.gql_eval.proofs.ConstantLemmas.{constant_list_names}
@@ -122,7 +124,7 @@ module _ (columns : ColumnList) (names : List (List ℕ)) (params : List (List �
 
 module _ (s : Scope) where
   abbrev at : List ℕ → Places × List ℕ
-  at x = placed (columns_of s.header) s.names.now [] x
+  at x = placed s.columns.now s.names.now [] x
 
   chosen : (b c : Bool) (x : List ℕ) (o : Option (Places × List ℕ)) (n : Option (List ℕ)) → b ≡ c → o ≡ option_map at n → cond b (Some (at x)) o ≡ option_map at (cond c (Some x) n)
   chosen true true x o n p q = refl
@@ -140,10 +142,10 @@ module _ (s : Scope) where
   held_of (Some x) = ap (λ d. Some (x, d)) (held_is s x)
 
   -- the group that the steps of an argument name first, with what it stands for
-  pub group_held : (params : List (List ℕ × Datum)) (steps : List Op) (e : Tree) → steps ≡ compiled (columns_of s.header) s.names.now params e
+  pub group_held : (params : List (List ℕ × Datum)) (steps : List Op) (e : Tree) → steps ≡ compiled s.columns.now s.names.now params e
       → option_map (held_pair s) (find (is_group_at s) (names_held steps)) ≡ option_map (with_datum (datum_of_name (scope_of s))) (group_of (scope_of s) e)
   group_held params steps e same =
-      ap (λ hs. option_map (held_pair s) (find (is_group_at s) hs)) (ap names_held same ∙ expr_names (columns_of s.header) s.names.now params e)
+      ap (λ hs. option_map (held_pair s) (find (is_group_at s) hs)) (ap names_held same ∙ expr_names s.columns.now s.names.now params e)
       ∙ ap (λ o. option_map (held_pair s) o) (find_placed (names_in e))
       ∙ held_of (group_of (scope_of s) e)
 

@@ -9,8 +9,8 @@ use Rattle.gql_values3.specs.declared.value.Value.{Value}
 use Rattle.gql_ast.specs.Scope.{Entry, entry_of, row_scope, datum_in, datum_of_name, group_in, is_group_name, holds_group}
 use Rattle.gql_eval.specs.Bound.{match_scope}
 use Rattle.gql_eval.specs.Machinery.Places.{place_among, places_among}
-use Rattle.gql_eval.specs.Machinery.ScopeMeaning.{item_entry, scope_of, rest_of, columns_of}
-use Rattle.gql_eval.specs.Machinery.Program.{held_at, value_there, first_held, is_group_at, column_group, first_group}
+use Rattle.gql_eval.specs.Machinery.ScopeMeaning.{item_entry, scope_of, rest_of}
+use Rattle.gql_eval.specs.Machinery.AtPlaces.{held_at, value_there, first_held, is_group_at, column_group, first_group}
 use Rattle.gql_eval.specs.declared.places.Places.{Places}
 use Rattle.gql_eval.specs.declared.scope.Scope.{Scope}
 use Rattle.gql_eval.proofs.ScopeLemmas.{entry_append, first, bound_placed, group_placed}
@@ -38,14 +38,14 @@ held_first (Some e) b c = refl
 held_first None (Some e) c = refl
 held_first None None c = refl
 
-pub held_is : (s : Scope) (x : List ℕ) → held_at s (places_among (columns_of s.header) s.names.now x) x ≡ datum_of_name (scope_of s) x
+pub held_is : (s : Scope) (x : List ℕ) → held_at s (places_among s.columns.now s.names.now x) x ≡ datum_of_name (scope_of s) x
 unfolding scope_of rest_of
 held_is s x =
     let front = map item_entry s.front.now in
-    let row = row_scope (columns_of s.header) (map datum_of s.row.now) in
+    let row = row_scope s.columns.now (map datum_of s.row.now) in
     let behind = match_scope s.names.now s.bound.now in
-    ap (λ d. first_held (entry_of front x) (value_there (map datum_of s.row.now) (place_among (columns_of s.header) x)) d) (bound_placed s.names.now s.bound.now x)
-    ∙ ap (λ o. first_held (entry_of front x) o (datum_of_name behind x)) (value_placed (columns_of s.header) (map datum_of s.row.now) x)
+    ap (λ d. first_held (entry_of front x) (value_there (map datum_of s.row.now) (place_among s.columns.now x)) d) (bound_placed s.names.now s.bound.now x)
+    ∙ ap (λ o. first_held (entry_of front x) o (datum_of_name behind x)) (value_placed s.columns.now (map datum_of s.row.now) x)
     ∙ held_first (entry_of front x) (entry_of row x) (entry_of behind x)
     ∙ ap datum_in (ap (first (entry_of front x)) (sym (entry_append row behind x)) ∙ sym (entry_append front (row ++ behind) x))
 
@@ -84,14 +84,14 @@ group_first (Some e) b c = refl
 group_first None (Some e) c = refl
 group_first None None c = refl
 
-pub group_is : (s : Scope) (x : List ℕ) → is_group_at s (places_among (columns_of s.header) s.names.now x, x) ≡ is_group_name (scope_of s) x
+pub group_is : (s : Scope) (x : List ℕ) → is_group_at s (places_among s.columns.now s.names.now x, x) ≡ is_group_name (scope_of s) x
 unfolding scope_of rest_of
 group_is s x =
     let front = map item_entry s.front.now in
-    let row = row_scope (columns_of s.header) (map datum_of s.row.now) in
+    let row = row_scope s.columns.now (map datum_of s.row.now) in
     let behind = match_scope s.names.now s.bound.now in
-    ap (λ b. first_group (entry_of front x) (column_group (columns_of s.header) (map datum_of s.row.now) (place_among (columns_of s.header) x)) b) (group_placed s.names.now s.bound.now x)
-    ∙ ap (λ o. first_group (entry_of front x) o (is_group_name behind x)) (group_in_row (columns_of s.header) (map datum_of s.row.now) x)
+    ap (λ b. first_group (entry_of front x) (column_group s.columns.now (map datum_of s.row.now) (place_among s.columns.now x)) b) (group_placed s.names.now s.bound.now x)
+    ∙ ap (λ o. first_group (entry_of front x) o (is_group_name behind x)) (group_in_row s.columns.now (map datum_of s.row.now) x)
     ∙ group_first (entry_of front x) (entry_of row x) (entry_of behind x)
     ∙ ap group_in (ap (first (entry_of front x)) (sym (entry_append row behind x)) ∙ sym (entry_append front (row ++ behind) x))
 

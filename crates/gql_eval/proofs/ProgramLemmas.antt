@@ -21,8 +21,9 @@ use Rattle.gql_ast.specs.Evaluation.{value_of, values_of, first_value, unless_nu
 use Rattle.gql_eval.specs.Machinery.JoinedTruth.{joined_truth}
 use Rattle.gql_eval.specs.Machinery.Operations.{of_operand, of_operands}
 use Rattle.gql_eval.specs.Machinery.Places.{places_among}
-use Rattle.gql_eval.specs.Machinery.ScopeMeaning.{scope_of, columns_of}
-use Rattle.gql_eval.specs.Machinery.Program.{Op, fixed, held_name, held_property, of_one, of_two, join_side, as_truth, join_all, join_any, skip_if, start_list, add_item, end_list, or_else, over_group, pushed, join_by, skipped, acted, ran, ran_past, top_of, all_side, any_side, other_side, listing_steps, aggregate_steps, constant_list, compiled, compiled_items, compiled_others, compiled_chain, compiled_all, compiled_any}
+use Rattle.gql_eval.specs.Machinery.ScopeMeaning.{scope_of}
+use Rattle.gql_eval.specs.Machinery.Steps.{Op, fixed, held_name, held_property, of_one, of_two, join_side, as_truth, join_all, join_any, skip_if, start_list, add_item, end_list, or_else, over_group, pushed, join_by, skipped, acted, ran, ran_past, top_of}
+use Rattle.gql_eval.specs.Machinery.Compiled.{all_side, any_side, other_side, listing_steps, aggregate_steps, constant_list, compiled, compiled_items, compiled_others, compiled_chain, compiled_all, compiled_any}
 use Rattle.gql_eval.specs.declared.scope.Scope.{Scope}
 use Rattle.gql_eval.specs.CowValue.{cow_datum}
 use Rattle.gql_eval.specs.Gives.{Fails, Gives}
@@ -82,7 +83,7 @@ module _ (g : PropertyGraph) (params : List (List ℕ × Datum)) (s : Scope) whe
   value e = value_of g params (scope_of s) e
 
   abbrev code : Tree → List Op
-  code e = compiled (columns_of s.header) s.names.now params e
+  code e = compiled s.columns.now s.names.now params e
 
   -- the steps put what is given
   abbrev Runs : List Op → Result Datum DataFault → Type 0
@@ -228,8 +229,8 @@ module _ (g : PropertyGraph) (params : List (List ℕ × Datum)) (s : Scope) whe
   any_step operator.Divide steps more r h runs on = or_step operator.Divide steps more r h runs on (λ side. refl) (λ side. refl) (λ side. refl)
 
   -- what a name stands for
-  name_runs : (x : List ℕ) → Runs (held_name (places_among (columns_of s.header) s.names.now x) x ∷ []) (Ok (datum_of_name (scope_of s) x))
-  name_runs x = lone (held_name (places_among (columns_of s.header) s.names.now x) x) (Ok (datum_of_name (scope_of s) x)) (λ st. refl) (λ st. ap (λ d. pushed st (Ok d)) (held_is s x))
+  name_runs : (x : List ℕ) → Runs (held_name (places_among s.columns.now s.names.now x) x ∷ []) (Ok (datum_of_name (scope_of s) x))
+  name_runs x = lone (held_name (places_among s.columns.now s.names.now x) x) (Ok (datum_of_name (scope_of s) x)) (λ st. refl) (λ st. ap (λ d. pushed st (Ok d)) (held_is s x))
 
   -- a step that puts a value and skips the steps behind it
   past_then : (r : Result Datum DataFault) (steps os : List Op) (st : List Datum) → (pushed st r >>= λ after. ran_past g params s (steps ++ os) (length steps) after) ≡ (r >>= λ d. run os (d ∷ st))
@@ -287,62 +288,62 @@ module _ (g : PropertyGraph) (params : List (List ℕ × Datum)) (s : Scope) whe
     runs (number n) = lone (fixed (integer (pos (value_of_digits n)))) (Ok (integer (pos (value_of_digits n)))) (λ st. refl) (λ st. refl)
     runs (parameter p) = lone (fixed (parameter_value params p)) (Ok (parameter_value params p)) (λ st. refl) (λ st. refl)
     runs (name x) = name_runs x
-    runs (property x p) = lone (held_property (places_among (columns_of s.header) s.names.now x) x p) (property_value g (datum_of_name (scope_of s) x) p) (λ st. refl) (λ st. ap (λ d. pushed st (property_value g d p)) (held_is s x))
+    runs (property x p) = lone (held_property (places_among s.columns.now s.names.now x) x p) (property_value g (datum_of_name (scope_of s) x) p) (λ st. refl) (λ st. ap (λ d. pushed st (property_value g d p)) (held_is s x))
     runs (paren e) = runs e
-    runs (listing es) = list_runs (constant_list params es) (compiled_items (columns_of s.header) s.names.now params es) (values_of g params (scope_of s) es) (λ l known. constant_list_value g params (scope_of s) es l known) (items_run es)
+    runs (listing es) = list_runs (constant_list params es) (compiled_items s.columns.now s.names.now params es) (values_of g params (scope_of s) es) (λ l known. constant_list_value g params (scope_of s) es l known) (items_run es)
     runs count_all = lone (fixed null) (Ok null) (λ st. refl) (λ st. refl)
     runs (aggregate a q e) = λ os st. past_then (value (aggregate a q e)) (code e) os st
     runs (call f e) = one_then (code e) (of_one (call f e)) (value e) (of_operand g (call f e)) (runs e) (λ st. refl) (λ d st. refl)
     runs (modulo a b) = two (modulo a b) (code a) (code b) (value a) (value b) (runs a) (runs b)
-    runs (coalesce e es) = then_on (code e) (compiled_others (columns_of s.header) s.names.now params es) (value e) (λ d. unless_null d (first_value g params (scope_of s) es)) (runs e) (others_run es)
+    runs (coalesce e es) = then_on (code e) (compiled_others s.columns.now s.names.now params es) (value e) (λ d. unless_null d (first_value g params (scope_of s) es)) (runs e) (others_run es)
     runs (signed n e) = one_then (code e) (of_one (signed n e)) (value e) (of_operand g (signed n e)) (runs e) (λ st. refl) (λ d st. refl)
-    runs (product e ls) = then_on (code e) (compiled_chain (columns_of s.header) s.names.now params ls) (value e) (λ d. chained g params (scope_of s) d ls) (runs e) (chain_runs ls)
-    runs (sum e ls) = then_on (code e) (compiled_chain (columns_of s.header) s.names.now params ls) (value e) (λ d. chained g params (scope_of s) d ls) (runs e) (chain_runs ls)
+    runs (product e ls) = then_on (code e) (compiled_chain s.columns.now s.names.now params ls) (value e) (λ d. chained g params (scope_of s) d ls) (runs e) (chain_runs ls)
+    runs (sum e ls) = then_on (code e) (compiled_chain s.columns.now s.names.now params ls) (value e) (λ d. chained g params (scope_of s) d ls) (runs e) (chain_runs ls)
     runs (comparing op a b) = two (comparing op a b) (code a) (code b) (value a) (value b) (runs a) (runs b)
     runs (test e n q) = one_then (code e) (of_one (test e n q)) (value e) (of_operand g (test e n q)) (runs e) (λ st. refl) (λ d st. refl)
     runs (label_test e n l) = one_then (code e) (of_one (label_test e n l)) (value e) (of_operand g (label_test e n l)) (runs e) (λ st. refl) (λ d st. refl)
-    runs (end_test e n which x) = two (end_test e n which x) (code e) (held_name (places_among (columns_of s.header) s.names.now x) x ∷ []) (value e) (Ok (datum_of_name (scope_of s) x)) (runs e) (name_runs x)
+    runs (end_test e n which x) = two (end_test e n which x) (code e) (held_name (places_among s.columns.now s.names.now x) x ∷ []) (value e) (Ok (datum_of_name (scope_of s) x)) (runs e) (name_runs x)
     runs (negation e) = λ os st.
         one_then (code e) (of_one (negation e)) (value e) (of_operand g (negation e)) (runs e) (λ st. refl) (λ d st. refl) os st
         ∙ ap (λ r. r >>= λ d. run os (d ∷ st)) (sym (bind_assoc (value e) truth_in (λ t. Ok (datum_of_truth (negated t)))))
     runs (conjunction e ls) = λ os st.
-        then_on (code e) (as_truth ∷ compiled_all (columns_of s.header) s.names.now params ls) (value e) (λ d. truth_in d >>= λ t. all_of g params (scope_of s) t ls >>= λ u. Ok (datum_of_truth u)) (runs e)
-        (read_on (compiled_all (columns_of s.header) s.names.now params ls) (λ t. all_of g params (scope_of s) t ls) (all_runs ls)) os st
+        then_on (code e) (as_truth ∷ compiled_all s.columns.now s.names.now params ls) (value e) (λ d. truth_in d >>= λ t. all_of g params (scope_of s) t ls >>= λ u. Ok (datum_of_truth u)) (runs e)
+        (read_on (compiled_all s.columns.now s.names.now params ls) (λ t. all_of g params (scope_of s) t ls) (all_runs ls)) os st
         ∙ ap (λ r. r >>= λ d. run os (d ∷ st)) (sym (bind_assoc (value e) truth_in (λ t. all_of g params (scope_of s) t ls >>= λ u. Ok (datum_of_truth u))))
     runs (disjunction e ls) = λ os st.
-        then_on (code e) (as_truth ∷ compiled_any (columns_of s.header) s.names.now params ls) (value e) (λ d. truth_in d >>= λ t. any_of g params (scope_of s) t ls >>= λ u. Ok (datum_of_truth u)) (runs e)
-        (read_on (compiled_any (columns_of s.header) s.names.now params ls) (λ t. any_of g params (scope_of s) t ls) (any_runs ls)) os st
+        then_on (code e) (as_truth ∷ compiled_any s.columns.now s.names.now params ls) (value e) (λ d. truth_in d >>= λ t. any_of g params (scope_of s) t ls >>= λ u. Ok (datum_of_truth u)) (runs e)
+        (read_on (compiled_any s.columns.now s.names.now params ls) (λ t. any_of g params (scope_of s) t ls) (any_runs ls)) os st
         ∙ ap (λ r. r >>= λ d. run os (d ∷ st)) (sym (bind_assoc (value e) truth_in (λ t. any_of g params (scope_of s) t ls >>= λ u. Ok (datum_of_truth u))))
 
     -- the items of a list
-    pub items_run : (es : Trees) → RunsOnList (compiled_items (columns_of s.header) s.names.now params es) (values_of g params (scope_of s) es)
+    pub items_run : (es : Trees) → RunsOnList (compiled_items s.columns.now s.names.now params es) (values_of g params (scope_of s) es)
     items_run no_trees = λ os st ds. ap (λ all. run os (list (data_of all) ∷ st)) (sym (append_none ds))
-    items_run (more_trees e es) = item_run (code e) (compiled_items (columns_of s.header) s.names.now params es) (value e) (values_of g params (scope_of s) es) (runs e) (items_run es)
+    items_run (more_trees e es) = item_run (code e) (compiled_items s.columns.now s.names.now params es) (value e) (values_of g params (scope_of s) es) (runs e) (items_run es)
 
     -- what COALESCE goes on to
-    pub others_run : (es : Trees) → RunsOn (compiled_others (columns_of s.header) s.names.now params es) (λ d. unless_null d (first_value g params (scope_of s) es))
+    pub others_run : (es : Trees) → RunsOn (compiled_others s.columns.now s.names.now params es) (λ d. unless_null d (first_value g params (scope_of s) es))
     others_run no_trees = λ os st d. ap (λ r. r >>= λ y. run os (y ∷ st)) (sym (null_again d))
     others_run (more_trees e es) =
-        other_on (code e ++ compiled_others (columns_of s.header) s.names.now params es) (first_value g params (scope_of s) (more_trees e es))
-        (then_on (code e) (compiled_others (columns_of s.header) s.names.now params es) (value e) (λ d. unless_null d (first_value g params (scope_of s) es)) (runs e) (others_run es))
+        other_on (code e ++ compiled_others s.columns.now s.names.now params es) (first_value g params (scope_of s) (more_trees e es))
+        (then_on (code e) (compiled_others s.columns.now s.names.now params es) (value e) (λ d. unless_null d (first_value g params (scope_of s) es)) (runs e) (others_run es))
 
     -- the sides of a chain
-    pub chain_runs : (ls : Links) → RunsOn (compiled_chain (columns_of s.header) s.names.now params ls) (λ d. chained g params (scope_of s) d ls)
+    pub chain_runs : (ls : Links) → RunsOn (compiled_chain s.columns.now s.names.now params ls) (λ d. chained g params (scope_of s) d ls)
     chain_runs no_links = λ os st d. refl
     chain_runs (more_links (link op e) ls) =
-        side_then (code e) (compiled_chain (columns_of s.header) s.names.now params ls) op (value e) (λ y. chained g params (scope_of s) y ls) (runs e) (chain_runs ls)
+        side_then (code e) (compiled_chain s.columns.now s.names.now params ls) op (value e) (λ y. chained g params (scope_of s) y ls) (runs e) (chain_runs ls)
 
     -- the sides of AND
-    pub all_runs : (ls : Links) → RunsOnTruth (compiled_all (columns_of s.header) s.names.now params ls) (λ t. all_of g params (scope_of s) t ls)
+    pub all_runs : (ls : Links) → RunsOnTruth (compiled_all s.columns.now s.names.now params ls) (λ t. all_of g params (scope_of s) t ls)
     all_runs no_links = λ os st t. refl
     all_runs (more_links (link op e) ls) =
-        all_step (code e) (compiled_all (columns_of s.header) s.names.now params ls) (value e) (λ u. all_of g params (scope_of s) u ls) (runs e) (all_runs ls) (all_of_false g params (scope_of s) ls)
+        all_step (code e) (compiled_all s.columns.now s.names.now params ls) (value e) (λ u. all_of g params (scope_of s) u ls) (runs e) (all_runs ls) (all_of_false g params (scope_of s) ls)
 
     -- the sides of OR and XOR
-    pub any_runs : (ls : Links) → RunsOnTruth (compiled_any (columns_of s.header) s.names.now params ls) (λ t. any_of g params (scope_of s) t ls)
+    pub any_runs : (ls : Links) → RunsOnTruth (compiled_any s.columns.now s.names.now params ls) (λ t. any_of g params (scope_of s) t ls)
     any_runs no_links = λ os st t. refl
     any_runs (more_links (link op e) ls) =
-        any_step op (code e) (compiled_any (columns_of s.header) s.names.now params ls) (value e) (λ u. any_of g params (scope_of s) u ls) (runs e) (any_runs ls)
+        any_step op (code e) (compiled_any s.columns.now s.names.now params ls) (value e) (λ u. any_of g params (scope_of s) u ls) (runs e) (any_runs ls)
 
   -- in the end the value stands on top
   pub ends : (e : Tree) → (run (code e) [] >>= top_of) ≡ value e
@@ -374,7 +375,7 @@ ran_past_first g params s is (suc n) (suc count) st h =
 
 -- what a prepared program puts
 pub prepared_value : (g : PropertyGraph) (params : List (List ℕ × Datum)) (s : Scope) (steps : List Op) (e : Tree) (answer : Result CowValue EvalError)
-    → Gives cow_datum answer (next (ran g params s steps []) top_of) → steps ≡ compiled (columns_of s.header) s.names.now params e → Gives cow_datum answer (value_of g params (scope_of s) e)
+    → Gives cow_datum answer (next (ran g params s steps []) top_of) → steps ≡ compiled s.columns.now s.names.now params e → Gives cow_datum answer (value_of g params (scope_of s) e)
 prepared_value g params s steps e answer given same = rw (← ends g params s e) (rw (← same) given)
 
 -- a program of one step

@@ -11,7 +11,7 @@ use Rattle.gql_ast.specs.Scope.{Scope, Entry, entry_of, datum_in, datum_of_name,
 use Rattle.gql_values3.specs.declared.table.Binding.{Binding}
 use Rattle.gql_eval.specs.declared.scope.Item.{Item}
 use Rattle.gql_eval.specs.Machinery.Places.{place_among, name_among}
-use Rattle.gql_eval.specs.Machinery.Program.{binding_there, bound_there}
+use Rattle.gql_eval.specs.Machinery.AtPlaces.{binding_there, bound_there}
 use Rattle.gql_eval.specs.Machinery.ScopeMeaning.{item_entry, column_entry}
 use Rattle.gql_eval.specs.Bound.{bound_scope, match_scope, bound_entry, bound_datum, is_bound_group}
 

@@ -2,7 +2,7 @@
 use Rattle.std.proofs.Common.{◌≡◌, ℕ, ◌+◌, ◌-◌, ◌≤◌, List, ◌∷◌, ◌++◌, length, ap, sym, ◌∙◌, arith}
 use Rattle.std.proofs.lemmas.List.{length-append}
 use Rattle.gql_eval.specs.Machinery.InstructionMeaning.{op_of, program_of}
-use Rattle.gql_eval.specs.Machinery.Program.{Op}
+use Rattle.gql_eval.specs.Machinery.Steps.{Op}
 use Rattle.gql_eval.specs.declared.instruction.Instruction.{Instruction}
 use Rattle.gql_eval.proofs.TurnedLemmas.{length_turned}
 

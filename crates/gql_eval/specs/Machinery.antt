@@ -2,12 +2,15 @@
 pub mod Next
 pub mod ScopeMeaning
 pub mod Places
+pub mod AtPlaces
 pub mod Operations
 pub mod JoinedTruth
 pub mod Kept
+pub mod Furthest
 pub mod WholeSum
 pub mod Ranked
 pub mod Turned
-pub mod Program
+pub mod Steps
+pub mod Compiled
 pub mod InstructionMeaning
 pub mod HeldGroup

@@ -3,9 +3,10 @@
 ghost use Rattle.std.specs.Prelude.{◌≡◌, ◌∷◌, map, filter, not, IfOk, List as ListOf};
 ghost use Rattle.gql_values3.specs.Meaning.{datum_of};
 ghost use Rattle.gql_values3.specs.Datum.{is_null};
-ghost use Rattle.gql_ast.specs.Aggregates.{considered, distinct, aggregated, addend, summed, lesser, greater, least, least_of, greatest, greatest_of};
+ghost use Rattle.gql_ast.specs.Aggregates.{considered, distinct, aggregated, addend, summed, least, greatest};
 ghost use Rattle.gql_values3.specs.Datum.{Datum};
 ghost use Rattle.gql_eval.specs.Extremes.{IsLeast, IsGreatest};
+ghost use Rattle.gql_eval.specs.Machinery.Furthest.{further, furthest_of, extreme_of};
 ghost use Rattle.gql_eval.specs.Machinery.Kept.{kept};
 ghost use Rattle.gql_eval.specs.Machinery.WholeSum.{total_of};
 ghost use Rattle.gql_eval.specs.Gives.{Gives, GivesExactly};
@@ -79,8 +80,8 @@ fn aggregate_left(alloc: Global, word: Aggregate, values: &[&Value]) -> Result<V
     match word {
         Aggregate::Count => Ok(count_value(values.len())?),
         Aggregate::Sum => Ok(sum(values)?),
-        Aggregate::Min => Ok(least_value(alloc, values)?),
-        Aggregate::Max => Ok(greatest_value(alloc, values)?),
+        Aggregate::Min => Ok(extreme_value(alloc, Extreme::Least, values)?),
+        Aggregate::Max => Ok(extreme_value(alloc, Extreme::Greatest, values)?),
         Aggregate::CollectList => Ok(list_value(copies(alloc, values)?)?),
     }
 }
@@ -150,54 +151,43 @@ fn addend_of(value: &Value) -> Result<i64, DataFault>
     }
 }
 
-fn least_value(alloc: Global, values: &[&Value]) -> Result<Value, OutOfMemory>
-    ensures { IfOk result (λ value. datum_of value ≡ least (map (λ v. datum_of v.now) values.now)) }
+/// Which end of the total order is asked for.
+#[derive(Clone, Copy)]
+enum Extreme {
+    Least,
+    Greatest,
+}
+
+/// The value at that end, or NULL of nothing.
+fn extreme_value(alloc: Global, extreme: Extreme, values: &[&Value]) -> Result<Value, OutOfMemory>
+    ensures { IfOk result (λ value. datum_of value ≡ extreme_of extreme (map (λ v. datum_of v.now) values.now)) }
 {
     match values {
         [] => Ok(Value::Null),
-        [first, rest @ ..] => least_among(*first, rest).try_copy(alloc),
+        [first, rest @ ..] => furthest_among(extreme, *first, rest).try_copy(alloc),
     }
 }
 
-fn least_among<'a>(first: &'a Value, rest: &[&'a Value]) -> &'a Value
-    ensures { datum_of result.now ≡ least_of (datum_of first.now) (map (λ v. datum_of v.now) rest.now) }
+/// The first of those that are furthest towards that end.
+fn furthest_among<'a>(extreme: Extreme, first: &'a Value, rest: &[&'a Value]) -> &'a Value
+    ensures { datum_of result.now ≡ furthest_of extreme (datum_of first.now) (map (λ v. datum_of v.now) rest.now) }
 {
     let mut best = first;
     for i in 0..rest.len() {
-        best = lesser_value(best, rest[i]);
+        best = further_value(extreme, best, rest[i]);
     }
     best
 }
 
-fn lesser_value<'a>(a: &'a Value, b: &'a Value) -> &'a Value
-    ensures { datum_of result.now ≡ lesser (datum_of a.now) (datum_of b.now) }
+/// The further of two; the first where they are equal.
+fn further_value<'a>(extreme: Extreme, a: &'a Value, b: &'a Value) -> &'a Value
+    ensures { datum_of result.now ≡ further extreme (datum_of a.now) (datum_of b.now) }
 {
-    if total_cmp(b, a).is_lt() { b } else { a }
-}
-
-fn greatest_value(alloc: Global, values: &[&Value]) -> Result<Value, OutOfMemory>
-    ensures { IfOk result (λ value. datum_of value ≡ greatest (map (λ v. datum_of v.now) values.now)) }
-{
-    match values {
-        [] => Ok(Value::Null),
-        [first, rest @ ..] => greatest_among(*first, rest).try_copy(alloc),
+    let order = total_cmp(b, a);
+    match extreme {
+        Extreme::Least => { if order.is_lt() { b } else { a } }
+        Extreme::Greatest => { if order.is_gt() { b } else { a } }
     }
-}
-
-fn greatest_among<'a>(first: &'a Value, rest: &[&'a Value]) -> &'a Value
-    ensures { datum_of result.now ≡ greatest_of (datum_of first.now) (map (λ v. datum_of v.now) rest.now) }
-{
-    let mut best = first;
-    for i in 0..rest.len() {
-        best = greater_value(best, rest[i]);
-    }
-    best
-}
-
-fn greater_value<'a>(a: &'a Value, b: &'a Value) -> &'a Value
-    ensures { datum_of result.now ≡ greater (datum_of a.now) (datum_of b.now) }
-{
-    if total_cmp(b, a).is_gt() { b } else { a }
 }
 
 fn copies(alloc: Global, values: &[&Value]) -> Result<List, OutOfMemory>

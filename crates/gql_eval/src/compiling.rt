@@ -4,8 +4,8 @@ ghost use Rattle.std.specs.Prelude.{◌≡◌, [], ◌∷◌, ◌++◌, map, OnO
 ghost use Rattle.gql_ast.specs.Tree.{trees_of, links_of};
 ghost use Rattle.gql_ast.specs.Meaning.{tree_of, link_of};
 ghost use Rattle.gql_eval.specs.CowValue.{cow_datum};
-ghost use Rattle.gql_eval.specs.Machinery.Program.{compiled, compiled_items, compiled_others, listing_steps, constant_list, aggregate_steps, compiled_chain, compiled_all, compiled_any, any_side, is_xor, as_truth, join_any, of_one, of_two};
-ghost use Rattle.gql_eval.specs.Machinery.ScopeMeaning.{columns_of};
+ghost use Rattle.gql_eval.specs.Machinery.Steps.{as_truth, join_any, of_one, of_two};
+ghost use Rattle.gql_eval.specs.Machinery.Compiled.{compiled, compiled_items, compiled_others, listing_steps, constant_list, aggregate_steps, compiled_chain, compiled_all, compiled_any, any_side, is_xor};
 ghost use Rattle.gql_eval.specs.Machinery.InstructionMeaning.{op_of, program_of};
 
 use crate::constants::constant_list;
@@ -13,22 +13,21 @@ use crate::cow::CowValue;
 use crate::instruction::Instruction;
 use crate::leaves::{number_within, parameter};
 use crate::places::places_in;
-use crate::scope::Header;
 use gql_ast::{Aggregate, Expr, Operator, SetQuantifier, Step};
-use gql_values3::{OutOfMemory, Params, Text, Value};
+use gql_values3::{ColumnKind, OutOfMemory, Params, Text, Value};
 
 // A program is made and kept from its last step on.
 
 /// Puts the steps of the expression in front of a program.
 #[cycle(compiling)]
 pub fn compile<'a>(
-    header: Header<'a>,
+    columns: &'a [(Text, ColumnKind)],
     names: &'a [Text],
     params: &'a Params,
     expr: &'a Expr,
     program: &mut Vec<Instruction<'a>>,
 ) -> Result<(), OutOfMemory>
-    ensures { OnOk result (program_of program.new.items ≡ compiled (columns_of header.entry) names.now params.now (tree_of expr.now) ++ program_of program.old.items) }
+    ensures { OnOk result (program_of program.new.items ≡ compiled columns.now names.now params.now (tree_of expr.now) ++ program_of program.old.items) }
 {
     match expr {
         Expr::Constant(value) => put(program, Instruction::Fixed(CowValue::Borrowed(value))),
@@ -43,17 +42,17 @@ pub fn compile<'a>(
         Expr::Parameter(name) => put(program, Instruction::Fixed(parameter(params, name))),
         Expr::Name(name) => put(
             program,
-            Instruction::Name(places_in(header, names, name), name),
+            Instruction::Name(places_in(columns, names, name), name),
         ),
         Expr::Property(name, key) => put(
             program,
-            Instruction::Property(places_in(header, names, name), name, key),
+            Instruction::Property(places_in(columns, names, name), name, key),
         ),
-        Expr::Paren(part) => compile(header, names, params, part.expr(), program),
-        Expr::List(parts) => list(header, names, params, parts.as_slice(), program),
+        Expr::Paren(part) => compile(columns, names, params, part.expr(), program),
+        Expr::List(parts) => list(columns, names, params, parts.as_slice(), program),
         Expr::Aggregate(word, quantifier, part) => {
             over_group(
-                header,
+                columns,
                 names,
                 params,
                 *word,
@@ -63,28 +62,28 @@ pub fn compile<'a>(
             )
         }
         Expr::Coalesce(first, rest) => {
-            others(header, names, params, rest.as_slice(), program)?;
-            compile(header, names, params, first.expr(), program)
+            others(columns, names, params, rest.as_slice(), program)?;
+            compile(columns, names, params, first.expr(), program)
         }
         Expr::IsEnd(part, _, _, edge) => {
             put(program, Instruction::OfTwo(expr))?;
             put(
                 program,
-                Instruction::Name(places_in(header, names, edge), edge),
+                Instruction::Name(places_in(columns, names, edge), edge),
             )?;
-            compile(header, names, params, part.expr(), program)
+            compile(columns, names, params, part.expr(), program)
         }
         Expr::Call(_, part)
         | Expr::Signed(_, part)
         | Expr::Is(part, _, _)
         | Expr::IsLabeled(part, _, _)
-        | Expr::Not(part) => operation(header, names, params, expr, part.expr(), program),
+        | Expr::Not(part) => operation(columns, names, params, expr, part.expr(), program),
         Expr::Mod(a, b) | Expr::Compare(_, a, b) => {
-            binary(header, names, params, expr, a.expr(), b.expr(), program)
+            binary(columns, names, params, expr, a.expr(), b.expr(), program)
         }
         Expr::Product(first, steps) | Expr::Sum(first, steps) => {
             chain(
-                header,
+                columns,
                 names,
                 params,
                 first.expr(),
@@ -93,12 +92,12 @@ pub fn compile<'a>(
             )
         }
         Expr::And(first, steps) => {
-            all_sides(header, names, params, steps.as_slice(), program)?;
-            put_truth(header, names, params, first.expr(), program)
+            all_sides(columns, names, params, steps.as_slice(), program)?;
+            put_truth(columns, names, params, first.expr(), program)
         }
         Expr::Or(first, steps) => {
-            any_sides(header, names, params, steps.as_slice(), program)?;
-            put_truth(header, names, params, first.expr(), program)
+            any_sides(columns, names, params, steps.as_slice(), program)?;
+            put_truth(columns, names, params, first.expr(), program)
         }
     }
 }
@@ -115,23 +114,23 @@ pub fn put<'a>(program: &mut Vec<Instruction<'a>>, step: Instruction<'a>) -> Res
 #[inline(never)]
 #[cycle(compiling)]
 fn operation<'a>(
-    header: Header<'a>,
+    columns: &'a [(Text, ColumnKind)],
     names: &'a [Text],
     params: &'a Params,
     expr: &'a Expr,
     part: &'a Expr,
     program: &mut Vec<Instruction<'a>>,
 ) -> Result<(), OutOfMemory>
-    ensures { OnOk result (program_of program.new.items ≡ compiled (columns_of header.entry) names.now params.now (tree_of part.now) ++ of_one (tree_of expr.now) ∷ program_of program.old.items) }
+    ensures { OnOk result (program_of program.new.items ≡ compiled columns.now names.now params.now (tree_of part.now) ++ of_one (tree_of expr.now) ∷ program_of program.old.items) }
 {
     put(program, Instruction::OfOne(expr))?;
-    compile(header, names, params, part, program)
+    compile(columns, names, params, part, program)
 }
 
 #[inline(never)]
 #[cycle(compiling)]
 fn binary<'a>(
-    header: Header<'a>,
+    columns: &'a [(Text, ColumnKind)],
     names: &'a [Text],
     params: &'a Params,
     expr: &'a Expr,
@@ -139,31 +138,31 @@ fn binary<'a>(
     b: &'a Expr,
     program: &mut Vec<Instruction<'a>>,
 ) -> Result<(), OutOfMemory>
-    ensures { OnOk result (program_of program.new.items ≡ compiled (columns_of header.entry) names.now params.now (tree_of a.now) ++ (compiled (columns_of header.entry) names.now params.now (tree_of b.now) ++ of_two (tree_of expr.now) ∷ program_of program.old.items)) }
+    ensures { OnOk result (program_of program.new.items ≡ compiled columns.now names.now params.now (tree_of a.now) ++ (compiled columns.now names.now params.now (tree_of b.now) ++ of_two (tree_of expr.now) ∷ program_of program.old.items)) }
 {
     put(program, Instruction::OfTwo(expr))?;
-    compile(header, names, params, b, program)?;
-    compile(header, names, params, a, program)
+    compile(columns, names, params, b, program)?;
+    compile(columns, names, params, a, program)
 }
 
 /// Puts the steps of a list; one of constants alone is made here.
 #[inline(never)]
 #[cycle(compiling)]
 fn list<'a>(
-    header: Header<'a>,
+    columns: &'a [(Text, ColumnKind)],
     names: &'a [Text],
     params: &'a Params,
     parts: &'a [Expr],
     program: &mut Vec<Instruction<'a>>,
 ) -> Result<(), OutOfMemory>
-    ensures { OnOk result (program_of program.new.items ≡ listing_steps (constant_list params.now (trees_of (map tree_of parts.now))) (compiled_items (columns_of header.entry) names.now params.now (trees_of (map tree_of parts.now))) ++ program_of program.old.items) }
+    ensures { OnOk result (program_of program.new.items ≡ listing_steps (constant_list params.now (trees_of (map tree_of parts.now))) (compiled_items columns.now names.now params.now (trees_of (map tree_of parts.now))) ++ program_of program.old.items) }
 {
     let alloc = *program.allocator();
     if let Some(value) = constant_list(alloc, params, parts)? {
         return put(program, Instruction::Fixed(CowValue::Owned(value)));
     }
     put(program, Instruction::EndList)?;
-    items(header, names, params, parts, program)?;
+    items(columns, names, params, parts, program)?;
     put(program, Instruction::StartList)
 }
 
@@ -171,17 +170,17 @@ fn list<'a>(
 #[inline(never)]
 #[cycle(compiling)]
 fn items<'a>(
-    header: Header<'a>,
+    columns: &'a [(Text, ColumnKind)],
     names: &'a [Text],
     params: &'a Params,
     parts: &'a [Expr],
     program: &mut Vec<Instruction<'a>>,
 ) -> Result<(), OutOfMemory>
-    ensures { OnOk result (program_of program.new.items ≡ compiled_items (columns_of header.entry) names.now params.now (trees_of (map tree_of parts.now)) ++ program_of program.old.items) }
+    ensures { OnOk result (program_of program.new.items ≡ compiled_items columns.now names.now params.now (trees_of (map tree_of parts.now)) ++ program_of program.old.items) }
 {
     for i in (0..parts.len()).rev() {
         put(program, Instruction::AddItem)?;
-        compile(header, names, params, &parts[i], program)?;
+        compile(columns, names, params, &parts[i], program)?;
     }
     Ok(())
 }
@@ -190,17 +189,17 @@ fn items<'a>(
 #[inline(never)]
 #[cycle(compiling)]
 fn others<'a>(
-    header: Header<'a>,
+    columns: &'a [(Text, ColumnKind)],
     names: &'a [Text],
     params: &'a Params,
     parts: &'a [Expr],
     program: &mut Vec<Instruction<'a>>,
 ) -> Result<(), OutOfMemory>
-    ensures { OnOk result (program_of program.new.items ≡ compiled_others (columns_of header.entry) names.now params.now (trees_of (map tree_of parts.now)) ++ program_of program.old.items) }
+    ensures { OnOk result (program_of program.new.items ≡ compiled_others columns.now names.now params.now (trees_of (map tree_of parts.now)) ++ program_of program.old.items) }
 {
     let behind = program.len();
     for i in (0..parts.len()).rev() {
-        compile(header, names, params, &parts[i], program)?;
+        compile(columns, names, params, &parts[i], program)?;
         let count = program.len() - behind;
         put(program, Instruction::OrElse(count))?;
     }
@@ -211,7 +210,7 @@ fn others<'a>(
 #[inline(never)]
 #[cycle(compiling)]
 fn over_group<'a>(
-    header: Header<'a>,
+    columns: &'a [(Text, ColumnKind)],
     names: &'a [Text],
     params: &'a Params,
     word: Aggregate,
@@ -219,10 +218,10 @@ fn over_group<'a>(
     part: &'a Expr,
     program: &mut Vec<Instruction<'a>>,
 ) -> Result<(), OutOfMemory>
-    ensures { OnOk result (program_of program.new.items ≡ aggregate_steps word quantifier (tree_of part.now) (compiled (columns_of header.entry) names.now params.now (tree_of part.now)) ++ program_of program.old.items) }
+    ensures { OnOk result (program_of program.new.items ≡ aggregate_steps word quantifier (tree_of part.now) (compiled columns.now names.now params.now (tree_of part.now)) ++ program_of program.old.items) }
 {
     let behind = program.len();
-    compile(header, names, params, part, program)?;
+    compile(columns, names, params, part, program)?;
     let count = program.len() - behind;
     put(
         program,
@@ -233,56 +232,56 @@ fn over_group<'a>(
 #[inline(never)]
 #[cycle(compiling)]
 fn chain<'a>(
-    header: Header<'a>,
+    columns: &'a [(Text, ColumnKind)],
     names: &'a [Text],
     params: &'a Params,
     first: &'a Expr,
     steps: &'a [Step],
     program: &mut Vec<Instruction<'a>>,
 ) -> Result<(), OutOfMemory>
-    ensures { OnOk result (program_of program.new.items ≡ compiled (columns_of header.entry) names.now params.now (tree_of first.now) ++ (compiled_chain (columns_of header.entry) names.now params.now (links_of (map link_of steps.now)) ++ program_of program.old.items)) }
+    ensures { OnOk result (program_of program.new.items ≡ compiled columns.now names.now params.now (tree_of first.now) ++ (compiled_chain columns.now names.now params.now (links_of (map link_of steps.now)) ++ program_of program.old.items)) }
 {
     for i in (0..steps.len()).rev() {
         let step = &steps[i];
         put(program, Instruction::JoinSide(step.operator))?;
-        compile(header, names, params, &step.operand, program)?;
+        compile(columns, names, params, &step.operand, program)?;
     }
-    compile(header, names, params, first, program)
+    compile(columns, names, params, first, program)
 }
 
 /// Puts the steps of a side that is read as a truth.
 #[inline(never)]
 #[cycle(compiling)]
 fn put_truth<'a>(
-    header: Header<'a>,
+    columns: &'a [(Text, ColumnKind)],
     names: &'a [Text],
     params: &'a Params,
     side: &'a Expr,
     program: &mut Vec<Instruction<'a>>,
 ) -> Result<(), OutOfMemory>
-    ensures { OnOk result (program_of program.new.items ≡ compiled (columns_of header.entry) names.now params.now (tree_of side.now) ++ as_truth ∷ program_of program.old.items) }
+    ensures { OnOk result (program_of program.new.items ≡ compiled columns.now names.now params.now (tree_of side.now) ++ as_truth ∷ program_of program.old.items) }
 {
     put(program, Instruction::AsTruth)?;
-    compile(header, names, params, side, program)
+    compile(columns, names, params, side, program)
 }
 
 /// Puts the steps of the sides of AND behind the first.
 #[inline(never)]
 #[cycle(compiling)]
 fn all_sides<'a>(
-    header: Header<'a>,
+    columns: &'a [(Text, ColumnKind)],
     names: &'a [Text],
     params: &'a Params,
     steps: &'a [Step],
     program: &mut Vec<Instruction<'a>>,
 ) -> Result<(), OutOfMemory>
-    ensures { OnOk result (program_of program.new.items ≡ compiled_all (columns_of header.entry) names.now params.now (links_of (map link_of steps.now)) ++ program_of program.old.items) }
+    ensures { OnOk result (program_of program.new.items ≡ compiled_all columns.now names.now params.now (links_of (map link_of steps.now)) ++ program_of program.old.items) }
 {
     let behind = program.len();
     for i in (0..steps.len()).rev() {
         let step = &steps[i];
         put(program, Instruction::JoinAll)?;
-        compile(header, names, params, &step.operand, program)?;
+        compile(columns, names, params, &step.operand, program)?;
         let count = program.len() - behind;
         put(program, Instruction::SkipIf(false, count))?;
     }
@@ -293,17 +292,24 @@ fn all_sides<'a>(
 #[inline(never)]
 #[cycle(compiling)]
 fn any_sides<'a>(
-    header: Header<'a>,
+    columns: &'a [(Text, ColumnKind)],
     names: &'a [Text],
     params: &'a Params,
     steps: &'a [Step],
     program: &mut Vec<Instruction<'a>>,
 ) -> Result<(), OutOfMemory>
-    ensures { OnOk result (program_of program.new.items ≡ compiled_any (columns_of header.entry) names.now params.now (links_of (map link_of steps.now)) ++ program_of program.old.items) }
+    ensures { OnOk result (program_of program.new.items ≡ compiled_any columns.now names.now params.now (links_of (map link_of steps.now)) ++ program_of program.old.items) }
 {
     for i in (0..steps.len()).rev() {
         let step = &steps[i];
-        put_any_side(header, names, params, step.operator, &step.operand, program)?;
+        put_any_side(
+            columns,
+            names,
+            params,
+            step.operator,
+            &step.operand,
+            program,
+        )?;
     }
     Ok(())
 }
@@ -312,18 +318,18 @@ fn any_sides<'a>(
 #[inline(never)]
 #[cycle(compiling)]
 fn put_any_side<'a>(
-    header: Header<'a>,
+    columns: &'a [(Text, ColumnKind)],
     names: &'a [Text],
     params: &'a Params,
     operator: Operator,
     side: &'a Expr,
     program: &mut Vec<Instruction<'a>>,
 ) -> Result<(), OutOfMemory>
-    ensures { OnOk result (program_of program.new.items ≡ any_side operator (compiled (columns_of header.entry) names.now params.now (tree_of side.now) ++ join_any operator ∷ []) ++ program_of program.old.items) }
+    ensures { OnOk result (program_of program.new.items ≡ any_side operator (compiled columns.now names.now params.now (tree_of side.now) ++ join_any operator ∷ []) ++ program_of program.old.items) }
 {
     let behind = program.len();
     put(program, Instruction::JoinAny(operator))?;
-    compile(header, names, params, side, program)?;
+    compile(columns, names, params, side, program)?;
     if is_xor(operator) {
         return Ok(());
     }

@@ -5,7 +5,7 @@ ghost use Rattle.gql_values3.specs.Meaning.{datum_of};
 ghost use Rattle.gql_ast.specs.Tree.{trees_of};
 ghost use Rattle.gql_ast.specs.Meaning.{tree_of};
 ghost use Rattle.gql_eval.specs.CowValue.{cow_datum};
-ghost use Rattle.gql_eval.specs.Machinery.Program.{constant_of, constants_of, constant_list};
+ghost use Rattle.gql_eval.specs.Machinery.Compiled.{constant_of, constants_of, constant_list};
 
 use crate::cow::CowValue;
 use crate::leaves::{number_within, parameter};

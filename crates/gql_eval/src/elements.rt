@@ -4,7 +4,7 @@ ghost use Rattle.std.specs.Prelude.{◌≡◌, Ok};
 ghost use Rattle.gql_values3.specs.Lookup.{property_of};
 ghost use Rattle.gql_values3.specs.Meaning.{datum_of};
 ghost use Rattle.gql_ast.specs.LabelMeaning.{label_of};
-ghost use Rattle.gql_ast.specs.ElementTests.{is_there, undeleted, element_in, property_value, labeled_value, is_directed, directed_value, is_end, end_value};
+ghost use Rattle.gql_ast.specs.ElementTests.{undeleted, element_in, property_value, labeled_value, is_directed, directed_value, is_end, end_value};
 ghost use Rattle.gql_values3.specs.Datum.{or_null};
 ghost use Rattle.gql_ast.specs.Evaluation.{quality_value};
 ghost use Rattle.gql_eval.specs.Gives.{GivesExactly};

@@ -3,7 +3,8 @@
 ghost use Rattle.std.specs.Prelude.{◌≡◌, find, option_map, IfOk};
 ghost use Rattle.gql_eval.specs.Machinery.HeldGroup.{group_seen, held_pair};
 ghost use Rattle.gql_eval.specs.Machinery.InstructionMeaning.{op_of, program_of};
-ghost use Rattle.gql_eval.specs.Machinery.Program.{is_group_at, name_held, names_held};
+ghost use Rattle.gql_eval.specs.Machinery.AtPlaces.{is_group_at};
+ghost use Rattle.gql_eval.specs.Machinery.Steps.{name_held, names_held};
 
 use crate::cow::CowValue;
 use crate::instruction::Instruction;

@@ -5,7 +5,7 @@ use crate::places::Places;
 use gql_ast::{Aggregate, Expr, Operator, SetQuantifier};
 use gql_values3::Text;
 
-/// A step over a stack of values. Its meaning is `op_of`; what it does is said in `specs/Machinery/Program.antt`.
+/// A step over a stack of values. Its meaning is `op_of`; what it does is said in `specs/Machinery/Steps.antt`.
 #[derive(Drop)]
 pub enum Instruction<'a> {
     /// Puts the value on top.

@@ -8,7 +8,6 @@ ghost use Rattle.gql_eval.specs.Bound.{bound_scope, match_scope};
 
 use crate::matched::{bound_names, bound_values};
 use crate::prepared::Prepared;
-use crate::scope::Header;
 use gql_ast::Expr;
 use gql_values3::{Binding, Bound, Columns, OutOfMemory, Params, Row, Text, Truth, View};
 use std::alloc::Global;
@@ -45,7 +44,6 @@ fn holds_of_match<V: View>(
 ) -> Result<Truth, OutOfMemory>
     ensures { IfOk result (λ truth. truth ≡ pattern_truth (V.graph view.now) params.now (row_scope columns.now row.now ++ match_scope names.now bound.now) (tree_of expr.now)) }
 {
-    let header = Header::Listed(columns.as_slice());
-    let prepared = Prepared::for_match(alloc, header, names, params, expr)?;
+    let prepared = Prepared::for_match(alloc, columns.as_slice(), names, params, expr)?;
     prepared.holds_beside(alloc, view, row.as_slice(), bound)
 }

@@ -3,9 +3,7 @@
 ghost use Rattle.std.specs.Prelude.{◌≡◌, position};
 ghost use Rattle.gql_values3.specs.Texts.{same_text};
 ghost use Rattle.gql_eval.specs.Machinery.Places.{place_among, name_among, places_among};
-ghost use Rattle.gql_eval.specs.Machinery.ScopeMeaning.{columns_of};
 
-use crate::scope::Header;
 use gql_values3::{ColumnKind, Text};
 
 /// Where a name is found, each place from 0.
@@ -18,25 +16,16 @@ pub struct Places {
 }
 
 /// Both places of a name.
-pub fn places_in(header: Header, names: &[Text], name: &Text) -> Places
-    ensures { result ≡ places_among (columns_of header.entry) names.now name.now }
+pub fn places_in(columns: &[(Text, ColumnKind)], names: &[Text], name: &Text) -> Places
+    ensures { result ≡ places_among columns.now names.now name.now }
 {
     Places {
-        column: place_in(header, name),
+        column: place_of(columns, name.as_str()),
         bound: name_in(names, name),
     }
 }
 
 /// The place of the first column of a name.
-fn place_in(header: Header, name: &Text) -> Option<usize>
-    ensures { result ≡ place_among (columns_of header.entry) name.now }
-{
-    match header {
-        Header::Listed(columns) => place_of(columns, name.as_str()),
-        Header::Indexed(heading) => heading.place_of(name.as_str()),
-    }
-}
-
 fn place_of(columns: &[(Text, ColumnKind)], name: &str) -> Option<usize>
     ensures { result ≡ place_among columns.now name.now }
 {

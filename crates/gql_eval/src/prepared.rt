@@ -10,17 +10,16 @@ ghost use Rattle.gql_eval.specs.Bound.{match_scope};
 ghost use Rattle.gql_eval.specs.CowValue.{cow_datum};
 ghost use Rattle.gql_eval.specs.Gives.{Gives};
 ghost use Rattle.gql_eval.specs.Machinery.Next.{next};
-ghost use Rattle.gql_eval.specs.Machinery.ScopeMeaning.{columns_of};
 
 use crate::compiling::compile;
 use crate::cow::CowValue;
 use crate::error::EvalError;
 use crate::instruction::Instruction;
 use crate::running::value_of_program;
-use crate::scope::{Header, Scope};
+use crate::scope::Scope;
 use crate::truths::truth_of_value;
 use gql_ast::Expr;
-use gql_values3::{Binding, OutOfMemory, Params, Text, Truth, Value, View};
+use gql_values3::{Binding, ColumnKind, OutOfMemory, Params, Text, Truth, Value, View};
 use std::alloc::Global;
 use std::marker::Model;
 
@@ -28,7 +27,7 @@ use std::marker::Model;
 /// these four.
 #[derive(Drop)]
 pub struct Prepared<'a> {
-    header: Header<'a>,
+    columns: &'a [(Text, ColumnKind)],
     names: &'a [Text],
     params: &'a Params,
     expr: &'a Expr,
@@ -38,7 +37,6 @@ pub struct Prepared<'a> {
 impl<'a> Model for Prepared<'a> {
     ghost use Rattle.gql_ast.specs.Meaning.{tree_of};
     ghost use Rattle.gql_eval.specs.Preparation.{Preparation};
-    ghost use Rattle.gql_eval.specs.Machinery.ScopeMeaning.{columns_of};
 
     ghost Value = { Preparation };
 
@@ -48,44 +46,43 @@ impl<'a> Model for Prepared<'a> {
 
     ghost coded = { Prim.hlevel (codes, coded_datum, coded_tree) };
 
-    ghost view = { λ p. record { columns = columns_of p.header; names = p.names.now; params = p.params.now; tree = tree_of p.expr.now } };
+    ghost view = { λ p. record { columns = p.columns.now; names = p.names.now; params = p.params.now; tree = tree_of p.expr.now } };
 
     ghost use Rattle.std.specs.Prelude.{◌≡◌};
-    ghost use Rattle.gql_eval.specs.Machinery.Program.{compiled};
+    ghost use Rattle.gql_eval.specs.Machinery.Compiled.{compiled};
     ghost use Rattle.gql_eval.specs.Machinery.InstructionMeaning.{program_of};
 
-    ghost invariant = { λ p. program_of p.program.items ≡ compiled (columns_of p.header) p.names.now p.params.now (tree_of p.expr.now) };
+    ghost invariant = { λ p. program_of p.program.items ≡ compiled p.columns.now p.names.now p.params.now (tree_of p.expr.now) };
 }
 
 impl<'a> Prepared<'a> {
-    /// Prepares the expression for rows alone. Columns that it does not name don't matter; `Header::Indexed` is for many
-    /// of them.
+    /// Prepares the expression for rows alone. Columns that it does not name don't matter.
     pub fn new(
         alloc: Global,
-        header: Header<'a>,
+        columns: &'a [(Text, ColumnKind)],
         params: &'a Params,
         expr: &'a Expr,
     ) -> Result<Prepared<'a>, OutOfMemory>
-        ensures { IfOk result (λ p. p ≡ record { columns = columns_of header.entry; names = []; params = params.now; tree = tree_of expr.now }) }
+        ensures { IfOk result (λ p. p ≡ record { columns = columns.now; names = []; params = params.now; tree = tree_of expr.now }) }
     {
-        Prepared::for_match(alloc, header, &[], params, expr)
+        Prepared::for_match(alloc, columns, &[], params, expr)
     }
 
     /// Prepares the expression for matches that have these names behind the columns of the row.
     #[tactic(auto, using(crate::proofs::ScopeLemmas::append_none))]
     pub fn for_match(
         alloc: Global,
-        header: Header<'a>,
+        columns: &'a [(Text, ColumnKind)],
         names: &'a [Text],
         params: &'a Params,
         expr: &'a Expr,
     ) -> Result<Prepared<'a>, OutOfMemory>
-        ensures { IfOk result (λ p. p ≡ record { columns = columns_of header.entry; names = names.now; params = params.now; tree = tree_of expr.now }) }
+        ensures { IfOk result (λ p. p ≡ record { columns = columns.now; names = names.now; params = params.now; tree = tree_of expr.now }) }
     {
         let mut program = Vec::new(alloc);
-        compile(header, names, params, expr, &mut program)?;
+        compile(columns, names, params, expr, &mut program)?;
         Ok(Prepared {
-            header,
+            columns,
             names,
             params,
             expr,
@@ -120,7 +117,7 @@ impl<'a> Prepared<'a> {
     {
         let scope = Scope {
             front: &[],
-            header: self.header,
+            columns: self.columns,
             row,
             names: self.names,
             bound,

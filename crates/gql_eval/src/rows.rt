@@ -8,7 +8,6 @@ ghost use Rattle.gql_eval.specs.Gives.{Gives};
 
 use crate::error::EvalError;
 use crate::prepared::Prepared;
-use crate::scope::Header;
 use gql_ast::Expr;
 use gql_values3::{Columns, Params, Row, Value, View};
 use std::alloc::Global;
@@ -25,7 +24,7 @@ pub fn value<V: View>(
 ) -> Result<Value, EvalError>
     ensures { Gives datum_of result (value_of (V.graph view.now) params.now (row_scope columns.now row.now) (tree_of expr.now)) }
 {
-    let prepared = Prepared::new(alloc, Header::Listed(columns.as_slice()), params, expr)?;
+    let prepared = Prepared::new(alloc, columns.as_slice(), params, expr)?;
     let held = prepared.value(alloc, view, row.as_slice())?;
     Ok(held.into_value(alloc)?)
 }

@@ -4,7 +4,7 @@ ghost use Rattle.std.specs.Prelude.{◌≡◌, [], ◌∷◌, true, nat_le, OnOk
 ghost use Rattle.gql_values3.specs.Nesting.{depth};
 ghost use Rattle.gql_values3.specs.Meaning.{datum_of};
 ghost use Rattle.gql_eval.specs.CowValue.{cow_datum};
-ghost use Rattle.gql_eval.specs.Machinery.Program.{is_boolean, has_on_top, has_null_on_top};
+ghost use Rattle.gql_eval.specs.Machinery.Steps.{is_boolean, has_on_top, has_null_on_top};
 
 use crate::cow::CowValue;
 use gql_values3::{OutOfMemory, Value};

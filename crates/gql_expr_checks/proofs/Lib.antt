@@ -5,3 +5,4 @@ pub mod FirstLemmas
 pub mod MisuseLemmas
 pub mod RefusalLemmas
 pub mod SeenLemmas
+mod NameListLemmas

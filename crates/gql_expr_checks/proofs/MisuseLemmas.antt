@@ -1,5 +1,6 @@
 -- An aggregate of an argument, by the groups that it names.
-use Rattle.std.proofs.Common.{◌≡◌, ℕ, Bool, true, false, not, ◌&&◌, ◌||◌, List, [], ◌∷◌, Some, None, is_some, refl, ap, ◌∙◌}
+use Rattle.std.proofs.Common.{◌≡◌, ℕ, Bool, not, ◌&&◌, ◌||◌, List, [], ◌∷◌, Some, None, is_some, ap, ◌∙◌}
+use Rattle.std.proofs.Math.Bool.{or-false}
 use Rattle.std.specs.Prelude.{find}
 use Rattle.gql_values3.specs.Texts.{same_text}
 use Rattle.gql_ast.specs.Tree.{Tree}
@@ -25,14 +26,10 @@ argument_over_group columns bars e x h =
     by (groups_in columns e) (first-filter (is_group_column columns) (names_in e) ∙ h)
     ∙ ap (λ b. b || misused ((x, element_kind (kind_of_name columns x)) ∷ columns) within e) (are_two-filter (is_group_column columns) (names_in e) x h)
   where
-    or_nothing : (b : Bool) → (b || false) ≡ b
-    or_nothing true = refl
-    or_nothing false = refl
-
     by : (gs : List (List ℕ)) → first gs ≡ Some x
         → by_groups columns bars e gs ≡ (are_two gs || misused ((x, element_kind (kind_of_name columns x)) ∷ columns) within e)
     by [] p = cc
     by (g ∷ gs) p =
         let same : g ≡ x = cc in
-        ap (λ b. b || misused (item_columns columns (g ∷ gs)) within e) (or_nothing (are_two (g ∷ gs)))
+        ap (λ b. b || misused (item_columns columns (g ∷ gs)) within e) (or-false (are_two (g ∷ gs)))
         ∙ ap (λ z. are_two (g ∷ gs) || misused ((z, element_kind (kind_of_name columns z)) ∷ columns) within e) same

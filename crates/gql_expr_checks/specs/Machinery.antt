@@ -3,3 +3,4 @@ pub mod Knowing
 pub mod Sought
 pub mod Places
 pub mod Seen
+pub mod NameList

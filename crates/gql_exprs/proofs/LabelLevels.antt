@@ -14,7 +14,7 @@ use Rattle.gql_ast.specs.Label.{Label, Labels, labels_listed, items_of_labels, n
 use Rattle.gql_exprs.specs.LabelGrammar.{at_base, at_factor, at_term, at_expression, label_rank, IsLabel, AreSides}
 use Rattle.gql_exprs.specs.Machinery.LabelReaders.{symbol_op, operand, negated, conjoined, disjoined, paren_of, base_of, factor_of, term_of, expression_of, read_to, read_label}
 
-labels_listed-items_of_labels : (es : Labels) → labels_listed (items_of_labels es) ≡ es
+pub labels_listed-items_of_labels : (es : Labels) → labels_listed (items_of_labels es) ≡ es
 labels_listed-items_of_labels no_labels = refl
 labels_listed-items_of_labels (more_labels e es) = ap (λ z. more_labels e z) (labels_listed-items_of_labels es)
 

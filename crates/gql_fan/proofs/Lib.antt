@@ -1,1 +1,2 @@
 pub mod AnswersLemmas
+mod ShareLemmas

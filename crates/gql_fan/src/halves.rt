@@ -1,6 +1,6 @@
 //! The inputs cut in two as the workers are, and both parts at once, down to one worker.
 
-ghost use Rattle.std.specs.Prelude.{◌≤◌, ◌*◌, IfOk};
+ghost use Rattle.std.specs.Prelude.{◌≡◌, ◌≤◌, ◌*◌, ◌/◌, IfOk};
 ghost use Rattle.std.specs.Thread.{IsSync};
 ghost use Rattle.gql_fan.specs.Answers.{Answers};
 
@@ -49,9 +49,11 @@ where
 
 /// Where the share of so few of the workers ends. The shares of all differ by at most one input where there are no more workers
 /// than inputs.
+#[tactic(auto, using(crate::proofs::ShareLemmas::share))]
 fn cut_at(count: usize, few: u32, workers: u32) -> usize
     requires { (few ≤ workers) × (1 ≤ workers) }
-    ensures { result ≤ count }
+    ensures share { result ≡ count * few / workers }
+    ensures most { result ≤ count }
 {
     let whole = workers as usize;
     let part = few as usize;

@@ -6,6 +6,7 @@ use Rattle.std.proofs.lemmas.Bool.{eqb-true, and_parts}
 use Rattle.std.proofs.lemmas.List.Concat.{flat_map-cons}
 use Rattle.gql_values3.specs.Datum.{Datum, Data, null, boolean, integer, text, list, node, edge, path, no_data, more_data, items_of, data_of}
 use Rattle.gql_values3.specs.PropertyGraph.{is_storable, are_storable}
+use Rattle.gql_values3.proofs.EqualityLemmas.{items_of-data_of}
 use Rattle.gql_fields.specs.Spelling.{spelled, flag_spelled, twos_complement, value_spelled, values_spelled}
 use Rattle.gql_fields.specs.Kept.{IsKeptValue, AreKeptValues}
 use Rattle.gql_fields.specs.Machinery.Reading.{◌>>=◌, number_at, text_at, flag_at, counted_at, boolean_at, integer_at, string_at, list_at, first_at, lists_at, value_at}
@@ -58,10 +59,6 @@ flag_again true rest = refl
 -- kept, and storable with lists nested at most so deep
 abbrev pub IsKeptTo : ℕ → Datum → Type 0
 IsKeptTo k d = IsKeptValue d × (is_storable d k ≡ true)
-
-pub items_of-data_of : (ds : List Datum) → items_of (data_of ds) ≡ ds
-items_of-data_of [] = refl
-items_of-data_of (d ∷ ds) = ap (λ (xs : List Datum). d ∷ xs) (items_of-data_of ds)
 
 pub data_of-items_of : (ds : Data) → data_of (items_of ds) ≡ ds
 data_of-items_of no_data = refl

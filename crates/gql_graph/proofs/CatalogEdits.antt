@@ -1,5 +1,6 @@
 -- A catalog with one more graph or graph type, and without one, is a catalog.
-use Rattle.std.proofs.Common.{◌≡◌, ◌∙◌, ℕ, Bool, true, false, ◌&&◌, List, map, None, Result, Ok, Err, refl, sym, ap}
+use Rattle.std.proofs.Common.{◌≡◌, ◌∙◌, ℕ, true, ◌&&◌, List, map, None, Result, Ok, Err, sym, ap}
+use Rattle.std.proofs.Math.Bool.{and-true}
 use Rattle.std.specs.Prelude.{OnOk, OnErr}
 use Rattle.std.specs.List.{list_all}
 use Rattle.std.proofs.lemmas.Bool.{and_from, and_parts}
@@ -25,16 +26,12 @@ module _ (gs : List (List ℕ × CatalogGraph)) (ts : List (List ℕ × GraphTyp
   pub catalog_from : texts_ascend (names gs) ≡ true → texts_ascend (names ts) ≡ true → list_all is_one gs ≡ true → is_catalog (catalog gs ts) ≡ true
   catalog_from g t all = and_from (texts_ascend (names gs) && texts_ascend (names ts)) (list_all is_one gs) (and_from (texts_ascend (names gs)) (texts_ascend (names ts)) g t) all
 
-and_true : (a b : Bool) → b ≡ true → a ≡ (a && b)
-and_true true b h = sym h
-and_true false b h = refl
-
 -- where each graph is one, the names tell whether it is a catalog
 pub told_by_names : (hs : List (List ℕ × Held)) (ts : List (List ℕ × GraphType)) → list_all is_one (map bare hs) ≡ true
     → (texts_ascend (names hs) && texts_ascend (names ts)) ≡ is_catalog (catalog (map bare hs) ts)
 told_by_names hs ts all =
     ap (λ ns. texts_ascend ns && texts_ascend (names ts)) (sym (names-bare hs))
-    ∙ and_true (texts_ascend (names (map bare hs)) && texts_ascend (names ts)) (list_all is_one (map bare hs)) all
+    ∙ sym (ap (λ b. (texts_ascend (names (map bare hs)) && texts_ascend (names ts)) && b) all ∙ and-true (texts_ascend (names (map bare hs)) && texts_ascend (names ts)))
 
 module _ (name : List ℕ) (gs : List (List ℕ × CatalogGraph)) (ts : List (List ℕ × GraphType)) (one : is_catalog (catalog gs ts) ≡ true) where
   more_graphs : (g : CatalogGraph) → is_graph g.graph ≡ true → named name gs ≡ None → is_catalog (catalog (put_named name g gs) ts) ≡ true

@@ -1,5 +1,6 @@
 -- A catalog's graphs with their room, and without it.
 use Rattle.std.proofs.Common.{◌≡◌, ◌∙◌, ℕ, suc, ◌<◌, ◌≤◌, nat_lt, cond, Bool, true, false, ◌&&◌, List, [], ◌∷◌, map, length, get_or, None, Some, refl, sym, ap, arith}
+use Rattle.std.proofs.lemmas.Bool.{and_parts}
 use Rattle.std.specs.Prelude.{find, option_map, position, slice_set}
 use Rattle.std.specs.List.{list_all, position_or_len}
 use Rattle.std.specs.declared.cmp.Ordering.TheVariants.{Less}
@@ -15,7 +16,6 @@ use Rattle.gql_graph.specs.Bare.{bare}
 use Rattle.gql_graph.specs.declared.graph_type.GraphType.{GraphType}
 use Rattle.gql_graph.specs.declared.held.Held.{Held}
 use Rattle.gql_graph.proofs.AscendingTexts.{text_cmp, first_above, rest_above, above_ascends, apart}
-use Rattle.gql_graph.proofs.GraphLemmas.{first_true, second_true}
 
 -- what is found by the name is the same
 pub find-bare : (p : List ℕ → Bool) (gs : List (List ℕ × Held)) → option_map (λ (g : GraphInMemory). g.graph) (option_map (λ (g : List ℕ × Held). g.1.graph) (find (λ (g : List ℕ × Held). p g.0) gs)) ≡ option_map (λ (g : List ℕ × CatalogGraph). g.1.graph) (find (λ (g : List ℕ × CatalogGraph). p g.0) (map bare gs))
@@ -107,8 +107,8 @@ module _ (name : List ℕ) (graph : PropertyGraph) where
   graphs-put : is_graph graph ≡ true → (gs : List (List ℕ × CatalogGraph)) → list_all is_one gs ≡ true → list_all is_one (put name graph gs) ≡ true
   graphs-put one [] all = refl
   graphs-put one (g ∷ gs) all =
-      let rest = graphs-put one gs (second_true (is_one g) _ all) in
-      put_one (same_text name g.0) g one (first_true (is_one g) _ all) rest
+      let rest = graphs-put one gs (and_parts (is_one g) _ all).1 in
+      put_one (same_text name g.0) g one (and_parts (is_one g) _ all).0 rest
     where
       put_one : (b : Bool) (g : List ℕ × CatalogGraph) → is_graph graph ≡ true → is_one g ≡ true → {r : Bool} → r ≡ true → (is_one (cond b (g.0, record { graph = graph; kind = g.1.kind }) g) && r) ≡ true
       put_one true g one old rest = cc
@@ -116,10 +116,10 @@ module _ (name : List ℕ) (graph : PropertyGraph) where
 
   pub catalog-put : (gs : List (List ℕ × CatalogGraph)) (ts : List (List ℕ × GraphType)) → is_graph graph ≡ true → is_catalog (record { graphs = gs; types = ts }) ≡ true → is_catalog (record { graphs = put name graph gs; types = ts }) ≡ true
   catalog-put gs ts one held =
-      let in_order : (texts_ascend (names gs) && texts_ascend (names ts)) ≡ true = first_true _ (list_all is_one gs) held in
-      let all = graphs-put one gs (second_true (texts_ascend (names gs) && texts_ascend (names ts)) _ held) in
-      let types_ascend : texts_ascend (names ts) ≡ true = second_true (texts_ascend (names gs)) _ in_order in
-      let ascend : texts_ascend (names (put name graph gs)) ≡ true = rw (names-put gs) (first_true _ (texts_ascend (names ts)) in_order) in
+      let in_order : (texts_ascend (names gs) && texts_ascend (names ts)) ≡ true = (and_parts _ (list_all is_one gs) held).0 in
+      let all = graphs-put one gs (and_parts (texts_ascend (names gs) && texts_ascend (names ts)) _ held).1 in
+      let types_ascend : texts_ascend (names ts) ≡ true = (and_parts (texts_ascend (names gs)) _ in_order).1 in
+      let ascend : texts_ascend (names (put name graph gs)) ≡ true = rw (names-put gs) (and_parts _ (texts_ascend (names ts)) in_order).0 in
       cc
 
 -- a catalog's names

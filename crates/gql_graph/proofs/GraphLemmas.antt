@@ -1,5 +1,6 @@
 -- What a graph says of the numbers of its nodes and edges.
-use Rattle.std.proofs.Common.{◌≡◌, ℕ, ◌^◌, ◌<◌, Bool, true, false, ◌&&◌, List, map, length, refl, nat_lt, arith}
+use Rattle.std.proofs.Common.{◌≡◌, ℕ, ◌^◌, ◌<◌, true, List, map, length, nat_lt, arith}
+use Rattle.std.proofs.lemmas.Bool.{and_parts}
 use Rattle.std.proofs.lemmas.Bool.Decides.{nat_tests}
 use Rattle.gql_values3.specs.declared.records.NodeRecord.{NodeRecord}
 use Rattle.gql_values3.specs.declared.records.EdgeRecord.{EdgeRecord}
@@ -8,31 +9,22 @@ use Rattle.std.specs.List.{list_all}
 use Rattle.gql_graph.specs.Machinery.Ascending.{AscendsBy}
 use Rattle.gql_graph.proofs.NumberLemmas.{ascends, fewer}
 
--- of two tests that both hold, each does
-pub first_true : (a b : Bool) → (a && b) ≡ true → a ≡ true
-first_true true b h = refl
-first_true false b h = h
-
-pub second_true : (a b : Bool) → (a && b) ≡ true → b ≡ true
-second_true true b h = h
-second_true false b h = absurd (cc)
-
 module _ {X : Type 0} (key : X → ℕ) (xs : List X) (next : ℕ) (are : are_numbers (map key xs) next ≡ true) where
   -- the numbers of a graph's items ascend
   pub ascending : AscendsBy key xs
-  ascending = ascends key xs 0 next (first_true _ _ are)
+  ascending = ascends key xs 0 next (and_parts _ _ are).0
 
   -- and there are fewer than 2^32 of them
   pub few : length xs < 2 ^ 32
-  few = let h = fewer key xs 0 next (first_true _ _ are) in grind (arith, nat_tests, h, second_true (numbers_ascend 0 (map key xs) next) (nat_lt next (2 ^ 32)) are)
+  few = let h = fewer key xs 0 next (and_parts _ _ are).0 in grind (arith, nat_tests, h, (and_parts (numbers_ascend 0 (map key xs) next) (nat_lt next (2 ^ 32)) are).1)
 
 module _ (nodes : List NodeRecord) (edges : List EdgeRecord) (next_node next_edge : ℕ) (one : is_graph (record { nodes = nodes; edges = edges; next_node = next_node; next_edge = next_edge }) ≡ true) where
   -- the tests of the numbers are part of that of the graph
   pub node_numbers : are_numbers (map (λ r. r.number.0) nodes) next_node ≡ true
-  node_numbers = first_true _ (list_all is_node_record nodes) (first_true (are_nodes nodes next_node) _ one)
+  node_numbers = (and_parts _ (list_all is_node_record nodes) (and_parts (are_nodes nodes next_node) _ one).0).0
 
   pub edge_numbers : are_numbers (map (λ r. r.number.0) edges) next_edge ≡ true
-  edge_numbers = first_true _ (list_all (is_edge_record nodes) edges) (second_true (are_nodes nodes next_node) _ one)
+  edge_numbers = (and_parts _ (list_all (is_edge_record nodes) edges) (and_parts (are_nodes nodes next_node) _ one).1).0
 
   -- so nodes and edges ascend by number, as a search asks
   pub nodes_ascend : AscendsBy (λ r. r.number.0) nodes

@@ -1,5 +1,6 @@
 -- Where a change is made there was room, and there is.
 use Rattle.std.proofs.Common.{◌≡◌, ℕ, suc, ◌+◌, ◌≤◌, nat_le, Bool, true, false, ◌&&◌, List, [], ◌∷◌, length, refl, arith, length-append}
+use Rattle.std.proofs.lemmas.Bool.{and_parts}
 use Rattle.std.specs.Prelude.{count_by}
 use Rattle.std.proofs.lemmas.Bool.Decides.{nat_tests}
 use Rattle.std.proofs.lemmas.Grind.{common_steps}
@@ -11,7 +12,6 @@ use Rattle.gql_graph.specs.declared.change.Change.TheVariants as change
 use Rattle.gql_graph.specs.Edits.{node_key, edge_key, changed, holds_along}
 use Rattle.gql_graph.specs.Room.{GraphInMemory, has_room}
 use Rattle.gql_graph.specs.Machinery.AfterChange.{AfterChange, adds_node, adds_edge}
-use Rattle.gql_graph.proofs.GraphLemmas.{first_true, second_true}
 use Rattle.gql_graph.proofs.EditLemmas.{shorter, longer, as_long}
 use Rattle.gql_graph.proofs.UndoLemmas.{Undone}
 
@@ -30,10 +30,10 @@ has held g nodes edges = both (at_most _ _ nodes) (at_most _ _ edges)
 
 -- room for one more
 pub room_for_node : (held : GraphInMemory) (r : NodeRecord) → has_room held (changed (change.BackNode r) held.graph) ≡ true → suc (length held.graph.nodes) ≤ held.node_room
-room_for_node held r room = omega (arith, longer node_key r held.graph.nodes, is_at_most _ _ (first_true (nat_le (length (changed (change.BackNode r) held.graph).nodes) held.node_room) _ room))
+room_for_node held r room = omega (arith, longer node_key r held.graph.nodes, is_at_most _ _ (and_parts (nat_le (length (changed (change.BackNode r) held.graph).nodes) held.node_room) _ room).0)
 
 pub room_for_edge : (held : GraphInMemory) (r : EdgeRecord) → has_room held (changed (change.BackEdge r) held.graph) ≡ true → suc (length held.graph.edges) ≤ held.edge_room
-room_for_edge held r room = omega (arith, longer edge_key r held.graph.edges, is_at_most _ _ (second_true (nat_le (length held.graph.nodes) held.node_room) _ room))
+room_for_edge held r room = omega (arith, longer edge_key r held.graph.edges, is_at_most _ _ (and_parts (nat_le (length held.graph.nodes) held.node_room) _ room).1)
 
 -- a change that leads to its graph, and is undone, is made
 pub made : (before after : GraphInMemory) (c d : Change) → is_graph before.graph ≡ true → Undone before.graph c d → after.graph ≡ changed c before.graph → before.node_room ≡ after.node_room → before.edge_room ≡ after.edge_room → length before.graph.nodes ≤ before.node_room → length before.graph.edges ≤ before.edge_room → AfterChange before c after d

@@ -3,11 +3,14 @@ use Rattle.std.proofs.Common.{◌≡◌, ℕ, zero, suc, ◌<◌, ◌≤◌, ◌
 use Rattle.std.specs.Prelude.{find, is_some}
 use Rattle.std.specs.List.{list_any}
 use Rattle.std.specs.Option.{option_copied}
+use Rattle.std.specs.Slice.{IsItemAt}
 use Rattle.std.specs.List.Sorted.{IsSearchInRange, IsBinarySearchResult, IsNonDecreasingBy}
 use Rattle.std.specs.Ordering.{nat_cmp, ordering_index}
 use Rattle.std.proofs.lemmas.Cmp.{ranked}
 use Rattle.std.proofs.lemmas.Bool.{cases_lt}
 use Rattle.std.proofs.lemmas.Bool.Decides.{nat_tests}
+use Rattle.std.proofs.lemmas.Grind.{common_steps}
+use Rattle.std.proofs.lemmas.Option.{gets}
 use Rattle.gql_graph.specs.Machinery.Ascending.{AscendsBy}
 use Rattle.gql_graph.specs.Machinery.AfterChange.{place_of}
 
@@ -15,6 +18,10 @@ use Rattle.gql_graph.specs.Machinery.AfterChange.{place_of}
 abbrev pub item_at : {X : Type 0} → List X → Result ℕ ℕ → Option X
 item_at xs (Ok i) = slice_get xs i
 item_at xs (Err i) = None
+
+-- what is lent at a place is the item there
+pub got_there : {X : Type 0} (xs : List X) (i : ℕ) (r : Option (Bor X)) → IsItemAt xs i r → option_copied r ≡ slice_get xs i
+got_there xs i r there = grind (arith, common_steps, gets)
 
 -- a reference to something stands for something
 pub is_some-option_copied : {X : Type 0} (r : Option (Bor X)) → is_some r ≡ is_some (option_copied r)

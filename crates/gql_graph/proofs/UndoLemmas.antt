@@ -1,5 +1,6 @@
 -- Each change of a graph is undone by another.
 use Rattle.std.proofs.Common.{◌≡◌, ℕ, suc, pred, ◌^◌, ◌<◌, eqb, nat_lt, Bool, true, not, ◌&&◌, List, map, Option, None, Some, refl, ap, arith, eq-eqb}
+use Rattle.std.proofs.lemmas.Bool.{and_parts}
 use Rattle.std.specs.Prelude.{is_some}
 use Rattle.std.proofs.lemmas.Bool.Decides.{nat_tests}
 use Rattle.gql_values3.specs.PropertyGraph.{PropertyGraph, numbers_ascend, is_graph}
@@ -13,7 +14,7 @@ use Rattle.gql_values3.specs.declared.records.EdgeRecord.{EdgeRecord}
 use Rattle.gql_graph.specs.declared.change.Change.{Change}
 use Rattle.gql_graph.specs.declared.change.Change.TheVariants as change
 use Rattle.gql_graph.specs.Edits.{node_key, edge_key, with_nodes, with_edges, changed, suits, same_ends}
-use Rattle.gql_graph.proofs.GraphLemmas.{first_true, second_true, node_numbers, edge_numbers}
+use Rattle.gql_graph.proofs.GraphLemmas.{node_numbers, edge_numbers}
 use Rattle.gql_graph.proofs.EditLemmas.{Up, none_above, found_key, found_below, there_at_end, there_inside, there_over, not_there, off_end, on_end, in_again, out_again, over_again}
 
 -- the second change can act behind the first, beside that it leads to a graph, and leads back
@@ -50,14 +51,14 @@ same_ends-swapped (Undirected a b) (Directed c d) same = absurd (cc)
 module _ (g : PropertyGraph) (one : is_graph g ≡ true) where
   -- the numbers of the nodes ascend from 1 to the next one, which has 32 bits
   pub node_up : Up node_key 0 g.nodes g.next_node
-  node_up = first_true _ _ (node_numbers g.nodes g.edges g.next_node g.next_edge one)
+  node_up = (and_parts _ _ (node_numbers g.nodes g.edges g.next_node g.next_edge one)).0
 
   next_node_fits : nat_lt g.next_node (2 ^ 32) ≡ true
-  next_node_fits = second_true (numbers_ascend 0 (map node_key g.nodes) g.next_node) _ (node_numbers g.nodes g.edges g.next_node g.next_edge one)
+  next_node_fits = (and_parts (numbers_ascend 0 (map node_key g.nodes) g.next_node) _ (node_numbers g.nodes g.edges g.next_node g.next_edge one)).1
 
   pub new_node_undone : (r : NodeRecord) → suits (change.NewNode r) g ≡ true → Undone g (change.NewNode r) (change.UnNode r.number)
   new_node_undone r suit =
-      let next : r.number.0 ≡ g.next_node = equal _ _ (first_true _ _ suit) in
+      let next : r.number.0 ≡ g.next_node = equal _ _ (and_parts _ _ suit).0 in
       let none = none_above node_key r.number.0 g.nodes 0 g.next_node node_up (omega arith) in
       record {
         suits = both (eq-eqb (suc r.number.0) (suc g.next_node) (ap suc next)) (there_at_end node_key r g.nodes);
@@ -66,7 +67,7 @@ module _ (g : PropertyGraph) (one : is_graph g ≡ true) where
 
   pub un_node_undone : (n : NodeId) (r : NodeRecord) → suits (change.UnNode n) g ≡ true → node_of g n ≡ Some r → Undone g (change.UnNode n) (change.NewNode r)
   un_node_undone n r suit found =
-      let next : suc n.0 ≡ g.next_node = equal _ _ (first_true _ _ suit) in
+      let next : suc n.0 ≡ g.next_node = equal _ _ (and_parts _ _ suit).0 in
       let number = found_key node_key n.0 g.nodes r found in
       let up : Up node_key 0 g.nodes (suc n.0) = rw next node_up in
       let fits : nat_lt (suc (pred g.next_node)) (2 ^ 32) ≡ true = rw (← next) (rw (← next) at next_node_fits) in
@@ -88,7 +89,7 @@ module _ (g : PropertyGraph) (one : is_graph g ≡ true) where
   pub back_node_undone : (r : NodeRecord) → suits (change.BackNode r) g ≡ true → Undone g (change.BackNode r) (change.OutNode r.number)
   back_node_undone r suit = record {
     suits = there_inside node_key r g.nodes;
-    back = same_nodes g _ _ (out_again node_key r g.nodes (missing _ (first_true _ _ suit))) refl;
+    back = same_nodes g _ _ (out_again node_key r g.nodes (missing _ (and_parts _ _ suit).0)) refl;
   }
 
   pub swap_node_undone : (r old : NodeRecord) → node_of g r.number ≡ Some old → Undone g (change.SwapNode r) (change.SwapNode old)
@@ -102,14 +103,14 @@ module _ (g : PropertyGraph) (one : is_graph g ≡ true) where
 
   -- the numbers of the edges ascend from 1 to the next one, which has 32 bits
   pub edge_up : Up edge_key 0 g.edges g.next_edge
-  edge_up = first_true _ _ (edge_numbers g.nodes g.edges g.next_node g.next_edge one)
+  edge_up = (and_parts _ _ (edge_numbers g.nodes g.edges g.next_node g.next_edge one)).0
 
   next_edge_fits : nat_lt g.next_edge (2 ^ 32) ≡ true
-  next_edge_fits = second_true (numbers_ascend 0 (map edge_key g.edges) g.next_edge) _ (edge_numbers g.nodes g.edges g.next_node g.next_edge one)
+  next_edge_fits = (and_parts (numbers_ascend 0 (map edge_key g.edges) g.next_edge) _ (edge_numbers g.nodes g.edges g.next_node g.next_edge one)).1
 
   pub new_edge_undone : (r : EdgeRecord) → suits (change.NewEdge r) g ≡ true → Undone g (change.NewEdge r) (change.UnEdge r.number)
   new_edge_undone r suit =
-      let next : r.number.0 ≡ g.next_edge = equal _ _ (first_true _ _ suit) in
+      let next : r.number.0 ≡ g.next_edge = equal _ _ (and_parts _ _ suit).0 in
       let none = none_above edge_key r.number.0 g.edges 0 g.next_edge edge_up (omega arith) in
       record {
         suits = both (eq-eqb (suc r.number.0) (suc g.next_edge) (ap suc next)) (there_at_end edge_key r g.edges);
@@ -118,7 +119,7 @@ module _ (g : PropertyGraph) (one : is_graph g ≡ true) where
 
   pub un_edge_undone : (n : EdgeId) (r : EdgeRecord) → suits (change.UnEdge n) g ≡ true → edge_of g n ≡ Some r → Undone g (change.UnEdge n) (change.NewEdge r)
   un_edge_undone n r suit found =
-      let next : suc n.0 ≡ g.next_edge = equal _ _ (first_true _ _ suit) in
+      let next : suc n.0 ≡ g.next_edge = equal _ _ (and_parts _ _ suit).0 in
       let number = found_key edge_key n.0 g.edges r found in
       let up : Up edge_key 0 g.edges (suc n.0) = rw next edge_up in
       let fits : nat_lt (suc (pred g.next_edge)) (2 ^ 32) ≡ true = rw (← next) (rw (← next) at next_edge_fits) in
@@ -140,7 +141,7 @@ module _ (g : PropertyGraph) (one : is_graph g ≡ true) where
   pub back_edge_undone : (r : EdgeRecord) → suits (change.BackEdge r) g ≡ true → Undone g (change.BackEdge r) (change.OutEdge r.number)
   back_edge_undone r suit = record {
     suits = there_inside edge_key r g.edges;
-    back = same_edges g _ _ (out_again edge_key r g.edges (missing _ (first_true _ _ suit))) refl;
+    back = same_edges g _ _ (out_again edge_key r g.edges (missing _ (and_parts _ _ suit).0)) refl;
   }
 
   pub swap_edge_undone : (r old : EdgeRecord) → suits (change.SwapEdge r) g ≡ true → edge_of g r.number ≡ Some old → Undone g (change.SwapEdge r) (change.SwapEdge old)

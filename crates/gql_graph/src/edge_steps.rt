@@ -6,8 +6,8 @@ ghost use Rattle.gql_graph.specs.Room.{has_room};
 ghost use Rattle.gql_graph.specs.Machinery.AfterChange.{AfterChange};
 
 use crate::change::Change;
-use crate::edge_list::{put_edge, swap_edge, take_edge};
 use crate::graph::Graph;
+use crate::numbered::{put_numbered, swap_numbered, take_numbered};
 use gql_values3::{EdgeId, EdgeRecord};
 
 impl Graph {
@@ -28,7 +28,7 @@ impl Graph {
         requires { IsTrue (can_act (Change.UnEdge edge) self.old.graph) }
         ensures { AfterChange self.old (Change.UnEdge edge) self.new result }
     {
-        let record = take_edge(&mut self.edges, edge);
+        let record = take_numbered(&mut self.edges, edge.0);
         self.next_edge -= 1;
         Change::NewEdge(record)
     }
@@ -38,7 +38,7 @@ impl Graph {
         requires { IsTrue (can_act (Change.OutEdge edge) self.old.graph) }
         ensures { AfterChange self.old (Change.OutEdge edge) self.new result }
     {
-        Change::BackEdge(take_edge(&mut self.edges, edge))
+        Change::BackEdge(take_numbered(&mut self.edges, edge.0))
     }
 
     /// Puts an edge in at the place of its number.
@@ -48,7 +48,7 @@ impl Graph {
         ensures { AfterChange self.old (Change.BackEdge edge) self.new result }
     {
         let number = edge.number;
-        put_edge(&mut self.edges, edge);
+        put_numbered(&mut self.edges, edge);
         Change::OutEdge(number)
     }
 
@@ -57,6 +57,6 @@ impl Graph {
         requires { IsTrue (can_act (Change.SwapEdge edge) self.old.graph) }
         ensures { AfterChange self.old (Change.SwapEdge edge) self.new result }
     {
-        Change::SwapEdge(swap_edge(&mut self.edges, edge))
+        Change::SwapEdge(swap_numbered(&mut self.edges, edge))
     }
 }

@@ -3,12 +3,12 @@
 ghost use Rattle.std.specs.Prelude.{◌≡◌, [], length, IfOk, IfSome, is_some, IsTrue};
 ghost use Rattle.std.specs.Option.{option_copied};
 ghost use Rattle.gql_values3.specs.PropertyGraph.{is_graph, are_edges};
-ghost use Rattle.gql_values3.specs.Lookup.{node_of, edge_of, labels_in, labels_of, properties_in, properties_of};
+ghost use Rattle.gql_values3.specs.Lookup.{node_of, edge_of, has_element, labels_in, labels_of, properties_in, properties_of};
 ghost use Rattle.gql_graph.specs.Machinery.Ascending.{AscendsBy};
 
 use crate::copies::{copy_edges, copy_nodes};
-use crate::lookup::{find_edge, find_node};
-use crate::numbers::{edge_numbers_fit, node_numbers_fit};
+use crate::numbered::find_numbered;
+use crate::numbers::numbers_fit;
 use crate::records::{edge_records_fit, node_records_fit};
 use gql_values3::{
     EdgeId, EdgeRecord, Elem, Names, NodeId, NodeRecord, OutOfMemory, Properties, Sequence,
@@ -135,19 +135,20 @@ impl Graph {
     pub fn node(&self, node: NodeId) -> Option<&NodeRecord>
         ensures { option_copied result ≡ node_of self.now.graph node }
     {
-        find_node(self.nodes.as_slice(), node)
+        find_numbered(self.nodes.as_slice(), node.0)
     }
 
     /// The edge of that number.
     pub fn edge(&self, edge: EdgeId) -> Option<&EdgeRecord>
         ensures { option_copied result ≡ edge_of self.now.graph edge }
     {
-        find_edge(self.edges.as_slice(), edge)
+        find_numbered(self.edges.as_slice(), edge.0)
     }
 
     /// The labels of the element, where it is there.
     pub fn labels(&self, elem: Elem) -> Option<&Names>
-        ensures { labels_in (option_copied result) ≡ labels_of self.now.graph elem }
+        ensures there { is_some result ≡ has_element self.now.graph elem }
+        ensures exact { labels_in (option_copied result) ≡ labels_of self.now.graph elem }
     {
         match elem {
             Elem::Node(node) => Some(&self.node(node)?.labels),
@@ -157,7 +158,8 @@ impl Graph {
 
     /// The properties of the element, where it is there.
     pub fn properties(&self, elem: Elem) -> Option<&Properties>
-        ensures { properties_in (option_copied result) ≡ properties_of self.now.graph elem }
+        ensures there { is_some result ≡ has_element self.now.graph elem }
+        ensures exact { properties_in (option_copied result) ≡ properties_of self.now.graph elem }
     {
         match elem {
             Elem::Node(node) => Some(&self.node(node)?.properties),
@@ -170,7 +172,7 @@ fn are_graph(nodes: &[NodeRecord], edges: &[EdgeRecord], next_node: u32, next_ed
     ensures { result ≡ is_graph (record { nodes = nodes.now; edges = edges.now; next_node = next_node; next_edge = next_edge }) }
 {
     // The endpoints of the edges are searched in the nodes, so the nodes' order is found first.
-    if node_numbers_fit(nodes, next_node) && node_records_fit(nodes) {
+    if numbers_fit(nodes, next_node) && node_records_fit(nodes) {
         edges_fit(nodes, edges, next_edge)
     } else {
         false
@@ -181,5 +183,5 @@ fn edges_fit(nodes: &[NodeRecord], edges: &[EdgeRecord], next: u32) -> bool
     requires { AscendsBy (λ r. r.number.0) nodes.now }
     ensures { result ≡ are_edges nodes.now edges.now next }
 {
-    edge_numbers_fit(edges, next) && edge_records_fit(nodes, edges)
+    numbers_fit(edges, next) && edge_records_fit(nodes, edges)
 }

@@ -1,6 +1,6 @@
 //! Graph types: what the nodes and edges of a graph may be.
 
-use gql_values3::{Names, PropKind, Sequence, Text};
+use gql_values3::{Keyed, Names, PropKind, Sequence, Text};
 
 /// A property that a node or an edge may have.
 #[derive(Debug, Drop)]
@@ -9,6 +9,14 @@ pub struct PropType {
     pub kind: PropKind,
     /// Whether each such node or edge has it.
     pub required: bool,
+}
+
+impl Keyed for PropType {
+    ghost key_bytes = { λ t. t.name };
+
+    fn key(&self) -> &[u8] {
+        self.name.as_str().as_bytes()
+    }
 }
 
 /// Properties by strictly ascending name.

@@ -8,7 +8,6 @@
 mod catalog;
 mod change;
 mod copies;
-mod edge_list;
 mod edge_steps;
 mod edit;
 mod edits;
@@ -18,8 +17,8 @@ mod held;
 mod lookup;
 mod named;
 mod names;
-mod node_list;
 mod node_steps;
+mod numbered;
 mod numbers;
 mod records;
 mod storable;

@@ -1,4 +1,4 @@
-//! Nodes looked up by number or by label, and edges by number or by a node that they touch.
+//! Nodes looked up by number or by label, and edges by a node that they touch.
 
 ghost use Rattle.std.specs.Prelude.{◌≡◌, ◌==◌, find, map, filter, slice_get};
 ghost use Rattle.std.specs.Option.{option_copied};
@@ -9,6 +9,7 @@ ghost use Rattle.gql_values3.specs.Lookup.{touches};
 ghost use Rattle.gql_graph.specs.Machinery.Ascending.{AscendsBy};
 
 use crate::names::contains_name;
+use crate::numbered::find_numbered;
 use gql_values3::{EdgeId, EdgeRecord, Ends, NodeId, NodeRecord};
 
 /// The node of that number, by binary search.
@@ -16,21 +17,7 @@ pub fn find_node(nodes: &[NodeRecord], node: NodeId) -> Option<&NodeRecord>
     requires { AscendsBy (λ r. r.number.0) nodes.now }
     ensures { option_copied result ≡ find (λ r. r.number.0 == node.0) nodes.now }
 {
-    match nodes.binary_search_by_key(&node.0, |r| r.number.0) {
-        Ok(at) => nodes.get(at),
-        Err(_) => None,
-    }
-}
-
-/// The edge of that number, by binary search.
-pub fn find_edge(edges: &[EdgeRecord], edge: EdgeId) -> Option<&EdgeRecord>
-    requires { AscendsBy (λ r. r.number.0) edges.now }
-    ensures { option_copied result ≡ find (λ r. r.number.0 == edge.0) edges.now }
-{
-    match edges.binary_search_by_key(&edge.0, |r| r.number.0) {
-        Ok(at) => edges.get(at),
-        Err(_) => None,
-    }
+    find_numbered(nodes, node.0)
 }
 
 /// Whether a node of that number is among the records.

@@ -7,7 +7,7 @@ ghost use Rattle.gql_graph.specs.Machinery.AfterChange.{AfterChange};
 
 use crate::change::Change;
 use crate::graph::Graph;
-use crate::node_list::{put_node, swap_node, take_node};
+use crate::numbered::{put_numbered, swap_numbered, take_numbered};
 use gql_values3::{NodeId, NodeRecord};
 
 impl Graph {
@@ -28,7 +28,7 @@ impl Graph {
         requires { IsTrue (can_act (Change.UnNode node) self.old.graph) }
         ensures { AfterChange self.old (Change.UnNode node) self.new result }
     {
-        let record = take_node(&mut self.nodes, node);
+        let record = take_numbered(&mut self.nodes, node.0);
         self.next_node -= 1;
         Change::NewNode(record)
     }
@@ -38,7 +38,7 @@ impl Graph {
         requires { IsTrue (can_act (Change.OutNode node) self.old.graph) }
         ensures { AfterChange self.old (Change.OutNode node) self.new result }
     {
-        Change::BackNode(take_node(&mut self.nodes, node))
+        Change::BackNode(take_numbered(&mut self.nodes, node.0))
     }
 
     /// Puts a node in at the place of its number.
@@ -48,7 +48,7 @@ impl Graph {
         ensures { AfterChange self.old (Change.BackNode node) self.new result }
     {
         let number = node.number;
-        put_node(&mut self.nodes, node);
+        put_numbered(&mut self.nodes, node);
         Change::OutNode(number)
     }
 
@@ -57,6 +57,6 @@ impl Graph {
         requires { IsTrue (can_act (Change.SwapNode node) self.old.graph) }
         ensures { AfterChange self.old (Change.SwapNode node) self.new result }
     {
-        Change::SwapNode(swap_node(&mut self.nodes, node))
+        Change::SwapNode(swap_numbered(&mut self.nodes, node))
     }
 }

@@ -1,49 +1,55 @@
-//! Whether the numbers of nodes and of edges ascend, below the next one.
+//! What has a number, and whether numbers ascend, below the next one.
 
-ghost use Rattle.std.specs.Prelude.{◌≡◌, map};
+ghost use Rattle.std.specs.Prelude.{◌≡◌, ℕ, map};
 ghost use Rattle.std.specs.Bool.{OnTrue};
 ghost use Rattle.gql_values3.specs.PropertyGraph.{numbers_ascend, are_numbers};
 ghost use Rattle.gql_graph.specs.Machinery.Ascending.{AscendsBy};
 
 use gql_values3::{EdgeRecord, NodeRecord};
 
-/// Whether the numbers of the nodes strictly ascend from 1 on, below the next one.
-pub fn node_numbers_fit(nodes: &[NodeRecord], next: u32) -> bool
-    ensures value { result ≡ are_numbers (map (λ r. r.number.0) nodes.now) next }
-    ensures ascending { OnTrue result (AscendsBy (λ r. r.number.0) nodes.now) }
-{
-    node_numbers_ascend(nodes, next)
+/// What has a number: a node or an edge as a graph keeps it.
+pub trait Numbered: Drop + Sized {
+    /// Its number.
+    ghost number_of: { Self → ℕ };
+
+    fn number(&self) -> u32
+        ensures { result ≡ number_of self.now };
 }
 
-fn node_numbers_ascend(nodes: &[NodeRecord], next: u32) -> bool
-    ensures { result ≡ numbers_ascend 0 (map (λ r. r.number.0) nodes.now) next }
-{
-    let mut low = 0;
-    for node in nodes {
-        if node.number.0 <= low {
-            return false;
-        }
-        low = node.number.0;
+impl Numbered for NodeRecord {
+    ghost number_of = { λ r. r.number.0 };
+
+    fn number(&self) -> u32 {
+        self.number.0
     }
-    low < next
 }
 
-/// Whether the numbers of the edges strictly ascend from 1 on, below the next one.
-pub fn edge_numbers_fit(edges: &[EdgeRecord], next: u32) -> bool
-    ensures { result ≡ are_numbers (map (λ r. r.number.0) edges.now) next }
+impl Numbered for EdgeRecord {
+    ghost number_of = { λ r. r.number.0 };
+
+    fn number(&self) -> u32 {
+        self.number.0
+    }
+}
+
+/// Whether the numbers strictly ascend from 1 on, below the next one.
+pub fn numbers_fit<T: Numbered>(items: &[T], next: u32) -> bool
+    ensures value { result ≡ are_numbers (map T.number_of items.now) next }
+    ensures ascending { OnTrue result (AscendsBy T.number_of items.now) }
 {
-    edge_numbers_ascend(edges, next)
+    numbers_ascend(items, next)
 }
 
-fn edge_numbers_ascend(edges: &[EdgeRecord], next: u32) -> bool
-    ensures { result ≡ numbers_ascend 0 (map (λ r. r.number.0) edges.now) next }
+fn numbers_ascend<T: Numbered>(items: &[T], next: u32) -> bool
+    ensures { result ≡ numbers_ascend 0 (map T.number_of items.now) next }
 {
     let mut low = 0;
-    for edge in edges {
-        if edge.number.0 <= low {
+    for item in items {
+        let number = item.number();
+        if number <= low {
             return false;
         }
-        low = edge.number.0;
+        low = number;
     }
     low < next
 }

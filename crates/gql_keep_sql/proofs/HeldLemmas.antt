@@ -117,6 +117,7 @@ all_keys records ordered keys place told same is =
     let there = pairs_permuted HasRecord told.rows records ordered told.are same in record {
       rows = there.0;
       before = told.before;
+      store = told.store;
       selected = selected_permuted told.rows there.0 told.before place told.selected there.1;
       are = ap (map Blob) is ∙ first_columns there.0 ordered there.2;
     }

@@ -1,8 +1,12 @@
 mod ChangeLemmas
+mod DifferLemmas
 mod HeldLemmas
 mod MemoryLemmas
 mod MergeLemmas
+mod ObjectLemmas
 mod PairLemmas
+mod RefusalLemmas
+mod RunLemmas
 mod ScanLemmas
 mod SearchLemmas
 mod TransactionLemmas

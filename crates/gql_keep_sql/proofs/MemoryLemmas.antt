@@ -1,11 +1,14 @@
 -- Records in memory behind a change.
-use Rattle.std.proofs.Common.{◌≡◌, ℕ, Bool, true, not, cond, List, [], ◌∷◌, ◌++◌, ◌||◌, IsPermutation, Contains, Option, Some, None, IfSome, refl, sym, ◌∙◌, ap, subst}
-use Rattle.std.specs.Prelude.{slice_get}
+use Rattle.std.proofs.Common.{◌≡◌, ℕ, Bool, true, not, cond, List, [], ◌∷◌, ◌++◌, ◌||◌, IsPermutation, Some, Result, Ok, Err, IfOk, inr, refl, sym, ◌∙◌, ap, subst}
 use Rattle.std.specs.List.{filter}
 use Rattle.std.specs.List.Sorted.{IsSortedBy}
 use Rattle.std.proofs.lemmas.Option.{slice_get_within, get_or_from_slice_get}
+use Rattle.sqlite.specs.declared.error.Error.{Error}
 use Rattle.gql_ports.specs.declared.stored.Record.{Record}
 use Rattle.gql_keep_sql.specs.declared.changes.Change.{Change}
+use Rattle.gql_keep_sql.specs.declared.place.Place.{Place}
+use Rattle.gql_keep_sql.specs.declared.place.Place.TheVariants.{Nowhere, Memory, File}
+use Rattle.gql_keep_sql.specs.Fetched.{held_at, IsHeld, Fetches}
 use Rattle.gql_keep_sql.specs.Keys.{has_key, keys_of}
 use Rattle.gql_keep_sql.specs.Machinery.Merge.{is_changed_in, is_kept}
 use Rattle.gql_keep_sql.specs.Written.{Alters, stays, is_key_below}
@@ -23,6 +26,13 @@ altered puts drops changes old kept new named is same ascends = record {
   nothing = λ not_done. absurd cc;
 }
 
-pub contains_at : (xs : List Record) (i : ℕ) (o : Option Record) → o ≡ slice_get xs i → IfSome o (Contains xs)
-contains_at xs i None is = tt
-contains_at xs i (Some r) is = (i, slice_get_within xs i r (sym is), get_or_from_slice_get xs i r r (sym is))
+-- the record of a place is held there
+held_is : (place : Place) (index : ℕ) (r : Record) → Some r ≡ held_at place index → IsHeld r place
+held_is (Memory records) index r is = (index, slice_get_within records.items index r (sym is), get_or_from_slice_get records.items index r r (sym is))
+held_is Nowhere index r is = absurd cc
+held_is (File name conn) index r is = absurd cc
+
+-- and a copy of it is fetched
+pub held_fetches : (place : Place) (index : ℕ) (held : Record) (result : Result Record Error) → Some held ≡ held_at place index → IfOk result (λ r. r ≡ held) → IfOk result (λ r. ∥ Fetches r.key r.value place place ∥₁)
+held_fetches place index held (Ok r) is same = ∣ inr (subst (λ r. IsHeld r place) (sym same) (held_is place index held is), refl) ∣₁
+held_fetches place index held (Err e) is same = tt

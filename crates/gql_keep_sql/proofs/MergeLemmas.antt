@@ -39,7 +39,7 @@ head_above low key keys h = less (key_cmp low key) ((and_parts (is_lt (key_cmp l
 pub tail_above : (low key : List ℕ) (keys : List (List ℕ)) → ascend_above low (key ∷ keys) ≡ true → ascend_above key keys ≡ true
 tail_above low key keys h = (and_parts (is_lt (key_cmp low key)) (ascend_above key keys) h).1
 
-cons_above : (low key : List ℕ) (keys : List (List ℕ)) → key_cmp low key ≡ Less → ascend_above key keys ≡ true → ascend_above low (key ∷ keys) ≡ true
+pub cons_above : (low key : List ℕ) (keys : List (List ℕ)) → key_cmp low key ≡ Less → ascend_above key keys ≡ true → ascend_above low (key ∷ keys) ≡ true
 cons_above low key keys h k = and_from (is_lt (key_cmp low key)) (ascend_above key keys) (ap is_lt h) k
 
 lower : (a b : List ℕ) (keys : List (List ℕ)) → key_cmp a b ≡ Less → ascend_above b keys ≡ true → ascend_above a keys ≡ true
@@ -47,7 +47,7 @@ lower a b [] h g = refl
 lower a b (key ∷ keys) h g = cons_above a key keys (nat_list_cmp_total.trans a b key h (head_above b key keys g)) (tail_above b key keys g)
 
 -- what all keys are above is none of them
-absent : (low : List ℕ) (keys : List (List ℕ)) → ascend_above low keys ≡ true → has_key keys low ≡ false
+pub absent : (low : List ℕ) (keys : List (List ℕ)) → ascend_above low keys ≡ true → has_key keys low ≡ false
 absent low [] h = refl
 absent low (key ∷ keys) h =
     let first = head_above low key keys h in
@@ -129,7 +129,7 @@ unput low (c ∷ more) h =
     no_put false h = h
 
 -- a key that is the same as one
-as_is : (P : List ℕ → Type 0) (q key : List ℕ) → P key → same_text q key ≡ true → P q
+pub as_is : (P : List ℕ → Type 0) (q key : List ℕ) → P key → same_text q key ≡ true → P q
 as_is P q key p same = subst P (sym ((bytes_decides q key).0 same)) p
 
 -- the key of a change stands exactly where it is put, and the others as after the later changes

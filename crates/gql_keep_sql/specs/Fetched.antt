@@ -1,14 +1,17 @@
 -- What a fetch reads: the value that the store has under a key, in a row of SQLite's answer to a query for records.
-use Rattle.std.specs.Prelude.{◌≡◌, ◌⊎◌, ℕ, List, [], ◌∷◌, map, slice_get, Some, codes, Contains, IsPermutation, All}
-use Rattle.std.specs.List.{AllZip}
+use Rattle.std.specs.Prelude.{◌≡◌, ◌⊎◌, ℕ, Bool, true, false, ◌&&◌, List, [], ◌∷◌, map, slice_get, Option, Some, None, IfSome, ⊤, codes, Contains, IsPermutation, All}
+use Rattle.std.specs.List.{AllZip, list_all}
 use Rattle.sqlite.specs.declared.types.Value.{Value}
 use Rattle.sqlite.specs.declared.types.Value.TheVariants.{Blob}
 use Rattle.sqlite.specs.Order.{column}
 use Rattle.sqlite.specs.Store.{Ghosts}
-use Rattle.sqlite.specs.State.{HasCleanDisk, Shown}
-use Rattle.sqlite.specs.Held.{Held, state}
+use Rattle.sqlite.specs.State.{HasCleanDisk, Shown, FailsToQuery}
+use Rattle.sqlite.specs.declared.error.Error.{Error}
+use Rattle.sqlite.specs.Held.{Held, IsNew, state}
 use Rattle.sqlite.specs.Files.{over_files}
+use Rattle.gql_values3.specs.Texts.{same_text}
 use Rattle.gql_ports.specs.declared.stored.Record.{Record}
+use Rattle.gql_keep_sql.specs.Established.{Establishes}
 use Rattle.gql_keep_sql.specs.declared.place.Place.{Place}
 use Rattle.gql_keep_sql.specs.declared.place.Place.TheVariants.{Nowhere, Memory, File}
 
@@ -24,6 +27,14 @@ SelectsEach g rows old new = (answer : List (List Value)) × SelectsAll g answer
 abbrev pub SelectsRun : {S : Type 0} → Ghosts S → List ℕ → List (List Value) → Held S → Held S → Type 0
 SelectsRun g from rows old new = Shown (codes "SELECT key, value FROM record WHERE key >= ?1 ORDER BY key LIMIT 64") (Blob from ∷ []) (state g old) (state g new) rows
 
+-- it was refused with this error
+abbrev pub IsRefusedRun : {S : Type 0} → Ghosts S → List ℕ → Held S → Held S → Error → Type 0
+IsRefusedRun g from old new = FailsToQuery (codes "SELECT key, value FROM record WHERE key >= ?1 ORDER BY key LIMIT 64") (Blob from ∷ []) (state g old) (state g new)
+
+-- why no run was read, where the disk has given back what was written: the query was refused, or its answer does not pass the test
+abbrev pub FailsToSelect : {S : Type 0} → Ghosts S → List ℕ → (List (List Value) → Bool) → Held S → Held S → Error → Type 0
+FailsToSelect g from test old new e = HasCleanDisk (state g new) → IsRefusedRun g from old new e ⊎ ((rows : List (List Value)) × SelectsRun g from rows old new × (test rows ≡ false))
+
 -- one of the two queries was answered, for all records or for a run from some key on, and this row stands in its answer
 pub record Selects {S : Type 0} (g : Ghosts S) (row : List Value) (old new : Held S) : Type 0 where
   pub rows : List (List Value)
@@ -36,9 +47,28 @@ abbrev pub IsSelected : List Value → Place → Place → Type 0
 IsSelected row (File name old) (File new_name new) = (new_name ≡ name) × (HasCleanDisk (state over_files new) → Selects over_files row old new)
 IsSelected row _ _ = ⊥
 
+-- the value is bytes
+abbrev pub is_blob : Value → Bool
+is_blob (Blob bytes) = true
+is_blob value = false
+
+-- the row is one of a record
+abbrev pub is_record : List Value → Bool
+is_record row = is_blob (column row 0) && is_blob (column row 1)
+
 -- the row has the record's key and its value
 abbrev pub HasRecord : List Value → Record → Type 0
 HasRecord row r = (column row 0 ≡ Blob r.key) × (column row 1 ≡ Blob r.value)
+
+-- the value is these bytes
+abbrev pub has_bytes : List ℕ → Value → Bool
+has_bytes bytes (Blob own) = same_text own bytes
+has_bytes bytes value = false
+
+-- the rows are of records, of which the first has this key
+abbrev pub begin_with : List ℕ → List (List Value) → Bool
+begin_with key [] = false
+begin_with key (row ∷ more) = has_bytes key (column row 0) && list_all is_record (row ∷ more)
 
 -- the records are those of rows of which this holds, row by row, where the disk has given back what was written
 abbrev pub AreRead : {S : Type 0} → Ghosts S → List Record → Held S → (List (List Value) → Type 0) → Type 0
@@ -47,6 +77,17 @@ AreRead g records new Answer = (rows : List (List Value)) × AllZip HasRecord ro
 -- the record is that of a row of which this holds
 abbrev pub IsInRow : (List Value → Type 0) → Record → Type 0
 IsInRow P r = (row : List Value) × HasRecord row r × P row
+
+-- the place stays, and these records are its connection's answer to the query for a run from this key on
+abbrev pub IsRun : List ℕ → List Record → Place → Place → Type 0
+IsRun from records (File name old) (File new_name new) = (new_name ≡ name) × AreRead over_files records new (λ rows. SelectsRun over_files from rows old new)
+IsRun from records _ _ = ⊥
+
+-- why there is no such run, or none whose rows pass the test: there is no file, or its connection answered so
+abbrev pub FailsToRead : List ℕ → (List (List Value) → Bool) → Place → Place → Error → Type 0
+FailsToRead from test (File name old) (File new_name new) e = FailsToSelect over_files from test old new e
+FailsToRead from test (File name old) new e = ⊥
+FailsToRead from test old new e = ⊤
 
 -- the row of each of these records was selected, and since then nothing was asked of the place: it is as that query left it
 abbrev pub AreReadAhead : List Record → Place → Type 0
@@ -64,6 +105,16 @@ pub record FetchesRow (key value : List ℕ) (old new : Place) : Type 0 where
   pub found : IsFound row old new
   pub key_is : column row 0 ≡ Blob key
   pub value_is : column row 1 ≡ Blob value
+
+-- the record of a place, from 0, in memory
+abbrev pub held_at : Place → ℕ → Option Record
+held_at (Memory records) index = slice_get records.items index
+held_at place index = None
+
+-- why no record of this place and this key was found: in memory another key stands there, or none
+abbrev pub FailsToFetch : ℕ → List ℕ → Place → Place → Error → Type 0
+FailsToFetch index key (Memory records) new e = IfSome (held_at (Memory records) index) (λ r. same_text r.key key ≡ false)
+FailsToFetch index key old new e = FailsToRead key (begin_with key) old new e
 
 -- the record is one of those in memory
 abbrev pub IsHeld : Record → Place → Type 0
@@ -84,10 +135,16 @@ AreSelected rows _ _ = ⊥
 abbrev pub first_column : List Value → Value
 first_column row = column row 0
 
+-- a connection that was new was found to be one to a store, or made that
+abbrev pub IsStore : Place → Type 0
+IsStore (File name now) = (new : Held _) × IsNew new × (HasCleanDisk (state over_files now) → Establishes over_files new now)
+IsStore place = ⊤
+
 -- these are all records of the place: those of the rows that the query for all of them was answered by, and since then nothing was asked of the place
 pub record AreAllRecords (records : List Record) (place : Place) : Type 0 where
   pub rows : List (List Value)
   pub before : Place
+  pub store : IsStore before
   pub selected : AreSelected rows before place
   pub are : AllZip HasRecord rows records
 
@@ -95,5 +152,6 @@ pub record AreAllRecords (records : List Record) (place : Place) : Type 0 where
 pub record AreAllKeys (keys : List (List ℕ)) (place : Place) : Type 0 where
   pub rows : List (List Value)
   pub before : Place
+  pub store : IsStore before
   pub selected : AreSelected rows before place
   pub are : map Blob keys ≡ map first_column rows

@@ -1,7 +1,9 @@
+pub mod Established
 pub mod Fetched
 pub mod Keys
 pub mod Machinery
 pub mod Places
+pub mod Refusals
 pub mod Told
 pub mod Transaction
 pub mod Written

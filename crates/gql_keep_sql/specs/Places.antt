@@ -2,10 +2,22 @@
 use Rattle.std.specs.Prelude.{◌≡◌, ℕ, List, Option, Some, None, ⊤}
 use Rattle.std.specs.String.{string_bytes}
 use Rattle.gql_keep_sql.specs.declared.place.Place.{Place}
-use Rattle.gql_keep_sql.specs.declared.place.Place.TheVariants.{Memory, File}
+use Rattle.gql_keep_sql.specs.declared.place.Place.TheVariants.{Nowhere, Memory, File}
 
 -- the place is the file that was opened under this name, or memory where there is no name
 abbrev pub IsUnder : Option (List ℕ) → Place → Type 0
 IsUnder None (Memory conn) = ⊤
 IsUnder (Some name) (File own conn) = string_bytes own ≡ name
 IsUnder _ _ = ⊥
+
+-- the place is a file
+abbrev pub IsFile : Place → Type 0
+IsFile (File name conn) = ⊤
+IsFile place = ⊥
+
+-- the place stays: the file, or memory with its records
+abbrev pub IsSamePlace : Place → Place → Type 0
+IsSamePlace Nowhere Nowhere = ⊤
+IsSamePlace (Memory old) (Memory new) = new ≡ old
+IsSamePlace (File name old) (File new_name new) = new_name ≡ name
+IsSamePlace _ _ = ⊥

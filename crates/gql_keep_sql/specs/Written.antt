@@ -1,5 +1,5 @@
 -- What a write does to the place where the records are: a list in memory, or a file.
-use Rattle.std.specs.Prelude.{◌≡◌, Bool, false, not, ◌||◌, List, ◌++◌, ℕ, IsTrue, IsPermutation}
+use Rattle.std.specs.Prelude.{◌≡◌, ⊤, Bool, false, not, ◌||◌, List, ◌++◌, ℕ, IsTrue, IsPermutation}
 use Rattle.sqlite.specs.Store.{Ghosts}
 use Rattle.sqlite.specs.Effect.{Database}
 use Rattle.sqlite.specs.State.{HasCleanDisk, Survives}
@@ -13,7 +13,9 @@ use Rattle.std.specs.List.Sorted.{IsSortedBy}
 use Rattle.std.specs.Ordering.{nat_cmp, is_lt}
 use Rattle.std.specs.Cmp.Lexicographic.{slice_cmp}
 use Rattle.gql_keep_sql.specs.Keys.{has_key, keys_of}
-use Rattle.gql_keep_sql.specs.Transaction.{Rewrote}
+use Rattle.gql_keep_sql.specs.Transaction.{Rewrote, FailsToRewrite}
+use Rattle.gql_values3.specs.Texts.{texts_differ}
+use Rattle.sqlite.specs.declared.error.Error.{Error}
 
 -- A connection was asked to write these, and did or did not. What is said of what it holds is said where the disk has given back what was written.
 pub record Transacts {S : Type 0} (g : Ghosts S) (puts : List Record) (drops : List (List ℕ)) (done : Bool) (old new : Held S) : Type 0 where
@@ -47,3 +49,10 @@ Writes puts drops done Nowhere Nowhere = done ≡ false
 Writes puts drops done (Memory old) (Memory new) = Alters puts drops done old.items new.items
 Writes puts drops done (File name old) (File new_name new) = (new_name ≡ name) × Transacts over_files puts drops done old new
 Writes puts drops done _ _ = ⊥
+
+-- why nothing was written: nothing is open, a key stands twice, or SQLite refused it
+abbrev pub FailsToWrite : List Record → List (List ℕ) → Place → Place → Error → Type 0
+FailsToWrite puts drops Nowhere new e = ⊤
+FailsToWrite puts drops (Memory old) new e = texts_differ (keys_of puts ++ drops) ≡ false
+FailsToWrite puts drops (File name old) (File new_name new) e = FailsToRewrite over_files puts drops old new e
+FailsToWrite puts drops (File name old) new e = ⊥

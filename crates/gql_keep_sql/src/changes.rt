@@ -1,12 +1,12 @@
 //! Which keys are put and which are dropped, in ascending order.
 
-ghost use Rattle.std.specs.Prelude.{◌≡◌, ℕ, List, Option, Some, None, length, map, IfOk, OnOk, ◌++◌, ◌||◌, true, if◌then◌else◌, IfSome};
+ghost use Rattle.std.specs.Prelude.{◌≡◌, ℕ, List, Option, Some, None, is_some, length, map, IfOk, OnOk, ◌++◌, ◌||◌, true, if◌then◌else◌, IfSome};
+ghost use Rattle.gql_values3.specs.Texts.{texts_differ};
 ghost use Rattle.gql_keep_sql.specs.Keys.{has_key, keys_of};
 ghost use Rattle.gql_keep_sql.specs.Machinery.Merge.{put_of, drop_of, changes_ascend, is_put_in, is_changed_in};
 
 use gql_ports::{Key, Record};
 use gql_values3::{Bytes, Keyed, keys_ascend};
-use sqlite::Error;
 use std::alloc::{AllocError, Global};
 use std::marker::Model;
 
@@ -45,7 +45,8 @@ impl Model for Changes {
 
 impl Changes {
     /// What these puts and drops change, or None where a key stands twice among them.
-    pub fn of(alloc: Global, puts: &[Record], drops: &[Key]) -> Result<Option<Changes>, Error>
+    pub fn of(alloc: Global, puts: &[Record], drops: &[Key]) -> Result<Option<Changes>, AllocError>
+        ensures differ { IfOk result (λ o. is_some o ≡ texts_differ (keys_of puts.now ++ drops.now)) }
         ensures put { IfOk result (λ o. IfSome o (λ changes. (key : List ℕ) → is_put_in changes key ≡ has_key (keys_of puts.now) key)) }
         ensures changed { IfOk result (λ o. IfSome o (λ changes. (key : List ℕ) → is_changed_in changes key ≡ (has_key (keys_of puts.now) key || has_key drops.now key))) }
     {
@@ -97,7 +98,7 @@ fn ascending(items: Vec<Change>) -> Option<Changes>
     }
 }
 
-fn push_puts(alloc: Global, items: &mut Vec<Change>, puts: &[Record]) -> Result<(), Error>
+fn push_puts(alloc: Global, items: &mut Vec<Change>, puts: &[Record]) -> Result<(), AllocError>
     ensures { OnOk result (items.new.items ≡ items.old.items ++ map put_of puts.now) }
 {
     for record in puts {
@@ -109,7 +110,7 @@ fn push_puts(alloc: Global, items: &mut Vec<Change>, puts: &[Record]) -> Result<
     Ok(())
 }
 
-fn push_drops(alloc: Global, items: &mut Vec<Change>, drops: &[Key]) -> Result<(), Error>
+fn push_drops(alloc: Global, items: &mut Vec<Change>, drops: &[Key]) -> Result<(), AllocError>
     ensures { OnOk result (items.new.items ≡ items.old.items ++ map drop_of drops.now) }
 {
     for key in drops {

@@ -1,16 +1,18 @@
 //! The keeper over SQLite, or memory, which keeps the keys of its store at hand.
 
-ghost use Rattle.std.specs.Prelude.{◌≡◌, ◌⊎◌, ◌≤◌, ◌<◌, ◌++◌, ℕ, List, [], Option, Some, None, Ok, Err, option_map, length, map, Bool, true, ◌+◌, IfOk, OnOk, OnErr, IfSome, IsTrue, is_ok, slice_get};
+ghost use Rattle.std.specs.Prelude.{◌≡◌, ◌≢◌, ◌⊎◌, ◌≤◌, ◌<◌, ◌++◌, ℕ, List, [], Option, Some, None, Ok, Err, option_map, length, map, Bool, true, false, ◌+◌, IfOk, OnOk, OnErr, IfSome, IsTrue, is_ok, slice_get};
 ghost use Rattle.std.specs.Option.{option_copied};
 ghost use Rattle.gql_values3.specs.Texts.{texts_differ, texts_ascend};
 ghost use Rattle.gql_ports.specs.Causes.{Rose, count_after};
 ghost use Rattle.gql_ports.specs.Told.{MatchTold};
 ghost use Rattle.gql_ports.specs.Held.{held_after_opening, keys_ascend, Applies};
 ghost use Rattle.gql_keep_sql.specs.Told.{told_by};
-ghost use Rattle.gql_keep_sql.specs.Keys.{has_key, stands_after};
-ghost use Rattle.gql_keep_sql.specs.Fetched.{Fetches, AreAllKeys};
-ghost use Rattle.gql_keep_sql.specs.Places.{IsUnder};
-ghost use Rattle.gql_keep_sql.specs.Written.{Writes};
+ghost use Rattle.gql_keep_sql.specs.Keys.{has_key, keys_of, stands_after};
+ghost use Rattle.gql_keep_sql.specs.declared.place.Place.TheVariants.{Nowhere};
+ghost use Rattle.gql_keep_sql.specs.Fetched.{Fetches, FailsToFetch, AreAllKeys};
+ghost use Rattle.gql_keep_sql.specs.Places.{IsUnder, IsFile, IsSamePlace};
+ghost use Rattle.gql_keep_sql.specs.Refusals.{FailsOnlyBy, FailedBy};
+ghost use Rattle.gql_keep_sql.specs.Written.{Writes, FailsToWrite};
 ghost use Rattle.gql_keep_sql.specs.Machinery.Merge.{stands_under};
 ghost use Rattle.std.specs.Vec.{vec_capacity};
 
@@ -38,6 +40,7 @@ impl<'a> SqlKeeper<'a> {
     /// Opens nothing, and takes no memory.
     pub fn new(rt: &'a HostRuntime, alloc: Global) -> SqlKeeper<'a>
         ensures keys { result.keys ≡ [] }
+        ensures place { result.reader.place ≡ Nowhere }
         ensures faults { result.faults ≡ 0 }
     {
         SqlKeeper {
@@ -51,7 +54,9 @@ impl<'a> SqlKeeper<'a> {
 
     /// Copies SQLite's log into the file, which then stands alone. Without it the log stays beside the file, and the next
     /// opening reads both.
-    pub fn close(self) -> Result<(), KeepFault> {
+    pub fn close(self) -> Result<(), KeepFault>
+        ensures { OnErr result (IsFile self.entry.reader.place) }
+    {
         let mut faults = self.faults;
         counted(&mut faults, self.reader.close())
     }
@@ -73,6 +78,7 @@ impl<'a> Keeper for SqlKeeper<'a> {
         ensures under { OnOk result (IsUnder (option_copied name.entry) self.new.reader.place) }
         ensures listed { OnOk result (AreAllKeys self.new.keys self.new.reader.place ⊎ ((self.new.keys ≡ self.old.keys) × (self.new.reader.place ≡ self.old.reader.place))) }
         ensures kept { OnErr result ((self.new.keys ≡ self.old.keys) × (self.new.reader.place ≡ self.old.reader.place)) }
+        ensures memory { option_copied name.entry ≡ None → result ≢ Err KeepFault.Failed }
         ensures own { IsUnder (option_copied name.entry) self.old.reader.place → (result ≡ Ok tt) × (self.new ≡ self.old) }
     {
         if self.reader.is_open_as(name) {
@@ -105,6 +111,8 @@ impl<'a> Keeper for SqlKeeper<'a> {
         ensures key { IfOk result (λ r. slice_get self.old.keys index ≡ Some r.key) }
         ensures value { IfOk result (λ r. ∥ Fetches r.key r.value self.old.reader.place self.new.reader.place ∥₁) }
         ensures keys { self.new.keys ≡ self.old.keys }
+        ensures place { IsSamePlace self.old.reader.place self.new.reader.place }
+        ensures refused { FailedBy result (λ e. IfSome (slice_get self.old.keys index) (λ key. FailsToFetch index key self.old.reader.place self.new.reader.place e)) }
     {
         let Some(key) = self.keys.get(index as usize) else {
             unreachable!()
@@ -123,6 +131,7 @@ impl<'a> Keeper for SqlKeeper<'a> {
         ensures stand { OnOk result ((key : List ℕ) → has_key self.new.keys key ≡ stands_after puts.now drops.now key (has_key self.old.keys key)) }
         ensures kept { OnErr result (self.new.keys ≡ self.old.keys) }
         ensures writes { Writes puts.now drops.now (is_ok result) self.old.reader.place self.new.reader.place }
+        ensures refused { FailedBy result (FailsToWrite puts.now drops.now self.old.reader.place self.new.reader.place) }
     {
         let written = self.write(puts, drops);
         let (changes, room) = counted(&mut self.faults, written)?;
@@ -137,6 +146,7 @@ impl<'a> SqlKeeper<'a> {
         ensures keys { self.new.keys ≡ self.old.keys }
         ensures faults { self.new.faults ≡ self.old.faults }
         ensures writes { Writes puts.now drops.now (is_ok result) self.old.reader.place self.new.reader.place }
+        ensures refused { FailsOnlyBy result (λ e. (texts_differ (keys_of puts.now ++ drops.now) ≡ false) ⊎ FailsToWrite puts.now drops.now self.old.reader.place self.new.reader.place e) }
         ensures stand { IfOk result (λ ready. (key : List ℕ) (before : Bool) → stands_under ready.0 key before ≡ stands_after puts.now drops.now key before) }
         ensures empty { IfOk result (λ ready. ready.1.items ≡ []) }
         ensures room { IfOk result (λ ready. length self.old.keys + length ready.0 ≤ vec_capacity ready.1) }

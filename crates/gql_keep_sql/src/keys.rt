@@ -9,10 +9,8 @@ ghost use Rattle.gql_keep_sql.specs.Keys.{has_key, keys_of};
 ghost use Rattle.gql_keep_sql.specs.Machinery.Merge.{stands_under, merged, below, above};
 
 use crate::changes::{Change, Changes, copy_key};
-use crate::fault::NO_MEMORY;
 use gql_ports::{Key, Record};
 use gql_values3::keys_ascend;
-use sqlite::Error;
 use std::alloc::{AllocError, Global};
 use std::cmp::Ordering;
 use std::marker::Model;
@@ -71,14 +69,14 @@ impl Keys {
     }
 
     /// An empty list with room for these keys and those of the changes.
-    pub fn room_for(&self, alloc: Global, changes: &Changes) -> Result<Vec<Key>, Error>
+    pub fn room_for(&self, alloc: Global, changes: &Changes) -> Result<Vec<Key>, AllocError>
         ensures empty { IfOk result (λ room. room.items ≡ []) }
         ensures room { IfOk result (λ room. length self.now + length changes.now ≤ vec_capacity room) }
     {
         let Some(most) = self.items.len().checked_add(changes.len()) else {
-            return Err(NO_MEMORY);
+            return Err(AllocError);
         };
-        Ok(Vec::with_capacity(alloc, most)?)
+        Vec::with_capacity(alloc, most)
     }
 
     /// Puts and drops these keys. It takes no memory: the keys move to `room`.

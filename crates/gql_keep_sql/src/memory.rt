@@ -1,6 +1,9 @@
 //! Records in memory, in ascending order of their keys.
 
 ghost use Rattle.std.specs.Prelude.{◌≡◌, ◌≤◌, ◌+◌, ◌++◌, IfOk, is_ok, slice_get, IsPermutation};
+ghost use Rattle.gql_values3.specs.Texts.{same_text, texts_differ};
+ghost use Rattle.gql_keep_sql.specs.Keys.{keys_of};
+ghost use Rattle.gql_keep_sql.specs.Refusals.{SucceedsIff};
 ghost use Rattle.std.specs.List.{filter};
 ghost use Rattle.std.specs.Vec.{vec_len, vec_capacity};
 ghost use Rattle.std.specs.Option.{option_copied};
@@ -17,7 +20,8 @@ use std::mem;
 
 /// Puts and drops all of these, or changes nothing. All memory is taken before anything changes.
 pub fn write(records: &mut Vec<Record>, puts: &[Record], drops: &[Key]) -> Result<(), Error>
-    ensures { Alters puts.now drops.now (is_ok result) records.old.items records.new.items }
+    ensures succeeds { SucceedsIff result (texts_differ (keys_of puts.now ++ drops.now)) }
+    ensures alters { Alters puts.now drops.now (is_ok result) records.old.items records.new.items }
 {
     let alloc = *records.allocator();
     let Some(changes) = Changes::of(alloc, puts, drops)? else {
@@ -39,6 +43,7 @@ pub fn at(records: &[Record], index: u64) -> Option<&Record>
 
 /// A copy of the record, which has to have that key.
 pub fn copy_of(alloc: Global, key: &Key, held: &Record) -> Result<Record, Error>
+    ensures succeeds { SucceedsIff result (same_text held.now.key key.now) }
     ensures key { IfOk result (λ r. r.key ≡ key.now) }
     ensures same { IfOk result (λ r. r ≡ held.now) }
 {
@@ -58,7 +63,7 @@ fn copy_record(alloc: Global, held: &Record) -> Result<Record, AllocError>
 }
 
 /// Copies of the records, with room for so many more.
-fn copies(alloc: Global, records: &[Record], more: usize) -> Result<Vec<Record>, Error>
+fn copies(alloc: Global, records: &[Record], more: usize) -> Result<Vec<Record>, AllocError>
     ensures items { IfOk result (λ copies. copies.items ≡ records.now) }
     ensures room { IfOk result (λ copies. vec_len copies + more ≤ vec_capacity copies) }
 {
@@ -82,8 +87,8 @@ fn keep(into: &mut Vec<Record>, old: Vec<Record>, changes: &Changes)
     }
 }
 
-/// In one go where there are two runs in order, as long as there is memory.
-fn sort(records: &mut Vec<Record>)
+/// Sorts by key: in one go where there are two runs in order, as long as there is memory.
+pub fn sort(records: &mut Vec<Record>)
     ensures same { IsPermutation records.old.items records.new.items }
     ensures ordered { IsSortedBy is_key_below records.new.items }
 {

@@ -1,10 +1,14 @@
 //! Where the records of a store are: in a file, in memory, or nowhere yet.
 
-ghost use Rattle.std.specs.Prelude.{◌≡◌, Some, None, IfOk, IfSome, IsTrue, is_ok, All};
+ghost use Rattle.std.specs.Prelude.{◌≡◌, Some, None, IfOk, IfErr, OnErr, IsOk, IsTrue, is_ok};
+ghost use Rattle.std.specs.List.{list_all};
+ghost use Rattle.sqlite.specs.Held.{IsNew};
+ghost use Rattle.sqlite.specs.Opening.{is_open_error};
 ghost use Rattle.std.specs.Option.{option_copied};
-ghost use Rattle.gql_keep_sql.specs.Fetched.{IsSelected, IsInRow, AreAllRecords, IsHeld};
-ghost use Rattle.gql_keep_sql.specs.Places.{IsUnder};
-ghost use Rattle.gql_keep_sql.specs.Written.{Writes};
+ghost use Rattle.gql_keep_sql.specs.Fetched.{AreAllRecords, IsRun, is_record, FailsToRead, held_at};
+ghost use Rattle.gql_keep_sql.specs.Places.{IsUnder, IsFile, IsSamePlace};
+ghost use Rattle.gql_keep_sql.specs.Refusals.{FailsOnlyBy};
+ghost use Rattle.gql_keep_sql.specs.Written.{Writes, FailsToWrite};
 
 use crate::fault::CLOSED;
 use crate::{memory, store, transaction};
@@ -34,6 +38,7 @@ impl Place {
     ) -> Result<(Place, Vec<Record>), Error>
         ensures under { IfOk result (λ opened. IsUnder (option_copied name.entry) opened.0) }
         ensures all { IfOk result (λ opened. AreAllRecords opened.1.items opened.0) }
+        ensures memory { option_copied name.entry ≡ None → IsOk result }
     {
         match name {
             Some(name) => open_file(rt, alloc, name),
@@ -55,7 +60,7 @@ impl Place {
 
     /// The record of that place in ascending order of the keys, where they are in memory.
     pub fn record(&self, index: u64) -> Option<&Record>
-        ensures { IfSome (option_copied result) (λ r. IsHeld r self.now) }
+        ensures { option_copied result ≡ held_at self.now index }
     {
         match self {
             Place::Memory(records) => memory::at(records.as_slice(), index),
@@ -65,7 +70,9 @@ impl Place {
 
     /// A run of records, from that key on.
     pub fn select(&mut self, alloc: Global, from: &Key) -> Result<Vec<Record>, Error>
-        ensures { IfOk result (λ records. All (IsInRow (λ row. IsSelected row self.old self.new)) records.items) }
+        ensures place { IsSamePlace self.old self.new }
+        ensures read { IfOk result (λ records. IsRun from.now records.items self.old self.new) }
+        ensures refused { FailsOnlyBy result (FailsToRead from.now (list_all is_record) self.old self.new) }
     {
         match self {
             Place::Nowhere => Err(CLOSED),
@@ -76,7 +83,8 @@ impl Place {
 
     /// Puts and drops all of these, or changes nothing.
     pub fn write(&mut self, puts: &[Record], drops: &[Key]) -> Result<(), Error>
-        ensures { Writes puts.now drops.now (is_ok result) self.old self.new }
+        ensures writes { Writes puts.now drops.now (is_ok result) self.old self.new }
+        ensures refused { FailsOnlyBy result (FailsToWrite puts.now drops.now self.old self.new) }
     {
         match self {
             Place::Nowhere => Err(CLOSED),
@@ -86,7 +94,9 @@ impl Place {
     }
 
     /// Copies SQLite's log into the file, which then stands alone.
-    pub fn close(self) -> Result<(), Error> {
+    pub fn close(self) -> Result<(), Error>
+        ensures { OnErr result (IsFile self) }
+    {
         match self {
             Place::Nowhere => Ok(()),
             Place::Memory(_) => Ok(()),
@@ -106,7 +116,10 @@ fn open_file(rt: &HostRuntime, alloc: Global, name: &str) -> Result<(Place, Vec<
     Ok((Place::File(own, conn), records))
 }
 
-fn connect(rt: &HostRuntime, path: &str) -> Result<FileConnection, Error> {
+fn connect(rt: &HostRuntime, path: &str) -> Result<FileConnection, Error>
+    ensures new { IfOk result IsNew }
+    ensures named { IfErr result (λ e. IsTrue (is_open_error e)) }
+{
     match Connection::open_from(rt, path, false, Wary) {
         Ok(conn) => Ok(conn),
         Err((error, _)) => Err(error),

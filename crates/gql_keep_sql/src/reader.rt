@@ -1,10 +1,12 @@
 //! The place of a store, and a run of the records of a file that was read ahead: all of them behind an opening, 64 later on.
 
-ghost use Rattle.std.specs.Prelude.{◌≡◌, IfOk, IfSome, OnOk, IsTrue, is_ok, All, Contains};
+ghost use Rattle.std.specs.Prelude.{◌≡◌, [], ◌∷◌, ◌++◌, List, None, Some, IfOk, IfSome, OnOk, OnErr, IsTrue, is_ok, reverse, Contains};
+ghost use Rattle.std.specs.List.{list_all};
 ghost use Rattle.std.specs.Option.{option_copied};
-ghost use Rattle.gql_keep_sql.specs.Fetched.{IsInRow, AreReadAhead, IsFound, Fetches, AreAllKeys};
-ghost use Rattle.gql_keep_sql.specs.Places.{IsUnder};
-ghost use Rattle.gql_keep_sql.specs.Written.{Writes};
+ghost use Rattle.gql_keep_sql.specs.Fetched.{AreReadAhead, IsRun, is_record, begin_with, FailsToRead, FailsToFetch, Fetches, AreAllKeys};
+ghost use Rattle.gql_keep_sql.specs.Places.{IsUnder, IsFile, IsSamePlace};
+ghost use Rattle.gql_keep_sql.specs.Refusals.{FailsOnlyBy};
+ghost use Rattle.gql_keep_sql.specs.Written.{Writes, FailsToWrite};
 
 use crate::fault::NOT_A_STORE;
 use crate::keys::Keys;
@@ -20,8 +22,6 @@ pub struct Reader {
     place: Place,
     /// What is left of the run of records that was read last, the last record first.
     run: Vec<Record>,
-    /// The place of the next of them in the list of keys.
-    next: u64,
     ghost held: { ∥ AreReadAhead run.items place ∥₁ },
 }
 
@@ -33,7 +33,6 @@ impl Reader {
         Reader {
             place,
             run: Vec::new(alloc),
-            next: 0,
         }
     }
 
@@ -45,15 +44,12 @@ impl Reader {
     ) -> Result<(Reader, Keys), Error>
         ensures under { IfOk result (λ opened. IsUnder (option_copied name.entry) opened.0.place) }
         ensures listed { IfOk result (λ opened. AreAllKeys opened.1 opened.0.place) }
+        ensures memory { option_copied name.entry ≡ None → FailsOnlyBy result (λ _. ⊥) }
     {
         let (place, records) = Place::open(rt, alloc, name)?;
         let (keys, mut run) = store::in_order(alloc, records)?;
         run.reverse();
-        let reader = Reader {
-            place,
-            run,
-            next: 0,
-        };
+        let reader = Reader { place, run };
         Ok((reader, keys))
     }
 
@@ -67,72 +63,76 @@ impl Reader {
 
     /// The record of that key, which has that place in the list of keys. Another key there is an error.
     pub fn fetch(&mut self, alloc: Global, index: u64, key: &Key) -> Result<Record, Error>
+        ensures place { IsSamePlace self.old.place self.new.place }
         ensures key { IfOk result (λ r. r.key ≡ key.now) }
         ensures value { IfOk result (λ r. ∥ Fetches r.key r.value self.old.place self.new.place ∥₁) }
+        ensures refused { FailsOnlyBy result (FailsToFetch index key.now self.old.place self.new.place) }
     {
         match self.place.record(index) {
-            Some(record) => Ok(memory::copy_of(alloc, key, record)?),
-            None => self.fetch_row(alloc, index, key),
+            Some(record) => memory::copy_of(alloc, key, record),
+            None => self.fetch_row(alloc, key),
         }
     }
 
-    /// The same in a row. The record moves out of the run.
-    fn fetch_row(&mut self, alloc: Global, index: u64, key: &Key) -> Result<Record, Error>
+    /// The same in a row. The record moves out of the run, and where it is not the next one there, a run is read from it on.
+    fn fetch_row(&mut self, alloc: Global, key: &Key) -> Result<Record, Error>
+        ensures place { IsSamePlace self.old.place self.new.place }
         ensures key { IfOk result (λ r. r.key ≡ key.now) }
         ensures value { IfOk result (λ r. ∥ Fetches r.key r.value self.old.place self.new.place ∥₁) }
+        ensures refused { FailsOnlyBy result (FailsToRead key.now (begin_with key.now) self.old.place self.new.place) }
     {
-        self.read(alloc, index, key)?;
-        let Some(record) = self.take(alloc) else {
-            return Err(NOT_A_STORE);
-        };
-        if record.key.as_slice() != key.as_slice() {
-            return Err(NOT_A_STORE);
+        if let Some(record) = self.take(alloc, key) {
+            return Ok(record);
         }
-        Ok(record)
+        self.read(alloc, key)?;
+        match self.take(alloc, key) {
+            Some(record) => Ok(record),
+            None => Err(NOT_A_STORE),
+        }
     }
 
     /// Puts and drops all of these, or changes nothing.
     pub fn write(&mut self, puts: &[Record], drops: &[Key]) -> Result<(), Error>
-        ensures { Writes puts.now drops.now (is_ok result) self.old.place self.new.place }
+        ensures writes { Writes puts.now drops.now (is_ok result) self.old.place self.new.place }
+        ensures refused { FailsOnlyBy result (FailsToWrite puts.now drops.now self.old.place self.new.place) }
     {
         self.run.clear();
         self.place.write(puts, drops)
     }
 
     /// Copies SQLite's log into the file, which then stands alone.
-    pub fn close(self) -> Result<(), Error> {
-        let Reader {
-            place,
-            run: _,
-            next: _,
-        } = self;
+    pub fn close(self) -> Result<(), Error>
+        ensures { OnErr result (IsFile self.place) }
+    {
+        let Reader { place, run: _ } = self;
         place.close()
     }
 
-    /// Reads a run from that record on, unless it is the next one of the run that was read last.
-    fn read(&mut self, alloc: Global, index: u64, key: &Key) -> Result<(), Error>
-        ensures { OnOk result (∥ All (IsInRow (λ row. IsFound row self.old.place self.new.place)) self.new.run.items ∥₁) }
+    /// Reads a run from that key on, in place of what is left of the last one.
+    fn read(&mut self, alloc: Global, key: &Key) -> Result<(), Error>
+        ensures place { IsSamePlace self.old.place self.new.place }
+        ensures read { OnOk result (IsRun key.now (reverse self.new.run.items) self.old.place self.new.place) }
+        ensures refused { FailsOnlyBy result (FailsToRead key.now (list_all is_record) self.old.place self.new.place) }
     {
-        if self.next == index && !self.run.is_empty() {
-            return Ok(());
-        }
         self.run = Vec::new(alloc);
         let mut run = self.place.select(alloc, key)?;
         run.reverse();
         self.run = run;
-        self.next = index;
         Ok(())
     }
 
-    /// Takes the next record of the run, which is let go behind its last one.
-    fn take(&mut self, alloc: Global) -> Option<Record>
+    /// Takes the next record of the run, where it has that key. The run is let go behind its last one.
+    fn take(&mut self, alloc: Global, key: &Key) -> Option<Record>
         ensures place { self.new.place ≡ self.old.place }
-        ensures record { IfSome result (Contains self.old.run.items) }
+        ensures record { IfSome result (λ r. Contains self.old.run.items r × (r.key ≡ key.now)) }
+        ensures next { (front : List Record) (r : Record) → self.old.run.items ≡ front ++ r ∷ [] → r.key ≡ key.now → result ≡ Some r }
     {
         let record = self.run.pop()?;
-        self.next = self.next.saturating_add(1);
         if self.run.is_empty() {
             self.run = Vec::new(alloc);
+        }
+        if record.key.as_slice() != key.as_slice() {
+            return None;
         }
         Some(record)
     }

@@ -1,20 +1,25 @@
 //! A store: a database with one table, and what is read there.
 
-ghost use Rattle.std.specs.Prelude.{◌≡◌, IfOk, IsPermutation};
-ghost use Rattle.std.specs.List.{AllZip};
+ghost use Rattle.std.specs.Prelude.{◌≡◌, ℕ, [], Ok, Err, IfOk, IfErr, OnOk, IsPermutation};
+ghost use Rattle.std.specs.List.{AllZip, list_all};
 ghost use Rattle.sqlite.specs.declared.types.Value.TheVariants.{Blob};
 ghost use Rattle.sqlite.specs.Order.{column};
-ghost use Rattle.sqlite.specs.State.{HasCleanDisk};
+ghost use Rattle.sqlite.specs.State.{HasCleanDisk, Executes};
 ghost use Rattle.sqlite.specs.Held.{state};
-ghost use Rattle.gql_keep_sql.specs.Fetched.{SelectsAll, SelectsRun, AreRead, HasRecord};
+ghost use Rattle.gql_values3.specs.Texts.{texts_differ};
+ghost use Rattle.gql_keep_sql.specs.Established.{table, is_text, Establishes, FailsToEstablish};
+ghost use Rattle.gql_keep_sql.specs.Fetched.{SelectsAll, SelectsRun, AreRead, HasRecord, is_blob, is_record, IsRefusedRun, FailsToSelect};
 ghost use Rattle.gql_keep_sql.specs.Keys.{keys_of};
+ghost use Rattle.gql_keep_sql.specs.Refusals.{SucceedsIff, FailsOnlyBy};
 
 use crate::fault::{NO_MEMORY, NOT_A_STORE};
 use crate::keys::Keys;
+use crate::memory;
 use gql_ports::{Key, Record};
 use gql_values3::Bytes;
+use sqlite::types::ValueRef;
 use sqlite::{Alter, Connection, Error, Row, params};
-use std::alloc::{AllocError, Global};
+use std::alloc::Global;
 
 /// The table, by the very text that SQLite keeps of it.
 const TABLE: &str = "CREATE TABLE record (key BLOB PRIMARY KEY, value BLOB NOT NULL) STRICT";
@@ -29,23 +34,35 @@ const ALL: &str = "SELECT key, value FROM record";
 const RUN: &str = "SELECT key, value FROM record WHERE key >= ?1 ORDER BY key LIMIT 64";
 
 /// Makes the table in a database without any object, and refuses one that has others, before anything is written.
-pub fn establish<S: Alter>(conn: &mut Connection<S>) -> Result<(), Error> {
+pub fn establish<S: Alter>(conn: &mut Connection<S>) -> Result<(), Error>
+    ensures made { HasCleanDisk (state S.Store conn.new) → OnOk result (Establishes S.Store conn.old conn.new) }
+    ensures refused { FailsOnlyBy result (FailsToEstablish S.Store conn.old conn.new) }
+{
     let objects = conn.query_all(OBJECTS, &[])?;
     match objects.as_slice() {
         [] => make(conn),
-        [only] if is_table(only)? => Ok(()),
+        [only] if is_table(only) => Ok(()),
         _ => Err(NOT_A_STORE),
     }
 }
 
-fn make<S: Alter>(conn: &mut Connection<S>) -> Result<(), Error> {
+fn make<S: Alter>(conn: &mut Connection<S>) -> Result<(), Error>
+    ensures made { HasCleanDisk (state S.Store conn.new) → OnOk result ((count : ℕ) × Executes table [] (state S.Store conn.old) (state S.Store conn.new) (Ok count)) }
+    ensures refused { HasCleanDisk (state S.Store conn.new) → IfErr result (λ e. Executes table [] (state S.Store conn.old) (state S.Store conn.new) (Err e)) }
+    ensures clean { HasCleanDisk (state S.Store conn.new) → HasCleanDisk (state S.Store conn.old) }
+{
     conn.execute(TABLE, &[])?;
     Ok(())
 }
 
-fn is_table(object: &Row) -> Result<bool, Error> {
-    let text: String = object.get(0)?;
-    Ok(text.as_str() == TABLE)
+/// Whether the text of an object is that of the table.
+fn is_table(object: &Row) -> bool
+    ensures { result ≡ is_text table (column object.now 0) }
+{
+    match object.get_ref(0) {
+        Ok(ValueRef::Text(text)) => text == TABLE.as_bytes(),
+        _ => false,
+    }
 }
 
 /// All records, in the order in which they lie. One row is read at a time, so that records alone stand in memory.
@@ -67,25 +84,19 @@ pub fn select_all<S: Alter>(alloc: Global, conn: &mut Connection<S>) -> Result<V
 /// The records in ascending order of their keys, and these. They are sorted where they don't lie in that order. Where a
 /// key stands twice, this is no store.
 pub fn in_order(alloc: Global, records: Vec<Record>) -> Result<(Keys, Vec<Record>), Error>
+    ensures succeeds { SucceedsIff result (texts_differ (keys_of records.items)) }
     ensures same { IfOk result (λ ordered. IsPermutation records.items ordered.1.items) }
     ensures keys { IfOk result (λ ordered. ordered.0 ≡ keys_of ordered.1.items) }
 {
     if let Some(keys) = Keys::of(alloc, records.as_slice())? {
         return Ok((keys, records));
     }
-    let sorted = sorted(records)?;
+    let mut sorted = records;
+    memory::sort(&mut sorted);
     match Keys::of(alloc, sorted.as_slice())? {
         Some(keys) => Ok((keys, sorted)),
         None => Err(NOT_A_STORE),
     }
-}
-
-fn sorted(records: Vec<Record>) -> Result<Vec<Record>, AllocError>
-    ensures { IfOk result (λ sorted. IsPermutation records.items sorted.items) }
-{
-    let mut sorted = records;
-    sorted.sort_by(|a, b| a.key.as_slice().cmp(b.key.as_slice()))?;
-    Ok(sorted)
 }
 
 /// A run of records, from that key on.
@@ -94,20 +105,23 @@ pub fn select<S: Alter>(
     conn: &mut Connection<S>,
     from: &Key,
 ) -> Result<Vec<Record>, Error>
-    ensures { IfOk result (λ records. AreRead S.Store records.items conn.new (λ rows. SelectsRun S.Store from.now rows conn.old conn.new)) }
+    ensures read { IfOk result (λ records. AreRead S.Store records.items conn.new (λ rows. SelectsRun S.Store from.now rows conn.old conn.new)) }
+    ensures refused { FailsOnlyBy result (FailsToSelect S.Store from.now (list_all is_record) conn.old conn.new) }
 {
     let rows = select_rows(conn, from)?;
     records_of(alloc, rows.as_slice())
 }
 
 fn select_rows<S: Alter>(conn: &mut Connection<S>, from: &Key) -> Result<Vec<Row>, Error>
-    ensures { IfOk result (λ rows. HasCleanDisk (state S.Store conn.new) → SelectsRun S.Store from.now rows.items conn.old conn.new) }
+    ensures answered { IfOk result (λ rows. HasCleanDisk (state S.Store conn.new) → SelectsRun S.Store from.now rows.items conn.old conn.new) }
+    ensures refused { HasCleanDisk (state S.Store conn.new) → IfErr result (IsRefusedRun S.Store from.now conn.old conn.new) }
 {
     Ok(conn.query_all(RUN, params![from.as_slice()])?)
 }
 
 fn records_of(alloc: Global, rows: &[Row]) -> Result<Vec<Record>, Error>
-    ensures { IfOk result (λ records. AllZip HasRecord rows.now records.items) }
+    ensures succeeds { SucceedsIff result (list_all is_record rows.now) }
+    ensures read { IfOk result (λ records. AllZip HasRecord rows.now records.items) }
 {
     let mut records = Vec::with_capacity(alloc, rows.len())?;
     for row in rows {
@@ -118,7 +132,8 @@ fn records_of(alloc: Global, rows: &[Row]) -> Result<Vec<Record>, Error>
 
 /// The record in a row.
 fn record_of(row: &Row) -> Result<Record, Error>
-    ensures { IfOk result (HasRecord row.now) }
+    ensures succeeds { SucceedsIff result (is_record row.now) }
+    ensures read { IfOk result (HasRecord row.now) }
 {
     Ok(Record {
         key: blob(row, 0)?,
@@ -128,7 +143,8 @@ fn record_of(row: &Row) -> Result<Record, Error>
 
 /// The value at that place of a row, which has to be bytes.
 fn blob(row: &Row, at: usize) -> Result<Bytes, Error>
-    ensures { IfOk result (λ bytes. column row.now at ≡ Blob bytes) }
+    ensures succeeds { SucceedsIff result (is_blob (column row.now at)) }
+    ensures read { IfOk result (λ bytes. column row.now at ≡ Blob bytes) }
 {
     Ok(Bytes::from_vec(row.get(at)?))
 }

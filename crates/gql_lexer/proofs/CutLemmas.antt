@@ -1,7 +1,7 @@
 -- Pieces by themselves. Where a `;` ends a piece, each form in front of it ends in front of it; and such a form is found
 -- as well where nothing stands behind the piece, since no form looks beyond its end for more than what a `;` is not:
 -- a digit, a part of a name, a further quote, a `*/`, a line feed or the rest of a symbol.
-use Rattle.std.proofs.Common.{◌≡◌, ℕ, zero, suc, ◌+◌, ◌-◌, ◌<◌, ◌≤◌, Bool, true, false, cond, ◌&&◌, ◌||◌, ◌==◌, not, nat_lt, List, [], ◌∷◌, ◌++◌, length, take, drop, Option, Some, None, IfSome, refl, sym, ap, ◌∙◌, arith, subst, append_assoc, length-drop, length-append, length-take-le, slice_index}
+use Rattle.std.proofs.Common.{◌≡◌, ℕ, zero, suc, ◌+◌, ◌-◌, ◌<◌, ◌≤◌, Bool, true, false, cond, ◌&&◌, ◌||◌, ◌==◌, not, nat_lt, List, [], ◌∷◌, ◌++◌, length, take, drop, Option, Some, None, IfSome, refl, sym, ap, ◌∙◌, arith, subst, append_assoc, length-append, length-take-le, slice_index}
 use Rattle.std.specs.Prelude.{codes}
 use Rattle.std.specs.Option.{option_map, option_or, option_map_or}
 use Rattle.std.specs.List.{prefix_len, flat_map}
@@ -25,7 +25,7 @@ use Rattle.gql_lexer.specs.Spans.{Span, first_span, spans}
 use Rattle.gql_lexer.specs.Lexemes.{lexeme_of, is_gap, with_lexeme, lexemes_of_spans, lexemes_of}
 use Rattle.gql_lexer.specs.Pieces.{is_end, piece, with_bytes, pieces_of_spans, pieces_of}
 use Rattle.gql_lexer.specs.Laws.{with_end, spans_with_end, SpansOfPiecesJoin, lexemes_with_end, with_lexemes, lexemes_of_pieces, LexemesOfPiecesJoin, EachIsWhole, PiecesAreWhole, EachForm}
-use Rattle.gql_lexer.proofs.FormLemmas.{front-fits}
+use Rattle.gql_lexer.proofs.FormLemmas.{front-fits, by-fronts}
 use Rattle.gql_lexer.proofs.FrontLemmas.{and-both, no-name}
 use Rattle.gql_lexer.proofs.LengthLemmas.{ascii-fails, continue_length-stops}
 use Rattle.gql_lexer.proofs.LawLemmas.{each-more, end-bytes, none-longer, pieces-join}
@@ -383,17 +383,8 @@ cut-step bs false h e more =
     ∙ ap (λ t. first_span t ∷ spans (drop n bs)) whole
     ∙ sym (spans-step bs h fits.some)
 
-cut-by : (fuel : ℕ) (bs : List ℕ) → length bs ≤ fuel → SpansOfPiecesJoin bs
-cut-by fuel [] h = refl
-cut-by zero (b ∷ bs) h = absurd (omega arith)
-cut-by (suc fuel) (b ∷ bs) h =
-    let some : 0 < length (b ∷ bs) = omega arith in
-    let fits = front-fits (b ∷ bs) some in
-    cut-step (b ∷ bs) (is_end (front (b ∷ bs)).shape) some refl
-    (cut-by fuel (drop (front (b ∷ bs)).size (b ∷ bs)) (omega (arith, length-drop (front (b ∷ bs)).size (b ∷ bs), fits.some)))
-
 pub spans-of-pieces : (bs : List ℕ) → SpansOfPiecesJoin bs
-spans-of-pieces bs = cut-by (length bs) bs (omega arith)
+spans-of-pieces = by-fronts SpansOfPiecesJoin refl (λ bs some more. cut-step bs (is_end (front bs).shape) some refl more)
 
 -- ---- a piece cut again
 
@@ -438,17 +429,8 @@ again-step bs t h e more =
         let len : length (take n bs) ≡ n = length-take-le n bs fits.within in
         again-piece (take n bs) (drop n bs) (pieces_of (drop n bs)) (omega (arith, len, fits.some)) (ap (λ t. (front t).size) whole ∙ sym len) (ap (λ t. is_end (front t).shape) whole ∙ e) refl more
 
-again-by : (fuel : ℕ) (bs : List ℕ) → length bs ≤ fuel → PiecesAreWhole bs
-again-by fuel [] h = tt
-again-by zero (b ∷ bs) h = absurd (omega arith)
-again-by (suc fuel) (b ∷ bs) h =
-    let some : 0 < length (b ∷ bs) = omega arith in
-    let fits = front-fits (b ∷ bs) some in
-    again-step (b ∷ bs) (is_end (front (b ∷ bs)).shape) some refl
-    (again-by fuel (drop (front (b ∷ bs)).size (b ∷ bs)) (omega (arith, length-drop (front (b ∷ bs)).size (b ∷ bs), fits.some)))
-
 pub pieces-whole : (bs : List ℕ) → PiecesAreWhole bs
-pieces-whole bs = again-by (length bs) bs (omega arith)
+pieces-whole = by-fronts PiecesAreWhole tt (λ bs some more. again-step bs (is_end (front bs).shape) some refl more)
 
 -- ---- lexemes
 

@@ -275,6 +275,18 @@ front-fits bs h = fits-longest bs (forms bs) (form Bad 1)
     (blank-fits bs, (line-fits bs, (block-fits bs, (plain-fits bs, (between-fits 96 Ticked bs (λ _ h. h), (between-fits 39 Quoted bs (λ _ h. h), (between-fits 34 Quoted bs (λ _ h. h), (digits-fits bs, (dollar-fits bs, symbols-fit 0 symbols bs symbols-sound)))))))))
     (record { some = omega arith; within = omega arith; tells = tt })
 
+-- what holds of no bytes, and of some where it holds behind the form at their front, holds of all
+pub by-fronts : (P : List ℕ → Type 0) → P [] → ((bs : List ℕ) → 0 < length bs → P (drop (front bs).size bs) → P bs) → (bs : List ℕ) → P bs
+by-fronts P none more bs = go (length bs) bs (omega arith)
+  where
+    go : (fuel : ℕ) (bs : List ℕ) → length bs ≤ fuel → P bs
+    go fuel [] h = none
+    go zero (b ∷ bs) h = absurd (omega arith)
+    go (suc fuel) (b ∷ bs) h =
+        let some : 0 < length (b ∷ bs) = omega arith in
+        let fits = front-fits (b ∷ bs) some in
+        more (b ∷ bs) some (go fuel (drop (front (b ∷ bs)).size (b ∷ bs)) (omega (arith, length-drop (front (b ∷ bs)).size (b ∷ bs), fits.some)))
+
 pub front-tells : (bs : List ℕ) (f : Front) → 0 < length bs → f ≡ front bs → Tells f.shape (take f.size bs)
 front-tells bs f h e = let P : Front → Type 0 = λ f. Tells f.shape (take f.size bs) in subst P (sym e) (front-fits bs h).tells
 

@@ -1,5 +1,5 @@
 -- The laws.
-use Rattle.std.proofs.Common.{◌≡◌, ℕ, zero, suc, ◌+◌, ◌<◌, ◌≤◌, Bool, true, false, cond, ◌⊎◌, inl, inr, nat_lt, List, [], ◌∷◌, ◌++◌, length, take, drop, Option, Some, None, refl, sym, ap, ◌∙◌, arith, subst, append_assoc, length-drop}
+use Rattle.std.proofs.Common.{◌≡◌, ℕ, ◌+◌, ◌<◌, ◌≤◌, Bool, true, false, cond, ◌⊎◌, inl, inr, nat_lt, List, [], ◌∷◌, ◌++◌, length, take, drop, Option, Some, None, refl, sym, ap, ◌∙◌, arith, subst, append_assoc}
 use Rattle.std.specs.Option.{option_map}
 use Rattle.std.specs.List.{flat_map}
 use Rattle.std.proofs.lemmas.Bool.Decides.{nat_tests}
@@ -13,7 +13,7 @@ use Rattle.gql_lexer.specs.Forms.{form, forms, front, longer, longest, closed}
 use Rattle.gql_lexer.specs.Spans.{Span, first_span, spans}
 use Rattle.gql_lexer.specs.Pieces.{is_end, piece, with_bytes, pieces_of}
 use Rattle.gql_lexer.specs.Laws.{with_end, PiecesJoin, SpansJoin, EachForm, SomeForm, NoneIsLonger, IsAForm, AreBad, IsOpen, IsOpenBlock}
-use Rattle.gql_lexer.proofs.FormLemmas.{front-fits}
+use Rattle.gql_lexer.proofs.FormLemmas.{front-fits, by-fronts}
 use Rattle.gql_lexer.proofs.FrontLemmas.{front-39, front-34, front-96, front-block}
 use Rattle.gql_lexer.proofs.SpanLemmas.{spans-step, pieces-of-step}
 
@@ -49,30 +49,16 @@ join-step bs false h e more =
     ap (flat_map with_end) (pieces-of-step bs h fits.some ∙ ap (λ b. cond b (piece [] true ∷ rest) (with_bytes (take n bs) rest)) e)
     ∙ with_bytes-join (take n bs) rest ∙ ap (λ t. take n bs ++ t) more ∙ take-append-drop n bs
 
-join-by : (fuel : ℕ) (bs : List ℕ) → length bs ≤ fuel → PiecesJoin bs
-join-by fuel [] h = refl
-join-by zero (b ∷ bs) h = absurd (omega arith)
-join-by (suc fuel) (b ∷ bs) h =
-    let some : 0 < length (b ∷ bs) = omega arith in
-    let fits = front-fits (b ∷ bs) some in
-    join-step (b ∷ bs) (is_end (front (b ∷ bs)).shape) some refl
-    (join-by fuel (drop (front (b ∷ bs)).size (b ∷ bs)) (omega (arith, length-drop (front (b ∷ bs)).size (b ∷ bs), fits.some)))
-
 pub pieces-join : (bs : List ℕ) → PiecesJoin bs
-pieces-join bs = join-by (length bs) bs (omega arith)
+pieces-join = by-fronts PiecesJoin refl (λ bs some more. join-step bs (is_end (front bs).shape) some refl more)
 
-spans-by : (fuel : ℕ) (bs : List ℕ) → length bs ≤ fuel → SpansJoin bs
-spans-by fuel [] h = refl
-spans-by zero (b ∷ bs) h = absurd (omega arith)
-spans-by (suc fuel) (b ∷ bs) h =
-    let some : 0 < length (b ∷ bs) = omega arith in
-    let fits = front-fits (b ∷ bs) some in
-    let n = (front (b ∷ bs)).size in
-    ap (flat_map (λ (s : Span). s.bytes)) (spans-step (b ∷ bs) some fits.some)
-    ∙ ap (λ t. take n (b ∷ bs) ++ t) (spans-by fuel (drop n (b ∷ bs)) (omega (arith, length-drop n (b ∷ bs), fits.some))) ∙ take-append-drop n (b ∷ bs)
+spans-join-step : (bs : List ℕ) → 0 < length bs → SpansJoin (drop (front bs).size bs) → SpansJoin bs
+spans-join-step bs some more =
+    let n = (front bs).size in
+    ap (flat_map (λ (s : Span). s.bytes)) (spans-step bs some (front-fits bs some).some) ∙ ap (λ t. take n bs ++ t) more ∙ take-append-drop n bs
 
 pub spans-join : (bs : List ℕ) → SpansJoin bs
-spans-join bs = spans-by (length bs) bs (omega arith)
+spans-join = by-fronts SpansJoin refl spans-join-step
 
 -- a bound that grows is a bound
 pub each-more : (fs : List (Option Front)) (m n : ℕ) → m ≤ n → EachForm (λ f. f.size ≤ m) fs → EachForm (λ f. f.size ≤ n) fs

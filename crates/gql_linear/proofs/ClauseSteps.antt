@@ -1,5 +1,6 @@
 -- Clauses from the left: what the rest may lead to is what all may lead to, and the first refusal ends them.
-use Rattle.std.proofs.Common.{◌≡◌, ℕ, Bool, true, false, ◌||◌, List, [], ◌∷◌, Result, Ok, Err, refl, sym, ap, ◌∙◌, subst}
+use Rattle.std.proofs.Common.{◌≡◌, ℕ, ◌+◌, ◌<◌, ◌≤◌, Bool, true, false, ◌||◌, List, [], ◌∷◌, length, drop, get_or, Result, Ok, Err, refl, sym, ap, ◌∙◌, subst}
+use Rattle.std.proofs.lemmas.List.{drop_all}
 use Rattle.std.specs.List.{list_any}
 use Rattle.gql_values3.specs.Datum.{Datum}
 use Rattle.gql_values3.specs.PropertyGraph.{PropertyGraph}
@@ -15,6 +16,7 @@ use Rattle.gql_eval.specs.Gives.{Fails}
 use Rattle.gql_eval.specs.RowLists.{RowList}
 use Rattle.gql_eval.specs.declared.error.EvalError.{EvalError}
 use Rattle.gql_eval.specs.declared.error.EvalError.TheVariants as error
+use Rattle.gql_expr_checks.proofs.DropLemmas.{drop_step}
 use Rattle.gql_table.specs.Clauses.{columns_after, rows_after, table_after}
 use Rattle.gql_linear.specs.Causes.{run_fault}
 use Rattle.gql_linear.specs.Gives.{MayRefuse}
@@ -43,19 +45,9 @@ module _ (params : List (List ℕ × Datum)) where
   abbrev pub Ahead : Working → List Clause → Working → List Clause → Type 0
   Ahead first all here rest = (result : Result Working Refusal) → MayRun params here rest result → MayRun params first all result
 
-  -- what is left is the same list
-  pub same_ahead : (first : Working) (all : List Clause) (here : Working) (given rest : List Clause) → given ≡ rest → Ahead first all here given → Ahead first all here rest
-  same_ahead first all here given rest e ahead = subst (Ahead first all here) e ahead
-
-  pub clause_more : (first : Working) (all : List Clause) (here next : Working) (c : Clause) (rest : List Clause) → MayLeadTo params here c (Ok next) → Ahead first all here (c ∷ rest) → Ahead first all next rest
-  clause_more first all here next c rest led ahead = λ result h. ahead result (Ok next, led, h)
-
-  pub refused : (first : Working) (all : List Clause) (here : Working) (c : Clause) (rest : List Clause) (e : RunFault) → MayRefuse (MayLeadTo params here c) e → Ahead first all here (c ∷ rest) → MayRefuse (MayRun params first all) e
-  refused first all here c rest fault.OutOfMemory led ahead = tt
-  refused first all here c rest (fault.Refused r) led ahead = ahead (Err r) (Err r, led, refl)
-
-  pub at_end : (first : Working) (all : List Clause) (here : Working) (rest : List Clause) → rest ≡ [] → Ahead first all here rest → MayRun params first all (Ok here)
-  at_end first all here rest none ahead = ahead (Ok here) (subst (λ cs. MayRun params here cs (Ok here)) (sym none) refl)
+  -- nothing is left
+  pub at_end : (first : Working) (all : List Clause) (here : Working) (at : ℕ) → length all ≤ at → Ahead first all here (drop at all) → MayRun params first all (Ok here)
+  at_end first all here at done ahead = ahead (Ok here) (subst (λ cs. MayRun params here cs (Ok here)) (sym (drop_all at all done)) refl)
 
   -- a clause over tables leads to the one table behind it, under its columns, or to its fault
   pub led_by_table : (t : Working) (c : Clause) (done : WorkingTable) → is_over_tables c ≡ true → table_after t.graph params t.columns c t.rows ≡ Ok done
@@ -89,7 +81,7 @@ module _ (params : List (List ℕ × Datum)) where
       by (Err f) e = absurd (cc)
 
   -- of a clause and the others
-  pub sound_first : (columns : ColumnList) (c : Clause) (rest : List Clause) → MatchesAreSound params columns (c ∷ rest) → MatchIsSound params columns c × MatchesAreSound params (columns_past columns c) rest
+  sound_first : (columns : ColumnList) (c : Clause) (rest : List Clause) → MatchesAreSound params columns (c ∷ rest) → MatchIsSound params columns c × MatchesAreSound params (columns_past columns c) rest
   sound_first columns (clause.Match m) rest h = h
   sound_first columns (clause.Let x) rest h = (tt, h)
   sound_first columns (clause.Filter x) rest h = (tt, h)
@@ -98,12 +90,30 @@ module _ (params : List (List ℕ × Datum)) where
   sound_first columns (clause.Change x) rest h = (tt, h)
   sound_first columns (clause.Return x) rest h = (tt, h)
 
-  pub sound_rest : (columns behind : ColumnList) (c : Clause) (rest : List Clause) → MatchesAreSound params columns (c ∷ rest) → behind ≡ columns_past columns c → MatchesAreSound params behind rest
-  sound_rest columns behind c rest h e = subst (λ cs. MatchesAreSound params cs rest) (sym e) (sound_first columns c rest h).1
+  -- the clause at a place, and those behind it
+  module _ (all : List Clause) (at : ℕ) (c : Clause) (below : at < length all) (is : c ≡ get_or all at c) where
+    left : drop at all ≡ c ∷ drop (at + 1) all
+    left = drop_step all at c below is
 
-pub reads_first : (c : Clause) (rest : List Clause) → list_any is_change (c ∷ rest) ≡ false → (is_change c ≡ false) × (list_any is_change rest ≡ false)
-reads_first c rest h = by (is_change c) h
+    pub clause_more : (first here next : Working) → MayLeadTo params here c (Ok next) → Ahead first all here (drop at all) → Ahead first all next (drop (at + 1) all)
+    clause_more first here next led ahead = λ result h. subst (Ahead first all here) left ahead result (Ok next, led, h)
+
+    pub refused : (first here : Working) (e : RunFault) → MayRefuse (MayLeadTo params here c) e → Ahead first all here (drop at all) → MayRefuse (MayRun params first all) e
+    refused first here fault.OutOfMemory led ahead = tt
+    refused first here (fault.Refused r) led ahead = subst (Ahead first all here) left ahead (Err r) (Err r, led, refl)
+
+    sound : (columns : ColumnList) → MatchesAreSound params columns (drop at all) → MatchIsSound params columns c × MatchesAreSound params (columns_past columns c) (drop (at + 1) all)
+    sound columns h = sound_first columns c (drop (at + 1) all) (subst (MatchesAreSound params columns) left h)
+
+    pub sound_at : (columns : ColumnList) → MatchesAreSound params columns (drop at all) → MatchIsSound params columns c
+    sound_at columns h = (sound columns h).0
+
+    pub sound_behind : (columns behind : ColumnList) → MatchesAreSound params columns (drop at all) → behind ≡ columns_past columns c → MatchesAreSound params behind (drop (at + 1) all)
+    sound_behind columns behind h e = subst (λ cs. MatchesAreSound params cs (drop (at + 1) all)) (sym e) (sound columns h).1
+
+pub reads_from : (all : List Clause) (at : ℕ) (c : Clause) → at < length all → c ≡ get_or all at c → list_any is_change (drop at all) ≡ false → (is_change c ≡ false) × (list_any is_change (drop (at + 1) all) ≡ false)
+reads_from all at c below is h = by (is_change c) (ap (list_any is_change) (sym (drop_step all at c below is)) ∙ h)
   where
-    by : (b : Bool) → (b || list_any is_change rest) ≡ false → (b ≡ false) × (list_any is_change rest ≡ false)
+    by : (b : Bool) → (b || list_any is_change (drop (at + 1) all)) ≡ false → (b ≡ false) × (list_any is_change (drop (at + 1) all) ≡ false)
     by true e = absurd (cc)
     by false e = (refl, e)

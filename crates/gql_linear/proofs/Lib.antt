@@ -4,4 +4,5 @@ mod ClauseSteps
 mod FaultSteps
 mod MatchLeads
 mod MatchSteps
+mod QuerySteps
 pub mod OneWayLemmas

@@ -1,5 +1,6 @@
 -- One piece: from what its statement came to, over its commit point, to one step of the session machine.
-use Rattle.std.proofs.Common.{◌≡◌, ◌≢◌, ℕ, ◌-◌, Bool, true, false, ◌||◌, List, [], ◌∷◌, Option, Some, None, Result, Ok, Err, refl, ap, sym, ◌∙◌, inl, inr, append-nil, arith, subst}
+use Rattle.std.proofs.Common.{◌≡◌, ◌≢◌, ℕ, ◌-◌, Bool, true, false, List, [], ◌∷◌, Option, Some, None, Result, Ok, Err, refl, ap, sym, ◌∙◌, inl, inr, append-nil, arith, subst}
+use Rattle.std.proofs.Math.Bool.{or-false}
 use Rattle.std.specs.Prelude.{◌+◌, ◌^◌, min, not, ◌&&◌, is_some, unwrap_or, IfOk, if◌then◌else◌}
 use Rattle.gql_ast.specs.declared.refusal.Outcome.{Outcome}
 use Rattle.gql_ast.specs.declared.refusal.Outcome.TheVariants as outcome
@@ -56,10 +57,6 @@ not_counted o h = ap (λ b. if b then 1 else 0) h
 not_store : (o : Outcome) (before now : ℕ) → is_store_refusal o ≡ false → now ≡ before → RoseBy (store_refusals (o ∷ [])) before now
 not_store o before now h same = let P : ℕ → Type 0 = λ n. RoseBy n before now in subst P (sym (not_counted o h)) (rose_none before now same)
 
-or_false : (b : Bool) → (b || false) ≡ b
-or_false true = refl
-or_false false = refl
-
 -- Pieces
 
 one_text : (o : Outcome) → outcome_text o ≡ outcome_texts (o ∷ [])
@@ -75,7 +72,7 @@ one_outcome before after piece o text refused faults now step written is_refused
   made = o ∷ [];
   step = step;
   written = written ∙ one_text o;
-  is_refused = or_false (is_refusal o) ∙ is_refused;
+  is_refused = or-false (is_refusal o) ∙ is_refused;
   store = store;
 }
 

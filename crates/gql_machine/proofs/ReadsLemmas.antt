@@ -1,5 +1,6 @@
 -- No piece reads in two ways. Key idea: its lexemes decide, since they are one list.
 use Rattle.std.proofs.Common.{◌≡◌, ◌≢◌, ℕ, Bool, true, false, List, [], ◌∷◌, Option, Some, None, refl, sym, ap, ◌∙◌, inl, inr, subst}
+use Rattle.std.proofs.lemmas.Bool.{both_ways}
 use Rattle.std.specs.Prelude.{unwrap_or}
 use Rattle.gql_lexer.specs.Lexemes.{lexemes_of}
 use Rattle.gql_lexer.specs.declared.lexeme.Lexeme.{Lexeme}
@@ -147,24 +148,21 @@ empty_says (read s) h = absurd (nothing_derives s h.1)
 some_differs : (t : Lexeme) (ts : List Lexeme) → t ∷ ts ≡ [] → ⊥
 some_differs t ts p = cc
 
-bools_differ : (b : Bool) → b ≡ true → b ≡ false → ⊥
-bools_differ b p q = cc
-
 deep_says : (t : Lexeme) (ts : List Lexeme) (r : Reading) → too_deep (t ∷ ts) ≡ true → Says (t ∷ ts) r → r ≡ deep
 deep_says t ts blank p h = absurd (some_differs t ts h)
 deep_says t ts bad p h = absurd h
 deep_says t ts deep p h = refl
-deep_says t ts reading.unread p h = absurd (bools_differ (too_deep (t ∷ ts)) p h.1)
-deep_says t ts (read s) p h = absurd (bools_differ (too_deep (t ∷ ts)) p h.0)
+deep_says t ts reading.unread p h = absurd (both_ways (too_deep (t ∷ ts)) h.1 p)
+deep_says t ts (read s) p h = absurd (both_ways (too_deep (t ∷ ts)) h.0 p)
 
 -- a statement derived, or none
 flat_says : (t : Lexeme) (ts : List Lexeme) (a b : Reading) → too_deep (t ∷ ts) ≡ false → Says (t ∷ ts) a → Says (t ∷ ts) b → a ≡ b
 flat_says t ts blank b p h k = absurd (some_differs t ts h)
 flat_says t ts bad b p h k = absurd h
-flat_says t ts deep b p h k = absurd (bools_differ (too_deep (t ∷ ts)) h p)
+flat_says t ts deep b p h k = absurd (both_ways (too_deep (t ∷ ts)) p h)
 flat_says t ts a blank p h k = absurd (some_differs t ts k)
 flat_says t ts a bad p h k = absurd k
-flat_says t ts a deep p h k = absurd (bools_differ (too_deep (t ∷ ts)) k p)
+flat_says t ts a deep p h k = absurd (both_ways (too_deep (t ∷ ts)) p k)
 flat_says t ts reading.unread reading.unread p h k = refl
 flat_says t ts reading.unread (read s) p h k = absurd (h.2 s k.1)
 flat_says t ts (read s) reading.unread p h k = absurd (k.2 s h.1)

@@ -2,110 +2,23 @@
 use Rattle.std.proofs.Common.{◌≡◌, ℕ, ◌≤◌, List, [], ◌∷◌, map, length, drop, Option, Some, None, refl, ap, sym, ◌∙◌}
 use Rattle.std.proofs.lemmas.List.{drop_all}
 use Rattle.gql_norm.specs.declared.degree.Degree.{Degree}
-use Rattle.gql_norm.specs.declared.degree.Degree.TheVariants.{Singleton, Conditional, Group}
 use Rattle.gql_norm.specs.NormalPattern.{Part, in_a_row, side_by_side, sides_of, NormalPath}
 use Rattle.gql_norm.specs.NormalData.{path_data}
 use Rattle.gql_norm.specs.declared.path.NormalPath.{NormalPath as CodePath}
-use Rattle.gql_norm.specs.Degree.{wider, joint, beside, beside_all, degree_of, degrees_of}
+use Rattle.gql_norm.specs.Degree.{joint, beside, beside_all, degree_of, degrees_of}
 use Rattle.gql_norm.specs.NewColumns.{degree_in_paths}
 use Rattle.gql_norm.specs.Machinery.DegreeFolds.{joint_folded, beside_folded}
-
-wider_assoc : (a b c : Degree) → wider a (wider b c) ≡ wider (wider a b) c
-wider_assoc Singleton Singleton Singleton = refl
-wider_assoc Singleton Singleton Conditional = refl
-wider_assoc Singleton Singleton Group = refl
-wider_assoc Singleton Conditional Singleton = refl
-wider_assoc Singleton Conditional Conditional = refl
-wider_assoc Singleton Conditional Group = refl
-wider_assoc Singleton Group Singleton = refl
-wider_assoc Singleton Group Conditional = refl
-wider_assoc Singleton Group Group = refl
-wider_assoc Conditional Singleton Singleton = refl
-wider_assoc Conditional Singleton Conditional = refl
-wider_assoc Conditional Singleton Group = refl
-wider_assoc Conditional Conditional Singleton = refl
-wider_assoc Conditional Conditional Conditional = refl
-wider_assoc Conditional Conditional Group = refl
-wider_assoc Conditional Group Singleton = refl
-wider_assoc Conditional Group Conditional = refl
-wider_assoc Conditional Group Group = refl
-wider_assoc Group b c = refl
+use Rattle.gql_norm.proofs.DegreeTables.{same_table}
 
 joint_assoc : (a b c : Option Degree) → joint a (joint b c) ≡ joint (joint a b) c
-joint_assoc None b c = refl
-joint_assoc (Some a) None c = refl
-joint_assoc (Some a) (Some b) None = refl
-joint_assoc (Some a) (Some b) (Some c) = ap Some (wider_assoc a b c)
+joint_assoc = same_table (λ a b c. joint a (joint b c)) (λ a b c. joint (joint a b) c) refl
+
+beside_assoc : (a b c : Option Degree) → beside a (beside b c) ≡ beside (beside a b) c
+beside_assoc = same_table (λ a b c. beside a (beside b c)) (λ a b c. beside (beside a b) c) refl
 
 pub joint_none : (a : Option Degree) → joint a None ≡ a
 joint_none None = refl
 joint_none (Some a) = refl
-
-beside_assoc : (a b c : Option Degree) → beside a (beside b c) ≡ beside (beside a b) c
-beside_assoc None None None = refl
-beside_assoc None None (Some Singleton) = refl
-beside_assoc None None (Some Conditional) = refl
-beside_assoc None None (Some Group) = refl
-beside_assoc None (Some Singleton) None = refl
-beside_assoc None (Some Singleton) (Some Singleton) = refl
-beside_assoc None (Some Singleton) (Some Conditional) = refl
-beside_assoc None (Some Singleton) (Some Group) = refl
-beside_assoc None (Some Conditional) None = refl
-beside_assoc None (Some Conditional) (Some Singleton) = refl
-beside_assoc None (Some Conditional) (Some Conditional) = refl
-beside_assoc None (Some Conditional) (Some Group) = refl
-beside_assoc None (Some Group) None = refl
-beside_assoc None (Some Group) (Some Singleton) = refl
-beside_assoc None (Some Group) (Some Conditional) = refl
-beside_assoc None (Some Group) (Some Group) = refl
-beside_assoc (Some Singleton) None None = refl
-beside_assoc (Some Singleton) None (Some Singleton) = refl
-beside_assoc (Some Singleton) None (Some Conditional) = refl
-beside_assoc (Some Singleton) None (Some Group) = refl
-beside_assoc (Some Singleton) (Some Singleton) None = refl
-beside_assoc (Some Singleton) (Some Singleton) (Some Singleton) = refl
-beside_assoc (Some Singleton) (Some Singleton) (Some Conditional) = refl
-beside_assoc (Some Singleton) (Some Singleton) (Some Group) = refl
-beside_assoc (Some Singleton) (Some Conditional) None = refl
-beside_assoc (Some Singleton) (Some Conditional) (Some Singleton) = refl
-beside_assoc (Some Singleton) (Some Conditional) (Some Conditional) = refl
-beside_assoc (Some Singleton) (Some Conditional) (Some Group) = refl
-beside_assoc (Some Singleton) (Some Group) None = refl
-beside_assoc (Some Singleton) (Some Group) (Some Singleton) = refl
-beside_assoc (Some Singleton) (Some Group) (Some Conditional) = refl
-beside_assoc (Some Singleton) (Some Group) (Some Group) = refl
-beside_assoc (Some Conditional) None None = refl
-beside_assoc (Some Conditional) None (Some Singleton) = refl
-beside_assoc (Some Conditional) None (Some Conditional) = refl
-beside_assoc (Some Conditional) None (Some Group) = refl
-beside_assoc (Some Conditional) (Some Singleton) None = refl
-beside_assoc (Some Conditional) (Some Singleton) (Some Singleton) = refl
-beside_assoc (Some Conditional) (Some Singleton) (Some Conditional) = refl
-beside_assoc (Some Conditional) (Some Singleton) (Some Group) = refl
-beside_assoc (Some Conditional) (Some Conditional) None = refl
-beside_assoc (Some Conditional) (Some Conditional) (Some Singleton) = refl
-beside_assoc (Some Conditional) (Some Conditional) (Some Conditional) = refl
-beside_assoc (Some Conditional) (Some Conditional) (Some Group) = refl
-beside_assoc (Some Conditional) (Some Group) None = refl
-beside_assoc (Some Conditional) (Some Group) (Some Singleton) = refl
-beside_assoc (Some Conditional) (Some Group) (Some Conditional) = refl
-beside_assoc (Some Conditional) (Some Group) (Some Group) = refl
-beside_assoc (Some Group) None None = refl
-beside_assoc (Some Group) None (Some Singleton) = refl
-beside_assoc (Some Group) None (Some Conditional) = refl
-beside_assoc (Some Group) None (Some Group) = refl
-beside_assoc (Some Group) (Some Singleton) None = refl
-beside_assoc (Some Group) (Some Singleton) (Some Singleton) = refl
-beside_assoc (Some Group) (Some Singleton) (Some Conditional) = refl
-beside_assoc (Some Group) (Some Singleton) (Some Group) = refl
-beside_assoc (Some Group) (Some Conditional) None = refl
-beside_assoc (Some Group) (Some Conditional) (Some Singleton) = refl
-beside_assoc (Some Group) (Some Conditional) (Some Conditional) = refl
-beside_assoc (Some Group) (Some Conditional) (Some Group) = refl
-beside_assoc (Some Group) (Some Group) None = refl
-beside_assoc (Some Group) (Some Group) (Some Singleton) = refl
-beside_assoc (Some Group) (Some Group) (Some Conditional) = refl
-beside_assoc (Some Group) (Some Group) (Some Group) = refl
 
 -- a row
 pub joint_folded_row : (p : Part) (ps : List Part) (x : List ℕ) (d : Option Degree) → joint_folded (joint d (degree_of p x)) ps x ≡ joint d (degree_of (in_a_row p ps) x)

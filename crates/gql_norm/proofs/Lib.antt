@@ -1,4 +1,5 @@
 pub mod NormalPartLemmas
+mod DegreeTables
 pub mod DegreeLemmas
 pub mod ColumnLemmas
 pub mod DeclaredLemmas

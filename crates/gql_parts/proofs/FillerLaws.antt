@@ -13,17 +13,18 @@ use Rattle.gql_lexer.specs.WordPlaces.{IS, WHERE}
 use Rattle.gql_front.specs.Tables.{Begins}
 use Rattle.gql_front.specs.Reading.{is_sign, is_word, name_in, any_name_in, after, op_at, maybe, opted}
 use Rattle.gql_front.proofs.Found.{Sound, is_there}
-use Rattle.gql_front.proofs.TableLemmas.{begins_read, read_begins, begins_shorter}
+use Rattle.gql_front.proofs.TableLemmas.{read_begins, begins_shorter}
 use Rattle.gql_exprs.proofs.ExprLists.{goes_or}
 use Rattle.gql_parts.specs.Parts.{IsOptional}
 use Rattle.gql_parts.specs.Values.{IsValue, IsLabels}
 use Rattle.gql_parts.specs.PartWords.{is_colon}
 use Rattle.gql_parts.specs.FillerGrammar.{IsWhere, IsMapItem, IsCondition, AsksLabels, IsFiller}
 use Rattle.gql_parts.specs.Machinery.PartReaders.{read_value, read_labels}
-use Rattle.gql_parts.specs.Machinery.FillerReaders.{where_of, map_item_of, map_of, as_condition, map_or_where, condition_of, variable_of, filler_labels_of, filler_of}
-use Rattle.gql_parts.proofs.PartLaws.{Stops, Apart, bind_then, finish, passes_after, after_passes, passes_shorter, word_apart, sign_apart, begins_stops, optional_shorter, maybe_sound, said_exact, either_apart, says_no_sign, led_sound}
+use Rattle.gql_parts.specs.Machinery.FillerReaders.{where_of, as_map_item, map_item_of, map_of, as_condition, map_or_where, condition_of, variable_of, filler_labels_of, filler_of}
+use Rattle.gql_parts.proofs.PartLaws.{Stops, Apart, bind_then, finish, after_passes, passes_shorter, word_apart, sign_apart, begins_stops, optional_shorter, maybe_sound, said_exact, either_apart, says_no_sign, led_sound}
 use Rattle.gql_parts.proofs.BraceLaws.{ToBrace, to_brace_sound, to_brace_exact, to_brace_shorter}
-use Rattle.gql_parts.proofs.ValueLaws.{value_sound, value_exact, value_shorter, labels_sound, labels_shorter}
+use Rattle.gql_parts.proofs.ValueLaws.{value_sound, value_shorter, labels_sound, labels_shorter}
+use Rattle.gql_parts.proofs.NamedLaws.{named_sound, named_exact, named_shorter}
 
 -- [WHERE Expr]
 
@@ -38,20 +39,14 @@ where_shorter = optional_shorter IsWhere (λ e ts r h. omega (arith, passes_shor
 
 map_item_sound : Sound IsMapItem map_item_of
 unfolding map_item_of
-map_item_sound ts i r e =
-    bind_then (op_at any_name_in ts) _ (i, r) e (λ x p e.
-    bind_then (after (is_sign colon) x.1) _ (i, r) e (λ a q e.
-    bind_then (read_value a) _ (i, r) e (λ v w e.
-    finish (λ i r. IsMapItem i ts r) (record { name = x.0; value = v.0 }) v.1 i r e
-    (x.1, read_begins any_name_in ts x.0 x.1 p, a, after_passes (is_sign colon) x.1 a q, value_sound a v.0 v.1 w))))
+map_item_sound = named_sound any_name_in colon as_map_item IsMapItem (λ x e ts r h. h)
 
 map_item_exact : (i : MapItem) (ts s : List Lexeme) → IsMapItem i ts s → Stops goes_or s → map_item_of ts ≡ Some (i, s)
 unfolding map_item_of
-map_item_exact i ts s h stop =
-    rw (begins_read any_name_in i.name ts h.0 h.1, passes_after (is_sign colon) h.0 h.2 h.3, value_exact i.value h.2 s h.4 stop) refl
+map_item_exact i ts s h stop = named_exact any_name_in colon as_map_item i.name i.value ts s h stop
 
 pub map_item_shorter : (i : MapItem) (ts r : List Lexeme) → IsMapItem i ts r → length r < length ts
-map_item_shorter i ts r h = omega (arith, begins_shorter any_name_in i.name ts h.0 h.1, passes_shorter (is_sign colon) h.0 h.2 h.3, value_shorter i.value h.2 r h.4)
+map_item_shorter i ts r h = named_shorter any_name_in colon i.name i.value ts r h
 
 -- what stands behind the opening brace
 abbrev pub MapRest : List MapItem → List Lexeme → List Lexeme → Type 0

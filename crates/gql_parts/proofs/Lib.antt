@@ -6,5 +6,6 @@ pub mod ListLoops
 pub mod BraceLaws
 pub mod MeantLaws
 pub mod ValueLaws
+pub mod NamedLaws
 pub mod FillerLaws
 pub mod LongestLaws

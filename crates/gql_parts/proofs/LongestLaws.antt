@@ -66,9 +66,6 @@ filler_labels_given ts = always_given (filler_labels_of ts) goes_colon None ts (
 abbrev pub goes_condition : Lexeme → Bool
 goes_condition t = goes_where t || is_sign opening_brace t
 
-as_where : Option Expr × List Lexeme → Option Condition × List Lexeme
-as_where w = (option_map condition.Where w.0, w.1)
-
 -- where no brace stands
 no_brace : (ts : List Lexeme) (c : Option Expr) (s : List Lexeme) → after (is_sign opening_brace) ts ≡ None → Found (where_of ts) goes_where c s
     → Found (condition_of ts) goes_condition (option_map condition.Where c) s

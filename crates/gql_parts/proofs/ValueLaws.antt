@@ -6,7 +6,7 @@ use Rattle.gql_values3.specs.Datum.{Datum, data_of, items_of, Data, no_data, mor
 use Rattle.gql_values3.specs.Meaning.{datum_of}
 use Rattle.gql_ast.specs.Tree.{Tree}
 use Rattle.gql_ast.specs.Tree as tree
-use Rattle.gql_ast.specs.Label.{Label, Labels, labels_listed, items_of_labels, name, wildcard, paren, negation, conjunction, disjunction, no_labels, more_labels}
+use Rattle.gql_ast.specs.Label.{Label, name, wildcard, paren, negation, conjunction, disjunction}
 use Rattle.gql_ast.specs.LabelMeaning.{label_of}
 use Rattle.gql_ast.specs.Meaning.{tree_of}
 use Rattle.gql_ast.specs.declared.expr.Expr.{Expr}
@@ -29,7 +29,7 @@ use Rattle.gql_exprs.proofs.ExprChains.{trees_of-items_of_trees, links_of-items_
 use Rattle.gql_exprs.proofs.ExprLists.{goes_or}
 use Rattle.gql_exprs.proofs.ExprRead.{read_expr_reads, expr_sound, expr_complete}
 use Rattle.gql_exprs.proofs.ExprShorter.{is_shorter}
-use Rattle.gql_exprs.proofs.LabelLevels.{goes_label, label_sound, label_complete, label_consumes}
+use Rattle.gql_exprs.proofs.LabelLevels.{labels_listed-items_of_labels, goes_label, label_sound, label_complete, label_consumes}
 use Rattle.gql_parts.specs.Values.{IsValue, IsLabels}
 use Rattle.gql_parts.specs.Machinery.PartReaders.{read_value, read_labels}
 use Rattle.gql_parts.proofs.PartLaws.{Stops}
@@ -51,17 +51,13 @@ datum_of-as_value (node n) = refl
 datum_of-as_value (edge n) = refl
 datum_of-as_value (path w) = refl
 
-labels_listed-items : (es : Labels) → labels_listed (items_of_labels es) ≡ es
-labels_listed-items no_labels = refl
-labels_listed-items (more_labels e es) = ap (λ z. more_labels e z) (labels_listed-items es)
-
 label_of-label_expr_of : (l : Label) → label_of (label_expr_of l) ≡ l
 label_of-label_expr_of (name x) = refl
 label_of-label_expr_of wildcard = refl
 label_of-label_expr_of (paren e) = refl
 label_of-label_expr_of (negation e) = refl
-label_of-label_expr_of (conjunction e es) = ap (λ z. conjunction e z) (labels_listed-items es)
-label_of-label_expr_of (disjunction e es) = ap (λ z. disjunction e z) (labels_listed-items es)
+label_of-label_expr_of (conjunction e es) = ap (λ z. conjunction e z) (labels_listed-items_of_labels es)
+label_of-label_expr_of (disjunction e es) = ap (λ z. disjunction e z) (labels_listed-items_of_labels es)
 
 tree_of-expr_of : (e : Tree) → tree_of (expr_of e) ≡ e
 tree_of-expr_of (tree.constant d) = ap tree.constant (datum_of-as_value d)

@@ -16,7 +16,7 @@ use Rattle.gql_lexer.specs.WordPlaces.{WHERE}
 use Rattle.gql_front.specs.Tables.{Begins}
 use Rattle.gql_front.specs.Reading.{is_sign, is_word, name_in, any_name_in}
 use Rattle.gql_parts.specs.Parts.{Passes, IsOptional, MayList}
-use Rattle.gql_parts.specs.Values.{IsValue, IsLabels}
+use Rattle.gql_parts.specs.Values.{IsValue, IsNamedValue, IsLabels}
 use Rattle.gql_parts.specs.PartWords.{is_colon}
 
 -- WHERE Expr
@@ -25,7 +25,7 @@ IsWhere e ts r = (a : List Lexeme) × Passes (is_word WHERE) ts a × IsValue e a
 
 -- a name or a reserved word, ":", and the expression whose value it gets
 abbrev pub IsMapItem : MapItem → List Lexeme → List Lexeme → Type 0
-IsMapItem i ts r = (a : List Lexeme) × Begins any_name_in i.name ts a × (b : List Lexeme) × Passes (is_sign colon) a b × IsValue i.value b r
+IsMapItem i ts r = IsNamedValue any_name_in colon i.name i.value ts r
 
 -- [list(Any ":" Expr)]
 abbrev pub AreMapItems : List MapItem → List Lexeme → List Lexeme → Type 0

@@ -6,7 +6,7 @@ ghost use Rattle.gql_parts.specs.Machinery.FillerReaders.{where_of, condition_of
 
 use crate::braces::list_to_brace;
 use crate::item::{Item, item_behind_word, item_or_nothing};
-use crate::values::{Parts, value};
+use crate::values::{Parts, named_value};
 use gql_ast::{Condition, Expr, Filler, LabelExpr, Map, MapItem};
 use gql_front::{NoFront, ParseResult, after_sign, any_name, plain_name};
 use gql_lexer::Lexeme;
@@ -23,9 +23,7 @@ impl Item<Parts> for MapItem {
     #[tactic(auto, unfolding(crate::specs::Machinery::FillerReaders::map_item_of))]
     fn read<'a>(alloc: Global, rest: &'a [Lexeme]) -> ParseResult<'a, MapItem> {
         let (name, rest) = any_name(rest)?;
-        let rest = after_sign(COLON, rest)?;
-        let name = name.try_copy(alloc)?;
-        let (value, rest) = value(alloc, rest)?;
+        let ((name, value), rest) = named_value(alloc, name, COLON, rest)?;
         Ok((MapItem { name, value }, rest))
     }
 }

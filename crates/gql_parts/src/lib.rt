@@ -17,4 +17,4 @@ pub use fillers::{after_colon, filler, variable, where_value};
 pub use item::{Item, item_behind_word, item_or_nothing, list};
 pub use laws::the_longest_part_is_read;
 pub use repeated::many;
-pub use values::{Parts, value};
+pub use values::{Parts, named_value, value};

@@ -1,5 +1,6 @@
 -- A name has a degree where it is declared, and is a group where it is declared under a quantifier.
 use Rattle.std.proofs.Common.{◌≡◌, ℕ, Bool, true, false, ◌||◌, ◌&&◌, List, [], ◌∷◌, ◌++◌, Option, Some, None, is_some, flat_map, refl, sym, ◌∙◌}
+use Rattle.std.proofs.Math.Bool.{or-false}
 use Rattle.std.specs.Prelude.{if◌then◌else◌}
 use Rattle.std.proofs.lemmas.List.Folds.{list_any-append}
 use Rattle.gql_values3.specs.Texts.{same_text}
@@ -8,7 +9,7 @@ use Rattle.gql_norm.specs.declared.degree.Degree.{Degree}
 use Rattle.gql_norm.specs.declared.degree.Degree.TheVariants.{Singleton, Group}
 use Rattle.gql_norm.specs.Degree.{degree_of, degrees_of, element_degree, beside_all, under_optional, is_group}
 use Rattle.gql_norm.specs.NewColumns.{degree_in_paths}
-use Rattle.gql_norm.proofs.KnownDegrees.{joint_known, beside_known, or_none, mapped_known, joint_group, beside_group, optional_group, repeated_group}
+use Rattle.gql_norm.proofs.KnownDegrees.{joint_known, beside_known, mapped_known, joint_group, beside_group, optional_group, repeated_group}
 use Rattle.gql_pattern_checks.proofs.HoldLemmas.{has, has_group}
 use Rattle.gql_pattern_checks.proofs.PlaceLemmas.{Entries, entry_of, entries_of, entries_of_sides}
 
@@ -71,7 +72,7 @@ mutual
 
   side_declares : (g : Bool) (ss : Sides) (x : List ℕ) → is_some (beside_all (degrees_of ss x)) ≡ has (entries_of_sides g ss) x
   side_declares g NoSide x = refl
-  side_declares g (Side p NoSide) x = declares g p x ∙ or_none (has (entries_of g p) x) ∙ sym (has_two (entries_of g p) [] x)
+  side_declares g (Side p NoSide) x = declares g p x ∙ sym (or-false (has (entries_of g p) x)) ∙ sym (has_two (entries_of g p) [] x)
   side_declares g (Side p (Side r ss)) x =
       beside_known (degree_of p x) (beside_all (degrees_of (Side r ss) x)) ∙ (λ i. declares g p x i || side_declares g (Side r ss) x i)
       ∙ sym (has_two (entries_of g p) (entries_of_sides g (Side r ss)) x)
@@ -89,7 +90,7 @@ mutual
 
   side_groups : (ss : Sides) (x : List ℕ) → is_group (beside_all (degrees_of ss x)) ≡ has_group (entries_of_sides false ss) x
   side_groups NoSide x = refl
-  side_groups (Side p NoSide) x = groups p x ∙ or_none (has_group (entries_of false p) x) ∙ sym (has_group_two (entries_of false p) [] x)
+  side_groups (Side p NoSide) x = groups p x ∙ sym (or-false (has_group (entries_of false p) x)) ∙ sym (has_group_two (entries_of false p) [] x)
   side_groups (Side p (Side r ss)) x =
       beside_group (degree_of p x) (beside_all (degrees_of (Side r ss) x)) ∙ (λ i. groups p x i || side_groups (Side r ss) x i)
       ∙ sym (has_group_two (entries_of false p) (entries_of_sides false (Side r ss)) x)

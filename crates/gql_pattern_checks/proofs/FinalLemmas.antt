@@ -22,7 +22,7 @@ use Rattle.gql_norm.specs.Degree.{is_group}
 use Rattle.gql_norm.specs.NewColumns.{of_degree, degree_in_paths, columns_by, path_name_column, columns_after}
 use Rattle.gql_norm.specs.Machinery.ColumnGrowth.{with_column, with_columns, declared_variable, declared_in, declared_in_sides, by_degrees}
 use Rattle.gql_norm.proofs.ColumnLemmas.{with_columns_new, columns_of_path}
-use Rattle.gql_pattern_checks.specs.Machinery.NameList.{with_name}
+use Rattle.gql_expr_checks.specs.Machinery.NameList.{with_name}
 use Rattle.gql_pattern_checks.specs.Machinery.Scopes.{no_names, with_variable, with_variable_of, with_part, with_sides, with_path_name, with_paths, known_columns}
 use Rattle.gql_pattern_checks.specs.declared.scope.Names.{Names}
 use Rattle.gql_pattern_checks.proofs.DegreeLemmas.{entries_in_paths, groups_in_paths}

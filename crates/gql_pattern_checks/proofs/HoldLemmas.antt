@@ -1,5 +1,6 @@
 -- Names as the code keeps them, each once, against entries as the definitions have them.
 use Rattle.std.proofs.Common.{◌≡◌, ℕ, Bool, true, false, ◌||◌, ◌&&◌, List, [], ◌∷◌, ◌++◌, Option, Some, None, refl, sym, ap, subst, ◌∙◌, append_assoc}
+use Rattle.std.proofs.Math.Bool.{and-true, or-false}
 use Rattle.std.proofs.lemmas.Bool.{and_right}
 use Rattle.std.specs.Prelude.{if◌then◌else◌}
 use Rattle.std.specs.List.{list_any}
@@ -9,7 +10,7 @@ use Rattle.std.proofs.lemmas.List.{append-nil}
 use Rattle.gql_values3.specs.Texts.{same_text}
 use Rattle.gql_expr_checks.specs.Repeated.{is_among}
 use Rattle.gql_norm.specs.NormalPattern.{Part, Node, Edge, Concat, Union, Alt, Quant, Opt, Scope, Sides, NoSide, Side}
-use Rattle.gql_pattern_checks.specs.Machinery.NameList.{with_name}
+use Rattle.gql_expr_checks.specs.Machinery.NameList.{with_name}
 use Rattle.gql_pattern_checks.specs.Machinery.Scopes.{no_names, with_variable_of, with_part, with_sides}
 use Rattle.gql_pattern_checks.specs.declared.scope.Names.{Names}
 use Rattle.gql_pattern_checks.proofs.PlaceLemmas.{Entries, entry_of, entries_of, entries_of_sides}
@@ -51,14 +52,6 @@ has_more es x g y = list_any-append (λ (e : List ℕ × Bool). same_text y e.0)
 has_group_more : (es : Entries) (x : List ℕ) (g : Bool) (y : List ℕ) → has_group (es ++ (x, g) ∷ []) y ≡ (has_group es y || (same_text y x && g))
 has_group_more es x g y = list_any-append (λ (e : List ℕ × Bool). same_text y e.0 && e.1) es ((x, g) ∷ []) ∙ or_nothing (has_group es y) (same_text y x && g)
 
-and_true : (b : Bool) → (b && true) ≡ b
-and_true true = refl
-and_true false = refl
-
-or_false : (b : Bool) → (b || false) ≡ b
-or_false true = refl
-or_false false = refl
-
 pub holds_nothing : Holds [] no_names []
 holds_nothing = record { paths = refl; variables = λ x. refl; groups = λ x. refl }
 
@@ -67,12 +60,12 @@ holds_variable g ps s es None h = subst (λ ds. Holds ps s ds) (sym (append-nil 
 holds_variable true ps s es (Some x) h = record {
   paths = h.paths;
   variables = λ y. among_with s.variables x y ∙ ap (λ b. b || same_text y x) (h.variables y) ∙ sym (has_more es x true y);
-  groups = λ y. among_with s.groups x y ∙ ap (λ b. b || same_text y x) (h.groups y) ∙ sym (ap (λ b. has_group es y || b) (and_true (same_text y x))) ∙ sym (has_group_more es x true y);
+  groups = λ y. among_with s.groups x y ∙ ap (λ b. b || same_text y x) (h.groups y) ∙ sym (ap (λ b. has_group es y || b) (and-true (same_text y x))) ∙ sym (has_group_more es x true y);
 }
 holds_variable false ps s es (Some x) h = record {
   paths = h.paths;
   variables = λ y. among_with s.variables x y ∙ ap (λ b. b || same_text y x) (h.variables y) ∙ sym (has_more es x false y);
-  groups = λ y. h.groups y ∙ sym (or_false (has_group es y)) ∙ sym (ap (λ b. has_group es y || b) (and_right (same_text y x) false refl)) ∙ sym (has_group_more es x false y);
+  groups = λ y. h.groups y ∙ sym (or-false (has_group es y)) ∙ sym (ap (λ b. has_group es y || b) (and_right (same_text y x) false refl)) ∙ sym (has_group_more es x false y);
 }
 
 mutual

@@ -7,12 +7,11 @@ mod SeenColumnLemmas
 mod ScopeLemmas
 mod RowLemmas
 mod MarkLemmas
-mod NameListLemmas
 mod StepLemmas
 mod PlaceLemmas
 mod HoldLemmas
 mod WholeLemmas
-mod KindLemmas
+pub mod KindLemmas
 mod PatternLemmas
 mod DegreeLemmas
 mod FinalLemmas

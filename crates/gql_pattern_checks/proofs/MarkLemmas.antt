@@ -5,7 +5,7 @@ use Rattle.std.specs.Prelude.{if◌then◌else◌}
 use Rattle.gql_expr_checks.specs.Repeated.{is_among}
 use Rattle.gql_norm.specs.NormalPattern.{Part, Node, Edge, Concat, Union, Alt, Quant, Opt, Scope, Sides, NoSide, Side}
 use Rattle.gql_pattern_checks.specs.Machinery.Marks.{marks_of, cut_to}
-use Rattle.gql_pattern_checks.specs.Machinery.NameList.{with_name}
+use Rattle.gql_expr_checks.specs.Machinery.NameList.{with_name}
 use Rattle.gql_pattern_checks.specs.Machinery.Scopes.{with_variable_of, with_part, with_sides, with_parts}
 use Rattle.gql_pattern_checks.specs.declared.scope.Names.{Names}
 

@@ -1,5 +1,6 @@
 -- The names at fault and the misuses of one path pattern, by a walk over it.
 use Rattle.std.proofs.Common.{◌≡◌, ℕ, ◌+◌, Bool, true, false, not, ◌||◌, ◌&&◌, cond, List, [], ◌∷◌, ◌++◌, map, flat_map, filter, Option, Some, None, refl, sym, ap, ◌∙◌, true≢false}
+use Rattle.std.proofs.Math.Bool.{or-false}
 use Rattle.std.specs.Prelude.{find, option_map, unwrap_or, if◌then◌else◌}
 use Rattle.std.specs.List.{list_any}
 use Rattle.std.specs.Option.{option_or}
@@ -238,17 +239,13 @@ same_groups columns body t s h x =
 abbrev misused_at : ColumnList → Part → PredicateSpot → Bool
 misused_at columns body t = list_any (misused (columns_at columns body t) elsewhere) t.trees
 
-or_nothing : (b : Bool) → (b || false) ≡ b
-or_nothing true = refl
-or_nothing false = refl
-
 misused_asked : (columns : ColumnList) (body : Part) → IsAskedAt question.Misuses columns (may_name body) (λ ts. misuse_if (list_any (misused_at columns body) ts))
 misused_asked columns body = record {
   nothing = refl;
   both = λ xs ys.
       ap misuse_if (list_any-append (misused_at columns body) xs ys)
       ∙ misuse_in_two (list_any (misused_at columns body) xs) (list_any (misused_at columns body) ys);
-  at_spot = λ t s h. ap misuse_if (or_nothing (misused_at columns body t)) ∙ misused_of_trees (columns_at columns body t) columns s t.trees (same_groups columns body t s h);
+  at_spot = λ t s h. ap misuse_if (or-false (misused_at columns body t)) ∙ misused_of_trees (columns_at columns body t) columns s t.trees (same_groups columns body t s h);
 }
 
 pub misused_in_body : (columns : ColumnList) (body : Part)

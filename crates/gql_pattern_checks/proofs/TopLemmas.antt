@@ -1,5 +1,6 @@
 -- The names at fault and the misuses of a whole pattern, by the walk.
 use Rattle.std.proofs.Common.{◌≡◌, ℕ, ◌+◌, Bool, true, false, not, ◌||◌, cond, List, [], ◌∷◌, ◌++◌, filter, flat_map, Option, Some, None, refl, sym, ap, ◌∙◌, arith}
+use Rattle.std.proofs.Math.Bool.{or_comm}
 use Rattle.std.specs.Prelude.{if◌then◌else◌}
 use Rattle.std.specs.List.{list_any}
 use Rattle.std.specs.Option.{option_or}
@@ -60,16 +61,10 @@ module _ (columns : ColumnList) (before seen : List (List ℕ)) (ds : List Decla
       by true = refl
       by false = refl
 
-or_first_last : (b c : Bool) → (b || c) ≡ (c || b)
-or_first_last true true = refl
-or_first_last true false = refl
-or_first_last false true = refl
-or_first_last false false = refl
-
 names_behind : (p : NormalPath) (before seen : List (List ℕ)) (v : Option (List ℕ)) → ((x : List ℕ) → is_name_among before x ≡ is_among seen x)
     → (x : List ℕ) → is_name_among (path_name_of (named p v) ++ before) x ≡ is_among (with_name_of seen v) x
 names_behind p before seen None h x = h x
-names_behind p before seen (Some y) h x = ap (λ b. same_text x y || b) (h x) ∙ or_first_last (same_text x y) (is_among seen x) ∙ sym (among_with seen y x)
+names_behind p before seen (Some y) h x = ap (λ b. same_text x y || b) (h x) ∙ or_comm (same_text x y) (is_among seen x) ∙ sym (among_with seen y x)
 
 unknown_by_paths : (columns : ColumnList) (before seen : List (List ℕ)) (ds : List Declared) (vs : List (List ℕ)) (ps : List NormalPath)
     → ((x : List ℕ) → is_name_among before x ≡ is_among seen x) → ((x : List ℕ) → is_declared ds x ≡ is_among vs x)

@@ -1,7 +1,6 @@
 -- What mirrors the code for its proofs. The promises cite gql_norm's definitions alone, so a reader of them may skip it.
 pub mod PartWalk
 pub mod Questions
-pub mod NameList
 pub mod Scopes
 pub mod ScopeWalk
 pub mod Marks

@@ -6,7 +6,6 @@
 #![tactic(auto)]
 
 mod misuses;
-mod name_list;
 mod names;
 mod parameters;
 mod properties;

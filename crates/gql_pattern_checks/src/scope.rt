@@ -5,8 +5,7 @@ ghost use Rattle.gql_expr_checks.specs.Machinery.Knowing.{first_kind};
 ghost use Rattle.gql_pattern_checks.specs.Machinery.Marks.{marks_of, cut_to};
 ghost use Rattle.gql_pattern_checks.specs.Machinery.Scopes.{known_columns, no_names, path_column, variable_column, with_path_name, with_variable, with_variable_of};
 
-use crate::name_list::NameList;
-use gql_expr_checks::KnownColumns;
+use gql_expr_checks::{KnownColumns, NameList};
 use gql_values3::{ColumnKind, OutOfMemory, Text};
 use std::alloc::Global;
 

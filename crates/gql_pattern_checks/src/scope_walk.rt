@@ -84,25 +84,11 @@ fn check_row(
     ensures kept { OnOk result (names.new ≡ names.old) }
 {
     let marks = names.marks();
-    check_first_steps(walk, names, first, second, others)?;
-    names.cut(&marks);
-    Ok(())
-}
-
-#[cycle(scope_walk)]
-fn check_first_steps(
-    walk: &Walk,
-    names: &mut Names,
-    first: &Part,
-    second: &Part,
-    others: &[Part],
-) -> Result<(), ScopeFault>
-    ensures faults { Gives result (refused_in_row walk.now.question walk.now.columns.now names.old (part_data first.now ∷ part_data second.now ∷ map part_data others.now)) }
-    ensures added { OnOk result (names.new ≡ with_parts false names.old (part_data first.now ∷ part_data second.now ∷ map part_data others.now)) }
-{
     check_step(walk, names, first)?;
     check_step(walk, names, second)?;
-    check_steps(walk, names, others)
+    check_steps(walk, names, others)?;
+    names.cut(&marks);
+    Ok(())
 }
 
 /// Asks of a part, and adds its variables.

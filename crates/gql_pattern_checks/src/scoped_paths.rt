@@ -5,13 +5,12 @@ ghost use Rattle.gql_expr_checks.specs.Gives.{Gives};
 ghost use Rattle.gql_norm.specs.NormalData.{path_data, pattern_data};
 ghost use Rattle.gql_pattern_checks.specs.Machinery.ScopeWalk.{refused_in_paths, refused_name, refused_path, refused_path_name, refused_pattern, with_name_of};
 
-use crate::name_list::NameList;
 use crate::scope::Names;
 use crate::scope_walk::check_part;
 use crate::scoped::{ScopeQuestion, Walk, ask_condition};
 use crate::variables::names_of_paths;
 use gql_ast::Refusal;
-use gql_expr_checks::ScopeFault;
+use gql_expr_checks::{NameList, ScopeFault};
 use gql_norm::{NormalPath, NormalPattern};
 use gql_values3::Text;
 

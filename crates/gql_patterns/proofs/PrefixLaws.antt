@@ -18,7 +18,7 @@ use Rattle.gql_patterns.specs.Machinery.QuantifierReaders.{number_of}
 use Rattle.gql_patterns.specs.Machinery.PrefixReaders.{past_path_word, mode_of, part_mode_of, without_path_word, mode_behind, with_mode, all_or_shortest, all_of, any_or_shortest, any_of, shortest_or_groups, shortest_of, prefix_behind, prefix_of}
 use Rattle.gql_patterns.specs.declared.prefix_word.PrefixWord.{PrefixWord}
 use Rattle.gql_patterns.specs.declared.prefix_word.PrefixWord.TheVariants as says
-use Rattle.gql_patterns.proofs.QuantifierLaws.{is_number, IsNumber, number_sound, number_exact}
+use Rattle.gql_patterns.proofs.QuantifierLaws.{is_number, IsNumber, number_sound, number_exact, number_shorter}
 
 abbrev pub is_mode : Lexeme → Bool
 is_mode t = is_there (mode_word t)
@@ -143,10 +143,7 @@ prefix_sound ts x r e =
 
 -- Prefixes: what is derived is read, where no lexeme stands behind it with which it may go on
 
--- the lexemes with which some prefix may go on
-abbrev pub goes_prefix : Lexeme → Bool
-goes_prefix t = is_number t || (is_mode t || (is_path_word t || (is_group_word t || is_word SHORTEST t)))
-
+-- the next lexeme is none with which some prefix may go on
 pub record Ends (s : List Lexeme) : Type 0 where
   pub number : Stops is_number s
   pub mode : Stops is_mode s
@@ -211,9 +208,6 @@ prefix_exact (prefix.ShortestGroups n m) ts s h end =
 
 behind_shorter : (m : Option Mode) (ts r : List Lexeme) → MayHaveMode m ts r → length r ≤ length ts
 behind_shorter m ts r h = omega (arith, optional_shorter (Begins mode_word) (begins_shorter mode_word) m ts h.0 h.1, may_pass_shorter is_path_word h.0 r h.2)
-
-number_shorter : (n : Option (List ℕ)) (ts r : List Lexeme) → IsOptional IsNumber n ts r → length r ≤ length ts
-number_shorter = optional_shorter IsNumber (begins_shorter number_in)
 
 pub prefix_shorter : (x : Prefix) (ts r : List Lexeme) → IsPrefix x ts r → length r < length ts
 prefix_shorter (prefix.Mode m) ts r h = omega (arith, begins_shorter prefix_word (says.Mode m) ts h.0 h.1, may_pass_shorter is_path_word h.0 r h.2)

@@ -35,7 +35,7 @@ pub number_exact : (x : Option (List ℕ)) (ts s : List Lexeme) → IsOptional I
 unfolding number_of maybe
 number_exact x ts s h stop = ap Some (said_exact number_in x ts s h stop)
 
-number_shorter : (x : Option (List ℕ)) (ts r : List Lexeme) → IsOptional IsNumber x ts r → length r ≤ length ts
+pub number_shorter : (x : Option (List ℕ)) (ts r : List Lexeme) → IsOptional IsNumber x ts r → length r ≤ length ts
 number_shorter = optional_shorter IsNumber (begins_shorter number_in)
 
 -- Bounds

@@ -1,7 +1,7 @@
 -- What stands at a key among ascending records, and what an edit at its place does.
-use Rattle.std.proofs.Common.{◌≡◌, ◌≢◌, ℕ, zero, suc, ◌+◌, ◌<◌, Bool, true, false, cond, ◌&&◌, List, [], ◌∷◌, length, map, get_or, set, if◌then◌else◌, Option, Some, None, Result, Ok, Err, IfOk, IfErr, inl, inr, refl, sym, ◌∙◌, ap, subst, arith}
+use Rattle.std.proofs.Common.{◌≡◌, ◌≢◌, ℕ, zero, suc, ◌+◌, ◌<◌, Bool, true, false, cond, List, [], ◌∷◌, length, map, get_or, set, if◌then◌else◌, Option, Some, None, Result, Ok, Err, IfOk, IfErr, inl, inr, refl, sym, ◌∙◌, ap, subst, arith}
 use mathlib.Core.Bool.{true≢false}
-use Rattle.std.proofs.lemmas.Bool.{cases_lt}
+use Rattle.std.proofs.lemmas.Bool.{cases_lt, and_parts, and_from}
 use Rattle.std.specs.Prelude.{find, option_map}
 use Rattle.std.specs.List.{insert, remove}
 use Rattle.std.specs.List.Sorted.{IsSearchInRange, IsBinarySearchResult, IsNonDecreasingBy}
@@ -24,17 +24,6 @@ key_of : Record → List ℕ
 key_of r = r.key
 
 -- ---- tests
-
-left : (a b : Bool) → (a && b) ≡ true → a ≡ true
-left true b h = refl
-left false b h = absurd (true≢false (sym h))
-
-right : (a b : Bool) → (a && b) ≡ true → b ≡ true
-right true b h = h
-right false b h = absurd (true≢false (sym h))
-
-both : (a b : Bool) → a ≡ true → b ≡ true → (a && b) ≡ true
-both a b h k = rw (h, k) refl
 
 less : (o : Ordering) → is_lt o ≡ true → o ≡ Less
 less Less h = refl
@@ -71,22 +60,22 @@ differs_if_greater a b h e = differs_if_less b a (less_from_greater a b h) (sym 
 
 tail_ascends : (low : List ℕ) (ks : List (List ℕ)) → ascend_above low ks ≡ true → texts_ascend ks ≡ true
 tail_ascends low [] h = refl
-tail_ascends low (k ∷ ks) h = right (is_lt (key_cmp low k)) (ascend_above k ks) h
+tail_ascends low (k ∷ ks) h = (and_parts (is_lt (key_cmp low k)) (ascend_above k ks) h).1
 
 above_lower : (a b : List ℕ) (ks : List (List ℕ)) → key_cmp a b ≡ Less → ascend_above b ks ≡ true → ascend_above a ks ≡ true
 above_lower a b [] h g = refl
 above_lower a b (k ∷ ks) h g =
-    let below_k = less (key_cmp b k) (left (is_lt (key_cmp b k)) (ascend_above k ks) g) in
-    both (is_lt (key_cmp a k)) (ascend_above k ks) (ap is_lt (nat_list_cmp_total.trans a b k h below_k)) (right (is_lt (key_cmp b k)) (ascend_above k ks) g)
+    let below_k = less (key_cmp b k) (and_parts (is_lt (key_cmp b k)) (ascend_above k ks) g).0 in
+    and_from (is_lt (key_cmp a k)) (ascend_above k ks) (ap is_lt (nat_list_cmp_total.trans a b k h below_k)) (and_parts (is_lt (key_cmp b k)) (ascend_above k ks) g).1
 
 -- low is below each record
 all_above : (low : List ℕ) (xs : List Record) → ascend_above low (map key_of xs) ≡ true → (j : ℕ) (d : Record) → j < length xs → key_cmp low (get_or xs j d).key ≡ Less
 unfolding key_of
 all_above low [] h j d lt = absurd (omega arith)
-all_above low (x ∷ xs) h zero d lt = less (key_cmp low x.key) (left (is_lt (key_cmp low x.key)) (ascend_above x.key (map key_of xs)) h)
+all_above low (x ∷ xs) h zero d lt = less (key_cmp low x.key) (and_parts (is_lt (key_cmp low x.key)) (ascend_above x.key (map key_of xs)) h).0
 all_above low (x ∷ xs) h (suc j) d lt =
-    let first = less (key_cmp low x.key) (left (is_lt (key_cmp low x.key)) (ascend_above x.key (map key_of xs)) h) in
-    let rest = right (is_lt (key_cmp low x.key)) (ascend_above x.key (map key_of xs)) h in
+    let first = less (key_cmp low x.key) (and_parts (is_lt (key_cmp low x.key)) (ascend_above x.key (map key_of xs)) h).0 in
+    let rest = (and_parts (is_lt (key_cmp low x.key)) (ascend_above x.key (map key_of xs)) h).1 in
     nat_list_cmp_total.trans low x.key (get_or xs j d).key first (all_above x.key xs rest j d (omega arith))
 
 -- a record is below each later one
@@ -226,16 +215,16 @@ value_at-remove (x ∷ xs) (suc i) key in_range is h after q =
 
 above-insert : (low : List ℕ) (xs : List Record) (i : ℕ) (r : Record) → ascend_above low (map key_of xs) ≡ true → key_cmp low r.key ≡ Less → IsGapFor xs r.key i → ascend_above low (map key_of (insert xs i r)) ≡ true
 unfolding key_of
-above-insert low [] zero r h below gap = both (is_lt (key_cmp low r.key)) true (ap is_lt below) refl
+above-insert low [] zero r h below gap = and_from (is_lt (key_cmp low r.key)) true (ap is_lt below) refl
 above-insert low [] (suc i) r h below gap = absurd (omega (arith, gap.in_range))
 above-insert low (x ∷ xs) zero r h below gap =
-    let rest = right (is_lt (key_cmp low x.key)) (ascend_above x.key (map key_of xs)) h in
+    let rest = (and_parts (is_lt (key_cmp low x.key)) (ascend_above x.key (map key_of xs)) h).1 in
     let next = less_from_greater x.key r.key (gap.greater_after zero x (omega arith) (omega arith)) in
-    both (is_lt (key_cmp low r.key)) (ascend_above r.key (map key_of (x ∷ xs))) (ap is_lt below) (both (is_lt (key_cmp r.key x.key)) (ascend_above x.key (map key_of xs)) (ap is_lt next) rest)
+    and_from (is_lt (key_cmp low r.key)) (ascend_above r.key (map key_of (x ∷ xs))) (ap is_lt below) (and_from (is_lt (key_cmp r.key x.key)) (ascend_above x.key (map key_of xs)) (ap is_lt next) rest)
 above-insert low (x ∷ xs) (suc i) r h below gap =
-    let first = left (is_lt (key_cmp low x.key)) (ascend_above x.key (map key_of xs)) h in
-    let rest = right (is_lt (key_cmp low x.key)) (ascend_above x.key (map key_of xs)) h in
-    both (is_lt (key_cmp low x.key)) (ascend_above x.key (map key_of (insert xs i r))) first
+    let first = (and_parts (is_lt (key_cmp low x.key)) (ascend_above x.key (map key_of xs)) h).0 in
+    let rest = (and_parts (is_lt (key_cmp low x.key)) (ascend_above x.key (map key_of xs)) h).1 in
+    and_from (is_lt (key_cmp low x.key)) (ascend_above x.key (map key_of (insert xs i r))) first
     (above-insert x.key xs i r rest (gap.less_before zero x (omega arith)) (tail_gap x xs r.key i gap))
   where
     tail_gap : (x : Record) (xs : List Record) (key : List ℕ) (i : ℕ) → IsGapFor (x ∷ xs) key (suc i) → IsGapFor xs key i
@@ -250,7 +239,7 @@ unfolding key_of
 ascend-insert [] zero r h gap = refl
 ascend-insert [] (suc i) r h gap = absurd (omega (arith, gap.in_range))
 ascend-insert (x ∷ xs) zero r h gap =
-    both (is_lt (key_cmp r.key x.key)) (ascend_above x.key (map key_of xs)) (ap is_lt (less_from_greater x.key r.key (gap.greater_after zero x (omega arith) (omega arith)))) h
+    and_from (is_lt (key_cmp r.key x.key)) (ascend_above x.key (map key_of xs)) (ap is_lt (less_from_greater x.key r.key (gap.greater_after zero x (omega arith) (omega arith)))) h
 ascend-insert (x ∷ xs) (suc i) r h gap =
     above-insert x.key xs i r h (gap.less_before zero x (omega arith)) (record {
       in_range = omega (arith, gap.in_range);
@@ -263,10 +252,10 @@ unfolding key_of
 above-remove low [] zero h = refl
 above-remove low [] (suc i) h = refl
 above-remove low (x ∷ xs) zero h =
-    above_lower low x.key (map key_of xs) (less (key_cmp low x.key) (left (is_lt (key_cmp low x.key)) (ascend_above x.key (map key_of xs)) h)) (right (is_lt (key_cmp low x.key)) (ascend_above x.key (map key_of xs)) h)
+    above_lower low x.key (map key_of xs) (less (key_cmp low x.key) (and_parts (is_lt (key_cmp low x.key)) (ascend_above x.key (map key_of xs)) h).0) (and_parts (is_lt (key_cmp low x.key)) (ascend_above x.key (map key_of xs)) h).1
 above-remove low (x ∷ xs) (suc i) h =
-    both (is_lt (key_cmp low x.key)) (ascend_above x.key (map key_of (remove xs i))) (left (is_lt (key_cmp low x.key)) (ascend_above x.key (map key_of xs)) h)
-    (above-remove x.key xs i (right (is_lt (key_cmp low x.key)) (ascend_above x.key (map key_of xs)) h))
+    and_from (is_lt (key_cmp low x.key)) (ascend_above x.key (map key_of (remove xs i))) (and_parts (is_lt (key_cmp low x.key)) (ascend_above x.key (map key_of xs)) h).0
+    (above-remove x.key xs i (and_parts (is_lt (key_cmp low x.key)) (ascend_above x.key (map key_of xs)) h).1)
 
 pub ascend-remove : (xs : List Record) (i : ℕ) → keys_ascend xs ≡ true → keys_ascend (remove xs i) ≡ true
 unfolding key_of

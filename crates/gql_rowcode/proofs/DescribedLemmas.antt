@@ -6,6 +6,7 @@ use Rattle.gql_values3.specs.Texts.{same_text, texts_ascend}
 use Rattle.gql_values3.specs.PropertyGraph.{PropertyGraph, are_ends, are_properties, is_node_record, is_edge_record}
 use Rattle.gql_values3.specs.declared.records.NodeRecord.{NodeRecord}
 use Rattle.gql_values3.specs.declared.records.EdgeRecord.{EdgeRecord}
+use Rattle.gql_values3.proofs.WordLemmas.{same_is}
 use Rattle.gql_graph.specs.Catalog.{CatalogGraph, CatalogData, named, held_in, put_named}
 use Rattle.gql_type.specs.SoundCatalog.{fits_kind}
 use Rattle.gql_graph.specs.declared.graph_type.GraphType.{GraphType}
@@ -14,7 +15,7 @@ use Rattle.gql_type.specs.GraphTypes.{is_graph_type}
 use Rattle.gql_rowcode.specs.Records.{Form, version, graph_type, graph, node, edge, key_of, IsForm}
 use Rattle.gql_rowcode.specs.FirstBad.{and_node, and_edge, on_graph, with_form, with_forms, described, passes_type, JoinsAsNode, JoinsAsEdge, Follows}
 use Rattle.gql_rowcode.proofs.MemberLemmas.{Has, has_left, has_last, has_push}
-use Rattle.gql_rowcode.proofs.NameLemmas.{named_has, has_named, one_named, names_in_order, put_back, put_keeps, text_is, text_same, below_itself}
+use Rattle.gql_rowcode.proofs.NameLemmas.{named_has, has_named, one_named, names_in_order, put_back, put_keeps, text_same, below_itself}
 use Rattle.gql_graph.proofs.CatalogLemmas.{names}
 use Rattle.gql_graph.proofs.NamedLemmas.{names_ascend-put}
 use Rattle.gql_rowcode.proofs.FittingLemmas.{conforms_node, conforms_edge}
@@ -129,7 +130,7 @@ module _ (c : CatalogData) (sound : Sound c) (name : List ℕ) (change : Propert
   module _ (g : CatalogGraph) (there : held_in c name ≡ Some g) where
     changed_case : (P : CatalogGraph → Type 0) (b : Bool) (m : List ℕ) (h : CatalogGraph) → same_text name m ≡ b → Has c.graphs (m, h) → P (changed change g) → P h → P (on_held b change h)
     changed_case P true m h e k new old =
-        let m_is : name ≡ m = text_is name m e in
+        let m_is : name ≡ m = same_is name m e in
         let here : Has c.graphs (name, h) = subst (λ (n : List ℕ). Has c.graphs (n, h)) (sym m_is) k in
         let same : g ≡ h = one_named name c.graphs g h (names_in_order c.graphs sound.graph_names) (named_has name c.graphs g there) here in
         subst (λ (w : CatalogGraph). P (changed change w)) same new

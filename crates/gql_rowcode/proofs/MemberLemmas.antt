@@ -1,26 +1,14 @@
 -- What is in a list, by recursion on the list.
 use Rattle.std.proofs.Common.{◌≡◌, ℕ, zero, suc, ◌<◌, cond, Bool, true, false, ◌&&◌, List, [], ◌∷◌, ◌++◌, length, map, get_or, Option, Some, None, refl, sym, ap, subst, ◌∙◌, arith, inl, inr, ◌⊎◌}
-use Rattle.std.specs.Prelude.{Contains, find, ◌||◌}
+use Rattle.std.specs.Prelude.{Contains, find}
 use Rattle.std.specs.List.{flat_map, list_all, list_any, AllByRecursion}
 use Rattle.std.proofs.lemmas.List.Concat.{flat_map-cons}
-use Rattle.std.proofs.lemmas.Bool.{and_parts, and_from}
+use Rattle.std.proofs.lemmas.Bool.{and_parts, and_from, or_left, or_right, or_cases}
 
 -- the list has the element
 abbrev pub Has : {X : Type 0} → List X → X → Type 0
 Has [] x = ⊥
 Has (y ∷ ys) x = (x ≡ y) ⊎ Has ys x
-
-or_first : (a b : Bool) → a ≡ true → (a || b) ≡ true
-or_first true b h = refl
-or_first false b h = absurd (cc)
-
-or_second : (a b : Bool) → b ≡ true → (a || b) ≡ true
-or_second true b h = refl
-or_second false b h = h
-
-or_parts : (a b : Bool) → (a || b) ≡ true → (a ≡ true) ⊎ (b ≡ true)
-or_parts true b h = inl refl
-or_parts false b h = inr h
 
 module _ {X : Type 0} where
   -- between this and a place
@@ -84,13 +72,13 @@ module _ {X : Type 0} where
   -- one that passes
   pub any_has : (p : X → Bool) (xs : List X) (x : X) → Has xs x → p x ≡ true → list_any p xs ≡ true
   any_has p [] x h pass = absurd h
-  any_has p (y ∷ ys) x (inl e) pass = or_first (p y) (list_any p ys) (ap p (sym e) ∙ pass)
-  any_has p (y ∷ ys) x (inr h) pass = or_second (p y) (list_any p ys) (any_has p ys x h pass)
+  any_has p (y ∷ ys) x (inl e) pass = or_left (p y) (list_any p ys) (ap p (sym e) ∙ pass)
+  any_has p (y ∷ ys) x (inr h) pass = or_right (p y) (list_any p ys) (any_has p ys x h pass)
 
   pub any_back : (p : X → Bool) (xs : List X) → list_any p xs ≡ true → (x : X) × Has xs x × (p x ≡ true)
   any_back p [] any = absurd (cc)
   any_back p (y ∷ ys) any =
-      elim (or_parts (p y) (list_any p ys) any) [
+      elim (or_cases (p y) (list_any p ys) any) [
         | inl here ↦ (y, inl refl, here)
         | inr there ↦ let rest = any_back p ys there in (rest.0, inr rest.1, rest.2)
       ]

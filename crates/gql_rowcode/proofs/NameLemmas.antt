@@ -8,6 +8,7 @@ use Rattle.std.proofs.lemmas.Cmp.{tied_itself, nat_list_cmp_total}
 use Rattle.std.proofs.lemmas.Bool.{and_parts}
 use Rattle.std.proofs.lemmas.Slice.Eq.{bytes_eq-Decides}
 use Rattle.gql_values3.specs.Texts.{same_text, ascend_above, texts_ascend}
+use Rattle.gql_values3.proofs.WordLemmas.{same_is}
 use Rattle.gql_graph.specs.Catalog.{named, is_before, put_named}
 use Rattle.gql_graph.proofs.CatalogLemmas.{names}
 use Rattle.gql_graph.proofs.AscendingTexts.{less_if}
@@ -20,10 +21,6 @@ below_chain a b c p q = ap is_lt (nat_list_cmp_total.trans a b c (less_if _ p) (
 -- none is below itself
 pub below_itself : (a : List ℕ) → is_before a a ≡ true → ⊥
 below_itself a p = let tie : slice_cmp nat_cmp a a ≡ Equal = tied_itself nat_list_cmp_total a in let less : slice_cmp nat_cmp a a ≡ Less = less_if _ p in cc
-
--- the same bytes are one text
-pub text_is : (a b : List ℕ) → same_text a b ≡ true → a ≡ b
-text_is a b e = (bytes_eq-Decides a b).0 e
 
 pub text_same : (a : List ℕ) → same_text a a ≡ true
 text_same a = (bytes_eq-Decides a a).1 refl
@@ -66,7 +63,7 @@ module _ {A : Type 0} where
   named_has name xs a e =
       let f = found_some (find (λ (x : List ℕ × A). same_text name x.0) xs) a e in
       let there = find_has (λ (x : List ℕ × A). same_text name x.0) xs f.0 f.1 in
-      let same : f.0 ≡ (name, a) = ap (λ (n : List ℕ). (n, f.0.1)) (sym (text_is name f.0.0 there.1)) ∙ ap (λ (b : A). (name, b)) f.2 in
+      let same : f.0 ≡ (name, a) = ap (λ (n : List ℕ). (n, f.0.1)) (sym (same_is name f.0.0 there.1)) ∙ ap (λ (b : A). (name, b)) f.2 in
       subst (Has xs) same there.0
 
   pass : (b : Bool) (y : List ℕ × A) (s : Option (List ℕ × A)) → b ≡ true → option_map (λ (x : List ℕ × A). x.1) (cond b (Some y) s) ≡ Some y.1
@@ -93,7 +90,7 @@ module _ {A : Type 0} where
   has_named name (y ∷ ys) a up (inr h) = named_later name y ys (other (same_text name y.0) refl) ∙ has_named name ys a up.1 h
     where
       other : (b : Bool) → same_text name y.0 ≡ b → same_text name y.0 ≡ false
-      other true e = absurd (below_itself y.0 (ap (is_before y.0) (sym (text_is name y.0 e)) ∙ up.0 (name, a) h))
+      other true e = absurd (below_itself y.0 (ap (is_before y.0) (sym (same_is name y.0 e)) ∙ up.0 (name, a) h))
       other false e = e
 
   -- so there is one

@@ -1,6 +1,6 @@
 -- What was noted of forms is what they describe, but for the order; and what may be told next may follow.
 use Rattle.std.proofs.Common.{◌≡◌, ◌≢◌, ℕ, ◌∙◌, ◌<◌, ltb, Bool, true, false, not, ◌&&◌, List, [], ◌∷◌, ◌++◌, map, Option, Some, None, refl, sym, ap, subst, inl, inr, ◌⊎◌}
-use Rattle.std.proofs.lemmas.Bool.{ltb-true, lt-ltb, and_parts, and_from}
+use Rattle.std.proofs.lemmas.Bool.{ltb-true, lt-ltb, and_parts, and_from, not-true}
 use Rattle.gql_values3.specs.PropertyGraph.{PropertyGraph, are_ends}
 use Rattle.gql_values3.specs.declared.records.NodeRecord.{NodeRecord}
 use Rattle.gql_values3.specs.declared.records.EdgeRecord.{EdgeRecord}
@@ -108,11 +108,7 @@ module _ (forms : List Form) where
         told false e = refl
 
     later : not first ≡ true → forms ≢ []
-    later h = some (off first h)
-      where
-        off : (b : Bool) → not b ≡ true → b ≡ false
-        off true e = absurd (cc)
-        off false e = refl
+    later h = some (not-true first h)
 
     at_first : forms ≡ [] → first ≡ true
     at_first e = told first refl

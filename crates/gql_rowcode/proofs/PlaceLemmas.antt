@@ -14,12 +14,13 @@ use Rattle.std.proofs.lemmas.List.{get_or-map, length-map}
 use Rattle.std.proofs.lemmas.List.Sorted.{searchable_from_sorted}
 use Rattle.gql_values3.specs.PropertyGraph.{PropertyGraph}
 use Rattle.gql_values3.specs.Texts.{same_text}
+use Rattle.gql_values3.proofs.WordLemmas.{same_is}
 use Rattle.gql_graph.specs.Catalog.{CatalogGraph, named}
 use Rattle.gql_rowcode.specs.declared.seen.GraphSeen.{GraphSeen}
 use Rattle.gql_rowcode.specs.Machinery.KeyOrder.{key_cmp, AreListed}
 use Rattle.gql_rowcode.specs.Machinery.Noted.{graph_seen, named_seen}
 use Rattle.gql_rowcode.proofs.MemberLemmas.{Has, find_has}
-use Rattle.gql_rowcode.proofs.NameLemmas.{text_is, text_same}
+use Rattle.gql_rowcode.proofs.NameLemmas.{text_same}
 use Rattle.gql_rowcode.proofs.SortedLemmas.{when, unless}
 use Rattle.gql_rowcode.proofs.SaidLemmas.{changed, on_one}
 
@@ -37,14 +38,14 @@ last_equal Equal p e = e
 last_equal Greater p e = absurd (cc)
 
 equal_names : (a b : List ℕ) → key_cmp a b ≡ Equal → a ≡ b
-equal_names a b e = text_is a b (texts_ties a b ∙ ap is_eq (last_equal (nat_cmp (length a) (length b)) (slice_cmp nat_cmp a b) e))
+equal_names a b e = same_is a b (texts_ties a b ∙ ap is_eq (last_equal (nat_cmp (length a) (length b)) (slice_cmp nat_cmp a b) e))
 
 -- names that do not compare as equal
 other_name : (a name : List ℕ) (o : Ordering) → key_cmp a name ≡ o → o ≢ Equal → same_text name a ≡ false
 other_name a name o is other = told (same_text name a) refl
   where
     told : (b : Bool) → same_text name a ≡ b → b ≡ false
-    told true e = absurd (other (sym is ∙ ap (key_cmp a) (text_is name a e) ∙ tied_itself key_total a))
+    told true e = absurd (other (sym is ∙ ap (key_cmp a) (same_is name a e) ∙ tied_itself key_total a))
     told false e = refl
 
 less_differs : Less ≢ Equal
@@ -245,5 +246,5 @@ module _ (name : List ℕ) (change : PropertyGraph → PropertyGraph) (here_chan
       → map (on_one name change) (map named_seen gs) ≡ map named_seen (slice_set gs i (here_changed (get_or gs i d)))
   changed_at gs i d listed e =
       let w = place_within (λ (y : List ℕ × GraphSeen). same_text name y.0) gs i e in
-      let at : (c : List ℕ × GraphSeen) → (get_or gs i c).0 ≡ name = λ c. sym (text_is name (get_or gs i c).0 (found_name gs i c e)) in
+      let at : (c : List ℕ × GraphSeen) → (get_or gs i c).0 ≡ name = λ c. sym (same_is name (get_or gs i c).0 (found_name gs i c e)) in
       set_at gs i d w.0 (found_name gs i d e) (λ j c lt apart. others name gs listed i w.0 at j c lt apart)

@@ -1,17 +1,18 @@
 -- What a catalog says, and what it says once a form more is told.
-use Rattle.std.proofs.Common.{◌≡◌, ℕ, ◌∙◌, cond, Bool, true, false, List, [], ◌∷◌, map, Option, Some, refl, sym, ap, subst, inl, inr, ◌⊎◌}
+use Rattle.std.proofs.Common.{◌≡◌, ℕ, ◌∙◌, cond, Bool, true, false, List, [], ◌∷◌, ◌++◌, map, Option, Some, refl, sym, ap, subst, inl, inr, ◌⊎◌}
 use Rattle.std.specs.List.{flat_map}
 use Rattle.gql_values3.specs.Texts.{same_text}
 use Rattle.gql_values3.specs.PropertyGraph.{PropertyGraph}
 use Rattle.gql_values3.specs.declared.records.NodeRecord.{NodeRecord}
 use Rattle.gql_values3.specs.declared.records.EdgeRecord.{EdgeRecord}
+use Rattle.gql_values3.proofs.WordLemmas.{same_is}
 use Rattle.gql_graph.specs.Catalog.{CatalogGraph, CatalogData, held_in}
 use Rattle.gql_graph.specs.declared.graph_type.GraphType.{GraphType}
 use Rattle.gql_rowcode.specs.Records.{Form, version, graph_type, graph, node, edge}
 use Rattle.gql_rowcode.specs.StandFor.{graph_forms, catalog_forms}
 use Rattle.gql_rowcode.specs.FirstBad.{and_node, and_edge, on_graph, with_form}
 use Rattle.gql_rowcode.proofs.MemberLemmas.{Has, has_left, has_right, has_either, has_push, has_last, has_map, has_map_back, has_flat_map, has_flat_map_back}
-use Rattle.gql_rowcode.proofs.NameLemmas.{text_is, text_same, named_has, put_back, put_keeps, put_has}
+use Rattle.gql_rowcode.proofs.NameLemmas.{text_same, named_has, put_back, put_keeps, put_has}
 
 -- it is said of the catalog
 abbrev pub Says : CatalogData → Form → Type 0
@@ -123,89 +124,81 @@ Names c (node name r) = (g : CatalogGraph) × (held_in c name ≡ Some g)
 Names c (edge name r) = (g : CatalogGraph) × (held_in c name ≡ Some g)
 Names c _ = Unit {0}
 
--- ---- a node more
+-- ---- a node or an edge more
 
-module _ (c : CatalogData) (name : List ℕ) (r : NodeRecord) where
-  abbrev node_put : CatalogData
-  node_put = on_graph name (and_node r) c
+-- one of the nodes, or of the edges, of a graph of this name
+abbrev IsPart : {R : Type 0} → (PropertyGraph → List R) → CatalogData → List ℕ → R → Type 0
+IsPart part c m x = (g : CatalogGraph) × Has c.graphs (m, g) × Has (part g.graph) x
 
-  node_case : (b : Bool) (m : List ℕ) (x : NodeRecord) (g h : CatalogGraph) → same_text name m ≡ b → h ≡ on_held b (and_node r) g → Has c.graphs (m, g) → Has h.graph.nodes x → Says c (node m x) ⊎ (node m x ≡ node name r)
-  node_case true m x g h e is there k =
-      elim (has_push g.graph.nodes r x (subst (λ (w : CatalogGraph). Has w.graph.nodes x) is k)) [
-        | inl a ↦ inl (g, there, a)
-        | inr a ↦ inr (ap (λ (w : NodeRecord). node m w) a ∙ ap (λ (n : List ℕ). node n r) (sym (text_is name m e)))
-      ]
-  node_case false m x g h e is there k = inl (g, there, subst (λ (w : CatalogGraph). Has w.graph.nodes x) is k)
+module _ (c : CatalogData) (name : List ℕ) (change : PropertyGraph → PropertyGraph) {R : Type 0} (part : PropertyGraph → List R) where
+  abbrev after : CatalogData
+  after = on_graph name change c
 
-  node_back : (f : Form) → Says node_put f → Says c f ⊎ (f ≡ node name r)
-  node_back version s = inl tt
-  node_back (graph_type m t) s = inl s
-  node_back (graph m k x y) s = inl (graph_said_back name (and_node r) c (λ g. refl) (λ g. refl) m k x y s)
-  node_back (node m x) s =
-      let b = graph_before name (and_node r) c m s.0 s.1 in
-      node_case (same_text name m) m x b.0 s.0 refl b.2 b.1 s.2
-  node_back (edge m x) s =
-      let b = graph_before name (and_node r) c m s.0 s.1 in
-      inl (b.0, b.1, subst (λ (es : List EdgeRecord). Has es x) (kept name (and_node r) (λ g. g.graph.edges) (λ g. refl) (same_text name m) b.0) (subst (λ (w : CatalogGraph). Has w.graph.edges x) b.2 s.2))
+  -- the change leaves them
+  module _ (same : (g : PropertyGraph) → part (change g) ≡ part g) where
+    same_part : (m : List ℕ) (g : CatalogGraph) → part (on_held (same_text name m) change g).graph ≡ part g.graph
+    same_part m g = kept name change (λ g. part g.graph) (λ g. same g.graph) (same_text name m) g
 
-  node_stays : (b : Bool) (x : NodeRecord) (g : CatalogGraph) → Has g.graph.nodes x → Has (on_held b (and_node r) g).graph.nodes x
-  node_stays true x g h = has_left g.graph.nodes (r ∷ []) x h
-  node_stays false x g h = h
+    same_back : (m : List ℕ) (x : R) → IsPart part after m x → IsPart part c m x
+    same_back m x s =
+        let b = graph_before name change c m s.0 s.1 in
+        (b.0, b.1, subst (λ (rs : List R). Has rs x) (same_part m b.0) (subst (λ (w : CatalogGraph). Has (part w.graph) x) b.2 s.2))
 
-  node_still : (f : Form) → Says c f → Says node_put f
-  node_still version s = tt
-  node_still (graph_type m t) s = s
-  node_still (graph m k x y) s = graph_still_said name (and_node r) c (λ g. refl) (λ g. refl) m k x y s
-  node_still (node m x) s = (on_held (same_text name m) (and_node r) s.0, graph_behind name (and_node r) c m s.0 s.1, node_stays (same_text name m) x s.0 s.2)
-  node_still (edge m x) s = (on_held (same_text name m) (and_node r) s.0, graph_behind name (and_node r) c m s.0 s.1, subst (λ (es : List EdgeRecord). Has es x) (sym (kept name (and_node r) (λ g. g.graph.edges) (λ g. refl) (same_text name m) s.0)) s.2)
+    same_still : (m : List ℕ) (x : R) → IsPart part c m x → IsPart part after m x
+    same_still m x s = (on_held (same_text name m) change s.0, graph_behind name change c m s.0 s.1, subst (λ (rs : List R). Has rs x) (sym (same_part m s.0)) s.2)
 
-  node_new : (g : CatalogGraph) → held_in c name ≡ Some g → Says node_put (node name r)
-  node_new g e =
-      let there = graph_behind name (and_node r) c name g (named_has name c.graphs g e) in
-      let is : on_held (same_text name name) (and_node r) g ≡ changed (and_node r) g = ap (λ (b : Bool). on_held b (and_node r) g) (text_same name) in
-      (changed (and_node r) g, subst (λ (h : CatalogGraph). Has node_put.graphs (name, h)) is there, has_last g.graph.nodes r)
+  -- the change adds one
+  module _ (form : List ℕ → R → Form) (r : R) (more : (g : PropertyGraph) → part (change g) ≡ part g ++ r ∷ []) where
+    more_case : (b : Bool) (m : List ℕ) (x : R) (g h : CatalogGraph) → same_text name m ≡ b → h ≡ on_held b change g → Has c.graphs (m, g) → Has (part h.graph) x → IsPart part c m x ⊎ (form m x ≡ form name r)
+    more_case true m x g h e is there k =
+        elim (has_push (part g.graph) r x (subst (λ (rs : List R). Has rs x) (more g.graph) (subst (λ (w : CatalogGraph). Has (part w.graph) x) is k))) [
+          | inl a ↦ inl (g, there, a)
+          | inr a ↦ inr (ap (form m) a ∙ ap (λ (n : List ℕ). form n r) (sym (same_is name m e)))
+        ]
+    more_case false m x g h e is there k = inl (g, there, subst (λ (w : CatalogGraph). Has (part w.graph) x) is k)
 
--- ---- an edge more
+    more_back : (m : List ℕ) (x : R) → IsPart part after m x → IsPart part c m x ⊎ (form m x ≡ form name r)
+    more_back m x s =
+        let b = graph_before name change c m s.0 s.1 in
+        more_case (same_text name m) m x b.0 s.0 refl b.2 b.1 s.2
 
-module _ (c : CatalogData) (name : List ℕ) (r : EdgeRecord) where
-  abbrev edge_put : CatalogData
-  edge_put = on_graph name (and_edge r) c
+    more_stays : (b : Bool) (x : R) (g : CatalogGraph) → Has (part g.graph) x → Has (part (on_held b change g).graph) x
+    more_stays true x g h = subst (λ (rs : List R). Has rs x) (sym (more g.graph)) (has_left (part g.graph) (r ∷ []) x h)
+    more_stays false x g h = h
 
-  edge_case : (b : Bool) (m : List ℕ) (x : EdgeRecord) (g h : CatalogGraph) → same_text name m ≡ b → h ≡ on_held b (and_edge r) g → Has c.graphs (m, g) → Has h.graph.edges x → Says c (edge m x) ⊎ (edge m x ≡ edge name r)
-  edge_case true m x g h e is there k =
-      elim (has_push g.graph.edges r x (subst (λ (w : CatalogGraph). Has w.graph.edges x) is k)) [
-        | inl a ↦ inl (g, there, a)
-        | inr a ↦ inr (ap (λ (w : EdgeRecord). edge m w) a ∙ ap (λ (n : List ℕ). edge n r) (sym (text_is name m e)))
-      ]
-  edge_case false m x g h e is there k = inl (g, there, subst (λ (w : CatalogGraph). Has w.graph.edges x) is k)
+    more_still : (m : List ℕ) (x : R) → IsPart part c m x → IsPart part after m x
+    more_still m x s = (on_held (same_text name m) change s.0, graph_behind name change c m s.0 s.1, more_stays (same_text name m) x s.0 s.2)
 
-  edge_back : (f : Form) → Says edge_put f → Says c f ⊎ (f ≡ edge name r)
-  edge_back version s = inl tt
-  edge_back (graph_type m t) s = inl s
-  edge_back (graph m k x y) s = inl (graph_said_back name (and_edge r) c (λ g. refl) (λ g. refl) m k x y s)
-  edge_back (node m x) s =
-      let b = graph_before name (and_edge r) c m s.0 s.1 in
-      inl (b.0, b.1, subst (λ (es : List NodeRecord). Has es x) (kept name (and_edge r) (λ g. g.graph.nodes) (λ g. refl) (same_text name m) b.0) (subst (λ (w : CatalogGraph). Has w.graph.nodes x) b.2 s.2))
-  edge_back (edge m x) s =
-      let b = graph_before name (and_edge r) c m s.0 s.1 in
-      edge_case (same_text name m) m x b.0 s.0 refl b.2 b.1 s.2
+    more_new : (g : CatalogGraph) → held_in c name ≡ Some g → IsPart part after name r
+    more_new g e =
+        let there = graph_behind name change c name g (named_has name c.graphs g e) in
+        let is : on_held (same_text name name) change g ≡ changed change g = ap (λ (b : Bool). on_held b change g) (text_same name) in
+        (changed change g, subst (λ (h : CatalogGraph). Has after.graphs (name, h)) is there, subst (λ (rs : List R). Has rs r) (sym (more g.graph)) (has_last (part g.graph) r))
 
-  edge_stays : (b : Bool) (x : EdgeRecord) (g : CatalogGraph) → Has g.graph.edges x → Has (on_held b (and_edge r) g).graph.edges x
-  edge_stays true x g h = has_left g.graph.edges (r ∷ []) x h
-  edge_stays false x g h = h
+abbrev nodes_in : PropertyGraph → List NodeRecord
+nodes_in g = g.nodes
 
-  edge_still : (f : Form) → Says c f → Says edge_put f
-  edge_still version s = tt
-  edge_still (graph_type m t) s = s
-  edge_still (graph m k x y) s = graph_still_said name (and_edge r) c (λ g. refl) (λ g. refl) m k x y s
-  edge_still (node m x) s = (on_held (same_text name m) (and_edge r) s.0, graph_behind name (and_edge r) c m s.0 s.1, subst (λ (es : List NodeRecord). Has es x) (sym (kept name (and_edge r) (λ g. g.graph.nodes) (λ g. refl) (same_text name m) s.0)) s.2)
-  edge_still (edge m x) s = (on_held (same_text name m) (and_edge r) s.0, graph_behind name (and_edge r) c m s.0 s.1, edge_stays (same_text name m) x s.0 s.2)
+abbrev edges_in : PropertyGraph → List EdgeRecord
+edges_in g = g.edges
 
-  edge_new : (g : CatalogGraph) → held_in c name ≡ Some g → Says edge_put (edge name r)
-  edge_new g e =
-      let there = graph_behind name (and_edge r) c name g (named_has name c.graphs g e) in
-      let is : on_held (same_text name name) (and_edge r) g ≡ changed (and_edge r) g = ap (λ (b : Bool). on_held b (and_edge r) g) (text_same name) in
-      (changed (and_edge r) g, subst (λ (h : CatalogGraph). Has edge_put.graphs (name, h)) is there, has_last g.graph.edges r)
+-- a form, by what becomes of nodes and of edges
+module _ (c : CatalogData) (name : List ℕ) (change : PropertyGraph → PropertyGraph) (same_n : (g : PropertyGraph) → (change g).next_node ≡ g.next_node) (same_e : (g : PropertyGraph) → (change g).next_edge ≡ g.next_edge) where
+  back : (told : Form) → ((m : List ℕ) (x : NodeRecord) → Says (on_graph name change c) (node m x) → Says c (node m x) ⊎ (node m x ≡ told))
+      → ((m : List ℕ) (x : EdgeRecord) → Says (on_graph name change c) (edge m x) → Says c (edge m x) ⊎ (edge m x ≡ told))
+      → (f : Form) → Says (on_graph name change c) f → Says c f ⊎ (f ≡ told)
+  back told of_node of_edge version s = inl tt
+  back told of_node of_edge (graph_type m t) s = inl s
+  back told of_node of_edge (graph m k x y) s = inl (graph_said_back name change c same_n same_e m k x y s)
+  back told of_node of_edge (node m x) s = of_node m x s
+  back told of_node of_edge (edge m x) s = of_edge m x s
+
+  still : ((m : List ℕ) (x : NodeRecord) → Says c (node m x) → Says (on_graph name change c) (node m x)) → ((m : List ℕ) (x : EdgeRecord) → Says c (edge m x) → Says (on_graph name change c) (edge m x))
+      → (f : Form) → Says c f → Says (on_graph name change c) f
+  still of_node of_edge version s = tt
+  still of_node of_edge (graph_type m t) s = s
+  still of_node of_edge (graph m k x y) s = graph_still_said name change c same_n same_e m k x y s
+  still of_node of_edge (node m x) s = of_node m x s
+  still of_node of_edge (edge m x) s = of_edge m x s
 
 -- ---- a type or a graph more
 
@@ -270,19 +263,21 @@ pub said_before : (c : CatalogData) (f g : Form) → Says (with_form c f) g → 
 said_before c version g s = inl s
 said_before c (graph_type name t) g s = type_back c name t g s
 said_before c (graph name kind n e) g s = graph_back c name kind n e g s
-said_before c (node name r) g s = node_back c name r g s
-said_before c (edge name r) g s = edge_back c name r g s
+said_before c (node name r) g s =
+    back c name (and_node r) (λ g. refl) (λ g. refl) (node name r) (more_back c name (and_node r) nodes_in node r (λ g. refl)) (λ m x h. inl (same_back c name (and_node r) edges_in (λ g. refl) m x h)) g s
+said_before c (edge name r) g s =
+    back c name (and_edge r) (λ g. refl) (λ g. refl) (edge name r) (λ m x h. inl (same_back c name (and_edge r) nodes_in (λ g. refl) m x h)) (more_back c name (and_edge r) edges_in edge r (λ g. refl)) g s
 
 pub still_said : (c : CatalogData) (f g : Form) → Says c g → Says (with_form c f) g
 still_said c version g s = s
 still_said c (graph_type name t) g s = type_still c name t g s
 still_said c (graph name kind n e) g s = graph_still c name kind n e g s
-still_said c (node name r) g s = node_still c name r g s
-still_said c (edge name r) g s = edge_still c name r g s
+still_said c (node name r) g s = still c name (and_node r) (λ g. refl) (λ g. refl) (more_still c name (and_node r) nodes_in node r (λ g. refl)) (same_still c name (and_node r) edges_in (λ g. refl)) g s
+still_said c (edge name r) g s = still c name (and_edge r) (λ g. refl) (λ g. refl) (same_still c name (and_edge r) nodes_in (λ g. refl)) (more_still c name (and_edge r) edges_in edge r (λ g. refl)) g s
 
 pub newly_said : (c : CatalogData) (f : Form) → Names c f → Says (with_form c f) f
 newly_said c version h = tt
 newly_said c (graph_type name t) h = put_has name t c.types
 newly_said c (graph name kind n e) h = (new_graph c name kind n e, put_has name (new_graph c name kind n e) c.graphs, refl, refl, refl)
-newly_said c (node name r) h = node_new c name r h.0 h.1
-newly_said c (edge name r) h = edge_new c name r h.0 h.1
+newly_said c (node name r) h = more_new c name (and_node r) nodes_in node r (λ g. refl) h.0 h.1
+newly_said c (edge name r) h = more_new c name (and_edge r) edges_in edge r (λ g. refl) h.0 h.1

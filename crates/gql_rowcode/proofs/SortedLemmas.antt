@@ -7,16 +7,17 @@ use Rattle.std.specs.declared.cmp.Ordering.TheVariants.{Less, Equal, Greater}
 use Rattle.std.specs.Cmp.Lexicographic.{slice_cmp, texts_ties}
 use Rattle.std.proofs.lemmas.Cmp.{nat_list_cmp_total}
 use Rattle.gql_values3.specs.Texts.{same_text}
+use Rattle.gql_values3.proofs.WordLemmas.{same_is}
 use Rattle.gql_graph.specs.Catalog.{named, is_before, put_named}
 use Rattle.gql_eval.specs.StableSort.{inserted_in_order, stably_sorted}
 use Rattle.gql_rowcode.specs.Machinery.Noted.{name_before}
 use Rattle.gql_rowcode.proofs.MemberLemmas.{Has}
-use Rattle.gql_rowcode.proofs.NameLemmas.{below_chain, below_itself, text_is, named_here, named_later}
+use Rattle.gql_rowcode.proofs.NameLemmas.{below_chain, below_itself, named_here, named_later}
 
 -- of two names, one is below the other or they are one
 not_before : (a b : List ℕ) (o : Ordering) → slice_cmp nat_cmp a b ≡ o → is_lt o ≡ false → (a ≡ b) ⊎ (is_before b a ≡ true)
 not_before a b Less e no_less = absurd (cc)
-not_before a b Equal e no_less = inl (text_is a b (texts_ties a b ∙ ap is_eq e))
+not_before a b Equal e no_less = inl (same_is a b (texts_ties a b ∙ ap is_eq e))
 not_before a b Greater e no_less = inr (ap is_lt (nat_list_cmp_total.antisymm b a ∙ ap ordering_reverse e))
 
 -- below one that is not above another
@@ -96,7 +97,7 @@ module _ {A : Type 0} where
 
   found_case : (name : List ℕ) (g y : Item A) (ys : List (Item A)) (a b : Bool) → same_text name g.0 ≡ a → same_text name y.0 ≡ b → is_before y.0 g.0 ≡ true → named name (into g ys) ≡ named name (g ∷ ys) → named name (y ∷ into g ys) ≡ named name (g ∷ y ∷ ys)
   found_case name g y ys true true ea eb less ih =
-      let same : y.0 ≡ g.0 = sym (text_is name y.0 eb) ∙ text_is name g.0 ea in
+      let same : y.0 ≡ g.0 = sym (same_is name y.0 eb) ∙ same_is name g.0 ea in
       absurd (below_itself g.0 (ap (λ (n : List ℕ). is_before n g.0) (sym same) ∙ less))
   found_case name g y ys true false ea eb less ih = named_later name y (into g ys) eb ∙ ih ∙ named_here name g ys ea ∙ sym (named_here name g (y ∷ ys) ea)
   found_case name g y ys false true ea eb less ih = named_here name y (into g ys) eb ∙ sym (named_later name g (y ∷ ys) ea ∙ named_here name y ys eb)

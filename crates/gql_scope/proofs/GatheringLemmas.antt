@@ -1,6 +1,7 @@
 -- The names of path patterns gathered by a walk are the columns of the definition. Key idea: a name is a group over all path
 -- patterns just where one of its declarations stands under a quantifier.
 use Rattle.std.proofs.Common.{◌≡◌, ℕ, Bool, true, false, cond, ◌||◌, List, [], ◌∷◌, ◌++◌, flat_map, Option, Some, None, refl, ap, sym, ◌∙◌, append_assoc}
+use Rattle.std.proofs.Math.Bool.{or-false}
 use Rattle.std.proofs.lemmas.List.{map-append}
 use Rattle.gql_values3.specs.Texts.{same_text}
 use Rattle.gql_values3.specs.declared.table.ColumnKind.{ColumnKind}
@@ -13,7 +14,7 @@ use Rattle.gql_norm.specs.Degree.{beside_all, element_degree, degree_of, degrees
 use Rattle.gql_norm.specs.NewColumns.{of_degree, path_name_column, degree_in_paths, columns_by, new_among}
 use Rattle.gql_norm.specs.Machinery.ColumnGrowth.{with_columns, declared_variable, declared_in, declared_in_sides, by_degrees}
 use Rattle.gql_norm.proofs.ColumnLemmas.{columns_of_path, with_columns_new}
-use Rattle.gql_norm.proofs.KnownDegrees.{or_none, known_in_both, degree_known, joint_group, beside_group, optional_group, repeated_group}
+use Rattle.gql_norm.proofs.KnownDegrees.{known_in_both, degree_known, joint_group, beside_group, optional_group, repeated_group}
 use Rattle.gql_scope.specs.Machinery.Gathering.{Gathered, none_yet, with_variable, with_part, with_sides, with_parts, with_path_name, with_path, with_paths, as_group, columns_of}
 
 -- parts in a row, beside each other, and told
@@ -133,7 +134,7 @@ paths_added (p ∷ ps) g =
 
 -- It is a group where it stands under a quantifier.
 beside_all_group : (o : Option Degree) (os : List (Option Degree)) → is_group (beside_all (o ∷ os)) ≡ (is_group o || is_group (beside_all os))
-beside_all_group o [] = or_none (is_group o)
+beside_all_group o [] = sym (or-false (is_group o))
 beside_all_group o (p ∷ os) = beside_group o (beside_all (p ∷ os))
 
 element_no_group : (o : Option (List ℕ)) (x : List ℕ) → is_group (element_degree o x) ≡ false

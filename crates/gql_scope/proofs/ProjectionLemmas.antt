@@ -1,5 +1,5 @@
 -- The items of RETURN and the names of GROUP BY: what one step of a walk over them adds.
-use Rattle.std.proofs.Common.{◌≡◌, ℕ, Bool, true, false, not, ◌&&◌, List, [], ◌∷◌, ◌++◌, map, filter, refl}
+use Rattle.std.proofs.Common.{◌≡◌, ℕ, ◌+◌, ◌<◌, Bool, true, false, not, ◌&&◌, List, [], ◌∷◌, ◌++◌, length, drop, get_or, map, filter, Option, None, refl, sym, ap, ◌∙◌}
 use Rattle.std.specs.Prelude.{if◌then◌else◌, option_map}
 use Rattle.std.specs.List.{list_any}
 use Rattle.std.specs.Option.{option_or}
@@ -12,12 +12,16 @@ use Rattle.gql_ast.specs.RowAggregates.{row_aggregates}
 use Rattle.gql_ast.specs.Tree.{name}
 use Rattle.gql_ast.specs.declared.projection.ReturnItem.{ReturnItem}
 use Rattle.gql_ast.specs.declared.refusal.ColumnRef.TheVariants as column
+use Rattle.gql_ast.specs.declared.refusal.Refusal.{Refusal}
 use Rattle.gql_ast.specs.declared.refusal.Refusal.TheVariants as refusal
 use Rattle.gql_scope.specs.ColumnFaults.{faults_in_item, faults_in_list, faults_in_names, omitted}
 use Rattle.gql_expr_checks.specs.First.{first}
 use Rattle.gql_expr_checks.specs.Refusals.{refusal_of_first}
 use Rattle.gql_expr_checks.specs.Repeated.{is_among}
-use Rattle.gql_expr_checks.proofs.RefusalLemmas.{first_of_in_two}
+use Rattle.gql_expr_checks.specs.Gives.{Fails}
+use Rattle.gql_expr_checks.specs.declared.fault.ScopeFault.{ScopeFault}
+use Rattle.gql_expr_checks.proofs.DropLemmas.{drop_step}
+use Rattle.gql_expr_checks.proofs.RefusalLemmas.{first_of_in_two, stops, goes_on}
 
 -- names have no aggregates
 pub names_are_keys : (columns cs : ColumnList) → false ≡ list_any (λ e. not (is_key columns e)) (map (λ (c : List ℕ × ColumnKind). name c.0) cs)
@@ -26,12 +30,24 @@ names_are_keys columns [] = refl
 names_are_keys columns (c ∷ cs) = names_are_keys columns cs
 
 -- an item of RETURN, and then those behind it
-pub item_step : (columns : ColumnList) (seen : List (List ℕ)) (i : ReturnItem) (is : List ReturnItem)
-    → refusal_of_first refusal.Column (faults_in_list columns seen (i ∷ is))
-    ≡ option_or (refusal_of_first refusal.Column (faults_in_item columns seen i))
-    (refusal_of_first refusal.Column (faults_in_list columns (item_name i ∷ seen) is))
-item_step columns seen i is =
-    first_of_in_two refusal.Column (faults_in_item columns seen i) (faults_in_list columns (item_name i ∷ seen) is)
+module _ (columns : ColumnList) (seen : List (List ℕ)) (items : List ReturnItem) (at : ℕ) (i : ReturnItem) (whole : Option Refusal) (below : at < length items) (is : i ≡ get_or items at i)
+    (so_far : refusal_of_first refusal.Column (faults_in_list columns seen (drop at items)) ≡ whole) where
+  abbrev here : Option Refusal
+  here = refusal_of_first refusal.Column (faults_in_item columns seen i)
+
+  abbrev behind : Option Refusal
+  behind = refusal_of_first refusal.Column (faults_in_list columns (item_name i ∷ seen) (drop (at + 1) items))
+
+  cut : whole ≡ option_or here behind
+  cut =
+      sym so_far ∙ ap (λ xs. refusal_of_first refusal.Column (faults_in_list columns seen xs)) (drop_step items at i below is)
+      ∙ first_of_in_two refusal.Column (faults_in_item columns seen i) (faults_in_list columns (item_name i ∷ seen) (drop (at + 1) items))
+
+  pub item_stops : (e : ScopeFault) → Fails e here → Fails e whole
+  item_stops e refuses = stops e here behind whole refuses cut
+
+  pub item_goes_on : here ≡ None → behind ≡ whole
+  item_goes_on none = sym (goes_on here behind whole none cut)
 
 -- a name of GROUP BY, and then those behind it
 pub name_step : (columns : ColumnList) (keys seen : List (List ℕ)) (x : List ℕ) (xs : List (List ℕ))

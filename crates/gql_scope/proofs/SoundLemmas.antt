@@ -1,5 +1,6 @@
 -- Where nothing of a query is refused, each of its patterns is sound: the codes of a pattern are those of its clause.
 use Rattle.std.proofs.Common.{◌≡◌, ℕ, Bool, true, false, List, [], ◌∷◌, map, flat_map, Option, Some, None, refl, ap}
+use Rattle.std.proofs.lemmas.Bool.{or_parts}
 use Rattle.std.specs.Prelude.{option_map}
 use Rattle.std.specs.List.{list_any}
 use Rattle.std.specs.Option.{option_or}
@@ -22,7 +23,7 @@ use Rattle.gql_norm.specs.Termination.{empty_loop, unbounded, group_references}
 use Rattle.gql_norm.specs.OtherDefects.{misused_in_match, repeated_properties, unset_parameters}
 use Rattle.gql_norm.specs.PatternRefusal.{refused_if}
 use Rattle.gql_norm.specs.RowMatch.{IsSound}
-use Rattle.gql_norm.proofs.NothingRefused.{neither, none_first, not_refused, neither_holds, both_empty}
+use Rattle.gql_norm.proofs.NothingRefused.{neither, none_first, not_refused, both_empty}
 use Rattle.gql_scope.specs.StatementBounds.{bounds_in_clause, first_bound}
 use Rattle.gql_scope.specs.WholePatterns.{columns_past, over_clauses, unknown_names, wrong_kinds, at_most_one, joined_groups, joined_conditionals, of_pattern, open_references, is_misused, misused_over, column_faults, unset_in_clause, name_refusal, repetition_refusal, use_refusal, clauses_refusal}
 use Rattle.gql_scope.specs.SoundMatches.{MatchesAreSound, AcceptedMatchesAreSound}
@@ -57,10 +58,10 @@ rest params columns c cs clean = record {
   kinds = (both_empty (wrong_kinds columns c) (over_clauses wrong_kinds (columns_past columns c) cs) clean.kinds).1;
   groups = (both_empty (joined_groups columns c) (over_clauses joined_groups (columns_past columns c) cs) clean.groups).1;
   conditionals = (both_empty (joined_conditionals columns c) (over_clauses joined_conditionals (columns_past columns c) cs) clean.conditionals).1;
-  loops = (neither_holds (of_pattern empty_loop c) (list_any (of_pattern empty_loop) cs) clean.loops).1;
-  ends = (neither_holds (of_pattern unbounded c) (list_any (of_pattern unbounded) cs) clean.ends).1;
+  loops = (or_parts (of_pattern empty_loop c) (list_any (of_pattern empty_loop) cs) clean.loops).1;
+  ends = (or_parts (of_pattern unbounded c) (list_any (of_pattern unbounded) cs) clean.ends).1;
   references = (both_empty (open_references c) (flat_map open_references cs) clean.references).1;
-  misuses = (neither_holds (is_misused columns c) (misused_over (columns_past columns c) cs) clean.misuses).1;
+  misuses = (or_parts (is_misused columns c) (misused_over (columns_past columns c) cs) clean.misuses).1;
   faults = (both_empty (column_faults columns c) (over_clauses column_faults (columns_past columns c) cs) clean.faults).1;
   parameters = (both_empty (unset_in_clause params c) (flat_map (unset_in_clause params) cs) clean.parameters).1;
 }
@@ -90,10 +91,10 @@ sound_pattern params columns m cs clean =
           (none_or _ _ (ap (refusal_of_first refusal.Kind) (both_empty (wrong_in_match columns p) (over_clauses wrong_kinds past cs) clean.kinds).0)
           (none_or _ _ (not_joined refusal.GroupJoin (joined_group columns p) (both_empty (at_most_one (joined_group columns p)) (over_clauses joined_groups past cs) clean.groups).0)
           (none_or _ _ (not_joined refusal.CondJoin (joined_conditional columns p) (both_empty (at_most_one (joined_conditional columns p)) (over_clauses joined_conditionals past cs) clean.conditionals).0)
-          (none_or _ _ (ap (refused_if refusal.EmptyLoop) (neither_holds (empty_loop p) (list_any (of_pattern empty_loop) cs) clean.loops).0)
-          (none_or _ _ (ap (refused_if refusal.Unbounded) (neither_holds (unbounded p) (list_any (of_pattern unbounded) cs) clean.ends).0)
+          (none_or _ _ (ap (refused_if refusal.EmptyLoop) (or_parts (empty_loop p) (list_any (of_pattern empty_loop) cs) clean.loops).0)
+          (none_or _ _ (ap (refused_if refusal.Unbounded) (or_parts (unbounded p) (list_any (of_pattern unbounded) cs) clean.ends).0)
           (none_or _ _ (ap (refusal_of_first refusal.GroupRef) (both_empty (group_references p) (flat_map open_references cs) clean.references).0)
-          (none_or _ _ (ap (refused_if refusal.Misuse) (neither_holds (misused_in_match columns p) (misused_over past cs) clean.misuses).0)
+          (none_or _ _ (ap (refused_if refusal.Misuse) (or_parts (misused_in_match columns p) (misused_over past cs) clean.misuses).0)
           (none_or _ _ (ap (refusal_of_first (λ x. refusal.Column (column.Property x))) (unmapped column.Property (repeated_properties p) properties.0))
           (ap (refusal_of_first refusal.Parameter) (both_empty (unset_parameters params p) (flat_map (unset_in_clause params) cs) clean.parameters).0)))))))));
     }

@@ -1,10 +1,8 @@
 -- The columns so far in an INSERT, what its look-up of a variable tells, and what is asked of its nodes and edges, over two lists.
 use Rattle.std.proofs.Common.{◌≡◌, ℕ, Bool, true, false, not, ◌&&◌, ◌+◌, ◌<◌, List, [], ◌∷◌, ◌++◌, length, drop, get_or, Option, Some, None, is_some, Result, Ok, Err, OnOk, refl, sym, ap, ◌∙◌, append_assoc, true≢false}
-use Rattle.std.specs.Prelude.{find, option_map, if◌then◌else◌}
+use Rattle.std.specs.Prelude.{if◌then◌else◌}
 use Rattle.std.specs.List.{flat_map}
 use Rattle.std.specs.Option.{option_or}
-use Rattle.std.proofs.lemmas.List.Folds.{find-append}
-use Rattle.gql_values3.specs.Texts.{same_text}
 use Rattle.gql_values3.specs.declared.table.ColumnKind.{ColumnKind}
 use Rattle.gql_values3.specs.declared.table.ColumnKind.TheVariants as kind
 use Rattle.gql_ast.specs.ClauseColumns.{ColumnList, is_column}
@@ -24,18 +22,6 @@ use Rattle.gql_expr_checks.proofs.RefusalLemmas.{first_of_in_two, stops, goes_on
 use Rattle.gql_scope.specs.UnknownNames.{may_refer, misplaced, unknown_in_map, unknown_in_spots}
 use Rattle.gql_scope.specs.Machinery.Questions.{unknown_at, wrong_at, first_in_spots}
 use Rattle.gql_scope.proofs.CodeLemmas.{or_assoc}
-
-abbrev found : ColumnList → List ℕ → Option (List ℕ × ColumnKind)
-found columns x = find (λ (c : List ℕ × ColumnKind). same_text x c.0) columns
-
--- what a name holds in two lists
-pub first_kind_in_two : (xs ys : ColumnList) (x : List ℕ) → first_kind (xs ++ ys) x ≡ option_or (first_kind xs x) (first_kind ys x)
-first_kind_in_two xs ys x = ap (option_map (λ (c : List ℕ × ColumnKind). c.1)) (find-append (λ (c : List ℕ × ColumnKind). same_text x c.0) xs ys) ∙ by (found xs x)
-  where
-    by : (o : Option (List ℕ × ColumnKind))
-        → option_map (λ (c : List ℕ × ColumnKind). c.1) (option_or o (found ys x)) ≡ option_or (option_map (λ (c : List ℕ × ColumnKind). c.1) o) (first_kind ys x)
-    by None = refl
-    by (Some c) = refl
 
 -- a look-up tells whether a variable stands already, ..
 is_column_by : (columns : ColumnList) (x : List ℕ) (o : Option ColumnKind) → first_kind columns x ≡ o → is_column columns x ≡ is_some o
@@ -159,3 +145,24 @@ module _ {A : Type 0} (f : A → Spots) (xs : List A) (i : ℕ) (x : A) (before 
         let rest = first_in_spots asks (spot_columns before (f x)) behind in
         ap (λ cs. option_or more (first_in_spots asks cs behind)) e ∙ ap (λ o. option_or o rest) kept ∙ sym (or_assoc slot (first_in_spots asks before (f x)) rest)
         ∙ sym (ap (option_or slot) cut) ∙ h
+
+-- Where a walk stands: what is asked of those that are left, and their columns, are those of all.
+abbrev pub StandsBefore : (incoming first : ColumnList) (kept : Option Refusal) (all : Spots) (fresh : ColumnList) (slot : Option Refusal) (left : Spots) → Type 0
+StandsBefore incoming first kept all fresh slot left = record {
+  names : first_in_spots (unknown_at incoming) (incoming ++ fresh) left ≡ first_in_spots (unknown_at incoming) (incoming ++ first) all;
+  kinds : option_or slot (first_in_spots wrong_at (incoming ++ fresh) left) ≡ option_or kept (first_in_spots wrong_at (incoming ++ first) all);
+  columns : spot_columns (incoming ++ fresh) left ≡ spot_columns (incoming ++ first) all;
+}
+
+pub stands_further : {A : Type 0} (f : A → Spots) (xs : List A) (i : ℕ) (x : A) (incoming first fresh after : ColumnList) (kept slot more : Option Refusal) → i < length xs → x ≡ get_or xs i x
+    → StandsBefore incoming first kept (flat_map f xs) fresh slot (flat_map f (drop i xs))
+    → first_in_spots (unknown_at incoming) (incoming ++ fresh) (f x) ≡ None → more ≡ option_or slot (first_in_spots wrong_at (incoming ++ fresh) (f x))
+    → incoming ++ after ≡ spot_columns (incoming ++ fresh) (f x) → StandsBefore incoming first kept (flat_map f xs) after more (flat_map f (drop (i + 1) xs))
+stands_further f xs i x incoming first fresh after kept slot more below is h names kinds columns =
+    let all = flat_map f xs in
+    let before = incoming ++ fresh in
+    record {
+      names = spots_go_on f xs i x before below is (unknown_at incoming) (incoming ++ after) (first_in_spots (unknown_at incoming) (incoming ++ first) all) h.names names columns;
+      kinds = spots_keep f xs i x before below is wrong_at (incoming ++ after) slot more (option_or kept (first_in_spots wrong_at (incoming ++ first) all)) h.kinds kinds columns;
+      columns = columns_go_on f xs i x before below is (incoming ++ after) (spot_columns (incoming ++ first) all) h.columns columns;
+    }

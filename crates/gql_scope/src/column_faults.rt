@@ -110,7 +110,6 @@ fn check_item(
 }
 
 /// Checks the items of RETURN in order.
-#[tactic(auto, using(crate::proofs::ProjectionLemmas::item_step))]
 fn check_listed(alloc: Global, scope: &KnownColumns, items: &[ReturnItem]) -> Result<(), ScopeFault>
     ensures { Gives result (refusal_of_first Refusal.Column (faults_in_list scope.now [] items.now)) }
 {

@@ -8,7 +8,7 @@ use gql_expr_checks::KnownColumns;
 use gql_values3::{ColumnKind, Text};
 
 /// What a variable that stands already holds.
-#[tactic(auto, using(crate::proofs::SpotLemmas::first_kind_in_two))]
+#[tactic(auto, using(gql_pattern_checks::proofs::KindLemmas::first_kind_two))]
 pub fn standing(incoming: &KnownColumns, fresh: &KnownColumns, name: &Text) -> Option<ColumnKind>
     ensures { result ≡ first_kind (incoming.now ++ fresh.now) name.now }
 {

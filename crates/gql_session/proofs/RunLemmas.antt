@@ -1,5 +1,6 @@
 -- A run of a text, piece by piece. Key idea: so many of its pieces were run, and the run of these is one.
 use Rattle.std.proofs.Common.{◌≡◌, ℕ, zero, suc, ◌+◌, ◌<◌, Bool, true, false, ◌||◌, List, [], ◌∷◌, ◌++◌, length, take, map, get_or, Option, Some, refl, ap, sym, ◌∙◌, inl, inr, append_assoc, append-nil, add-one, arith, subst}
+use Rattle.std.proofs.Math.Bool.{or_assoc}
 use Rattle.std.specs.List.{list_any}
 use Rattle.std.proofs.lemmas.List.{length-map}
 use Rattle.gql_lexer.specs.declared.piece.Piece.{Piece}
@@ -48,13 +49,9 @@ outcome_texts-append : (os us : List Outcome) → outcome_texts (os ++ us) ≡ o
 outcome_texts-append [] us = refl
 outcome_texts-append (o ∷ os) us = ap (λ t. outcome_text o ++ t) (outcome_texts-append os us) ∙ sym (append_assoc (outcome_text o) (outcome_texts os) (outcome_texts us))
 
-or_assoc : (a b c : Bool) → (a || (b || c)) ≡ ((a || b) || c)
-or_assoc true b c = refl
-or_assoc false b c = refl
-
 list_any-append : (p : Outcome → Bool) (os us : List Outcome) → list_any p (os ++ us) ≡ (list_any p os || list_any p us)
 list_any-append p [] us = refl
-list_any-append p (o ∷ os) us = ap (λ b. p o || b) (list_any-append p os us) ∙ or_assoc (p o) (list_any p os) (list_any p us)
+list_any-append p (o ∷ os) us = ap (λ b. p o || b) (list_any-append p os us) ∙ sym (or_assoc (p o) (list_any p os) (list_any p us))
 
 -- the text so far, and that of one piece more
 longer : (before : List ℕ) (os us : List Outcome) (after : Option (List ℕ)) → after ≡ Some ((before ++ outcome_texts os) ++ outcome_texts us) → after ≡ Some (before ++ outcome_texts (os ++ us))

@@ -18,29 +18,24 @@ use Rattle.gql_statements.specs.PartWords.{counting_word}
 use Rattle.gql_statements.specs.LetGrammar.{IsLetItem}
 use Rattle.gql_statements.specs.ForGrammar.{IsCounter}
 use Rattle.gql_parts.specs.Machinery.PartReaders.{read_value, past}
-use Rattle.gql_statements.specs.Machinery.ClauseReaders.{let_item_of, let_of, filter_of, counted_of, counter_of, for_of}
+use Rattle.gql_statements.specs.Machinery.ClauseReaders.{as_let_item, let_item_of, let_of, filter_of, counted_of, counter_of, for_of}
 use Rattle.gql_parts.proofs.PartLaws.{Stops, Led, bind_then, finish, passes_after, after_passes, passes_shorter, may_pass_shorter, word_apart, optional_shorter, led_sound, led_exact, led_stops, past_sound, past_exact}
 use Rattle.gql_parts.proofs.ListLaws.{listed_sound, listed_exact, list_shorter}
 use Rattle.gql_parts.proofs.ValueLaws.{value_sound, value_exact, value_shorter, value_begins}
+use Rattle.gql_parts.proofs.NamedLaws.{named_sound, named_exact, named_shorter}
 
 -- LET
 
 let_item_sound : Sound IsLetItem let_item_of
 unfolding let_item_of
-let_item_sound ts i r e =
-    bind_then (op_at name_in ts) _ (i, r) e (λ x p e.
-    bind_then (after (is_sign equal) x.1) _ (i, r) e (λ a q e.
-    bind_then (read_value a) _ (i, r) e (λ v w e.
-    finish (λ i r. IsLetItem i ts r) (record { name = x.0; value = v.0 }) v.1 i r e
-    (x.1, read_begins name_in ts x.0 x.1 p, a, after_passes (is_sign equal) x.1 a q, value_sound a v.0 v.1 w))))
+let_item_sound = named_sound name_in equal as_let_item IsLetItem (λ x e ts r h. h)
 
 let_item_exact : (i : LetItem) (ts s : List Lexeme) → IsLetItem i ts s → Stops goes_or s → let_item_of ts ≡ Some (i, s)
 unfolding let_item_of
-let_item_exact i ts s h stop =
-    rw (begins_read name_in i.name ts h.0 h.1, passes_after (is_sign equal) h.0 h.2 h.3, value_exact i.value h.2 s h.4 stop) refl
+let_item_exact i ts s h stop = named_exact name_in equal as_let_item i.name i.value ts s h stop
 
 pub let_item_shorter : (i : LetItem) (ts r : List Lexeme) → IsLetItem i ts r → length r < length ts
-let_item_shorter i ts r h = omega (arith, begins_shorter name_in i.name ts h.0 h.1, passes_shorter (is_sign equal) h.0 h.2 h.3, value_shorter i.value h.2 r h.4)
+let_item_shorter i ts r h = named_shorter name_in equal i.name i.value ts r h
 
 -- what stands behind LET
 abbrev pub LetList : List LetItem → List Lexeme → List Lexeme → Type 0

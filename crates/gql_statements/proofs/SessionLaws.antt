@@ -6,14 +6,13 @@ use Rattle.gql_ast.specs.declared.statement.SessionStatement.TheVariants as sess
 use Rattle.gql_lexer.specs.SymbolPlaces.{equal}
 use Rattle.gql_lexer.specs.WordPlaces.{CLOSE, GRAPH, PROPERTY, RESET, SESSION, SET, VALUE}
 use Rattle.gql_front.specs.Tables.{Begins}
-use Rattle.gql_front.specs.Reading.{is_sign, is_word, name_in, after, op_at}
+use Rattle.gql_front.specs.Reading.{is_word, name_in, after, op_at}
 use Rattle.gql_front.proofs.Found.{Sound}
 use Rattle.gql_front.proofs.TableLemmas.{begins_read, read_begins, word_row}
 use Rattle.gql_parts.specs.Parts.{Passes}
-use Rattle.gql_parts.specs.Values.{IsValue}
-use Rattle.gql_parts.specs.Machinery.PartReaders.{read_value}
+use Rattle.gql_parts.specs.Values.{IsNamedValue}
 use Rattle.gql_parts.proofs.PartLaws.{bind_then, finish, passes_after, after_passes, word_apart, passes_stops}
-use Rattle.gql_parts.proofs.ValueLaws.{value_sound, value_exact}
+use Rattle.gql_parts.proofs.NamedLaws.{named_sound, named_exact}
 use Rattle.gql_statements.specs.declared.session_word.SessionWord.{SessionWord}
 use Rattle.gql_statements.specs.declared.session_word.SessionWord.TheVariants as says
 use Rattle.gql_statements.specs.PartWords.{param_in}
@@ -38,7 +37,7 @@ word_passes w ts r h = (h.0, word_row (λ t w. is_word (place_of w) t ≡ true) 
 abbrev IsSet : SessionStatement → List Lexeme → List Lexeme → Type 0
 IsSet (session.SetGraph x) ts r = (c : List Lexeme) × SaysGraph ts c × Begins name_in x c r
 IsSet (session.SetValue x e) ts r =
-    (c : List Lexeme) × Passes (is_word VALUE) ts c × (d : List Lexeme) × Begins param_in x c d × (f : List Lexeme) × Passes (is_sign equal) d f × IsValue e f r
+    (c : List Lexeme) × Passes (is_word VALUE) ts c × IsNamedValue param_in equal x e c r
 IsSet _ ts r = ⊥
 
 set_graph_sound : (ts a : List Lexeme) (s : SessionStatement) (r : List Lexeme) → SaysGraph ts a → set_graph_of a ≡ Some (s, r) → IsSet s ts r
@@ -51,11 +50,7 @@ set_value_sound : Sound IsSet set_value_of
 unfolding set_value_of
 set_value_sound ts s r e =
     bind_then (after (is_word VALUE) ts) _ (s, r) e (λ a p e.
-    bind_then (op_at param_in a) _ (s, r) e (λ x q e.
-    bind_then (after (is_sign equal) x.1) _ (s, r) e (λ b k e.
-    bind_then (read_value b) _ (s, r) e (λ v w e.
-    finish (λ s r. IsSet s ts r) (session.SetValue x.0 v.0) v.1 s r e
-    (a, after_passes (is_word VALUE) ts a p, x.1, read_begins param_in a x.0 x.1 q, b, after_passes (is_sign equal) x.1 b k, value_sound b v.0 v.1 w)))))
+    named_sound param_in equal session.SetValue (λ s a r. Passes (is_word VALUE) ts a → IsSet s ts r) (λ x v a r h p. (a, p, h)) a s r e (after_passes (is_word VALUE) ts a p))
 
 set_sound : Sound IsSet set_of
 unfolding set_of
@@ -73,12 +68,7 @@ set_exact (session.SetValue x e) ts h =
     (passes_stops (is_word VALUE) (is_word PROPERTY) (word_apart VALUE (is_word PROPERTY) (λ x. refl)) ts h.0 h.1)
     (passes_stops (is_word VALUE) (is_word GRAPH) (word_apart VALUE (is_word GRAPH) (λ x. refl)) ts h.0 h.1) in
     ap (graph_or_value ts) none
-    ∙ rw (
-      passes_after (is_word VALUE) ts h.0 h.1,
-      begins_read param_in x h.0 h.2 h.3,
-      passes_after (is_sign equal) h.2 h.4 h.5,
-      value_exact e h.4 [] h.6 (λ i. i),
-    ) refl
+    ∙ rw (passes_after (is_word VALUE) ts h.0 h.1) (named_exact param_in equal session.SetValue x e h.0 [] h.2 (λ i. i))
 set_exact session.Reset ts h = absurd h
 set_exact session.Close ts h = absurd h
 
@@ -86,7 +76,7 @@ set_exact session.Close ts h = absurd h
 
 set_session : (s : SessionStatement) (ts a b r : List Lexeme) → Passes (is_word SESSION) ts a → Passes (is_word SET) a b → IsSet s b r → IsSession s ts r
 set_session (session.SetGraph x) ts a b r p q h = (a, p, b, q, h.0, h.1, h.2)
-set_session (session.SetValue x e) ts a b r p q h = (a, p, b, q, h.0, h.1, h.2, h.3, h.4, h.5, h.6)
+set_session (session.SetValue x e) ts a b r p q h = (a, p, b, q, h.0, h.1, h.2)
 set_session _ ts a b r p q h = absurd h
 
 pub session_sound : (ts a : List Lexeme) (s : SessionStatement) (r : List Lexeme) → Passes (is_word SESSION) ts a → session_of a ≡ Some (s, r) → IsSession s ts r
@@ -106,6 +96,6 @@ set_read s a b p h = rw (word_read session_word SET says.Set (λ x. refl) a b p)
 pub session_exact : (s : SessionStatement) (ts : List Lexeme) → IsSession s ts [] → (a : List Lexeme) × Passes (is_word SESSION) ts a × (session_of a ≡ Some (s, []))
 unfolding session_of
 session_exact (session.SetGraph x) ts h = (h.0, h.1, set_read (session.SetGraph x) h.0 h.2 h.3 (h.4, h.5, h.6))
-session_exact (session.SetValue x e) ts h = (h.0, h.1, set_read (session.SetValue x e) h.0 h.2 h.3 (h.4, h.5, h.6, h.7, h.8, h.9, h.10))
+session_exact (session.SetValue x e) ts h = (h.0, h.1, set_read (session.SetValue x e) h.0 h.2 h.3 (h.4, h.5, h.6))
 session_exact session.Reset ts h = (h.0, h.1, rw (word_read session_word RESET says.Reset (λ x. refl) h.0 [] h.2) refl)
 session_exact session.Close ts h = (h.0, h.1, rw (word_read session_word CLOSE says.Close (λ x. refl) h.0 [] h.2) refl)

@@ -8,9 +8,9 @@ use Rattle.gql_ast.specs.declared.statement.SessionStatement.TheVariants as sess
 use Rattle.gql_lexer.specs.SymbolPlaces.{equal}
 use Rattle.gql_lexer.specs.WordPlaces.{CLOSE, RESET, SESSION, SET, VALUE}
 use Rattle.gql_front.specs.Tables.{Begins}
-use Rattle.gql_front.specs.Reading.{is_sign, is_word, name_in}
+use Rattle.gql_front.specs.Reading.{is_word, name_in}
 use Rattle.gql_parts.specs.Parts.{Passes}
-use Rattle.gql_parts.specs.Values.{IsValue}
+use Rattle.gql_parts.specs.Values.{IsNamedValue}
 use Rattle.gql_statements.specs.PartWords.{param_in}
 use Rattle.gql_statements.specs.GraphGrammar.{SaysGraph}
 
@@ -21,6 +21,6 @@ IsSession (session.SetGraph x) ts r =
     × Begins name_in x c r
 IsSession (session.SetValue x e) ts r =
     (a : List Lexeme) × Passes (is_word SESSION) ts a × (b : List Lexeme) × Passes (is_word SET) a b × (c : List Lexeme) × Passes (is_word VALUE) b c
-    × (d : List Lexeme) × Begins param_in x c d × (f : List Lexeme) × Passes (is_sign equal) d f × IsValue e f r
+    × IsNamedValue param_in equal x e c r
 IsSession session.Reset ts r = (a : List Lexeme) × Passes (is_word SESSION) ts a × Passes (is_word RESET) a r
 IsSession session.Close ts r = (a : List Lexeme) × Passes (is_word SESSION) ts a × Passes (is_word CLOSE) a r

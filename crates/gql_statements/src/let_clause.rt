@@ -6,10 +6,10 @@ ghost use Rattle.gql_statements.specs.Machinery.ClauseReaders.{let_of};
 
 use crate::clause::Clauses;
 use gql_ast::{LetItem, LetItems, ParseFault};
-use gql_front::{ParseResult, after_sign, plain_name};
+use gql_front::{ParseResult, plain_name};
 use gql_lexer::Lexeme;
 use gql_lexer::symbols::EQUAL;
-use gql_parts::{Item, list, value};
+use gql_parts::{Item, list, named_value};
 use std::alloc::Global;
 
 impl Item<Clauses> for LetItem {
@@ -20,9 +20,7 @@ impl Item<Clauses> for LetItem {
     #[tactic(auto, unfolding(crate::specs::Machinery::ClauseReaders::let_item_of))]
     fn read<'a>(alloc: Global, rest: &'a [Lexeme]) -> ParseResult<'a, LetItem> {
         let (name, rest) = plain_name(rest)?;
-        let rest = after_sign(EQUAL, rest)?;
-        let name = name.try_copy(alloc)?;
-        let (value, rest) = value(alloc, rest)?;
+        let ((name, value), rest) = named_value(alloc, name, EQUAL, rest)?;
         Ok((LetItem { name, value }, rest))
     }
 }

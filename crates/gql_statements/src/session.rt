@@ -9,11 +9,11 @@ ghost use Rattle.gql_statements.specs.Machinery.SessionReaders.{set_graph_of, se
 use crate::graph_words::after_graph;
 use crate::session_word::{SessionWord, session_word_at};
 use gql_ast::{ParseFault, SessionStatement};
-use gql_front::{NoFront, ParseResult, after_sign, after_word, plain_name};
+use gql_front::{NoFront, ParseResult, after_word, plain_name};
 use gql_lexer::Lexeme;
 use gql_lexer::symbols::EQUAL;
 use gql_lexer::words::VALUE;
-use gql_parts::value;
+use gql_parts::named_value;
 use gql_values3::Text;
 use std::alloc::Global;
 
@@ -60,9 +60,7 @@ fn set_value<'a>(alloc: Global, rest: &'a [Lexeme]) -> ParseResult<'a, SessionSt
 {
     let rest = after_word(VALUE, rest)?;
     let (name, rest) = parameter(rest)?;
-    let rest = after_sign(EQUAL, rest)?;
-    let name = name.try_copy(alloc)?;
-    let (value, rest) = value(alloc, rest)?;
+    let ((name, value), rest) = named_value(alloc, name, EQUAL, rest)?;
     Ok((SessionStatement::SetValue(name, value), rest))
 }
 

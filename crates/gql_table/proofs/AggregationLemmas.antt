@@ -13,7 +13,7 @@ use Rattle.gql_ast.specs.Scope.{Entry, row_scope, group_of, group_in, is_group_n
 use Rattle.gql_ast.specs.RowAggregates.{RowAggregate, is_over_group, row_aggregates, row_aggregates_of, row_aggregates_in}
 use Rattle.gql_ast.specs.declared.expr.Expr.{Expr}
 use Rattle.gql_ast.specs.declared.expr.Step.{Step}
-use Rattle.gql_eval.proofs.PartLemmas.{parts_from, sides_from, parts_step, sides_step}
+use Rattle.gql_ast.proofs.PartLemmas.{parts_from, sides_from, parts_step, sides_step}
 use Rattle.gql_ast.specs.ClauseColumns.{ColumnList}
 use Rattle.gql_ast.specs.Projections.{has_none, is_key}
 
@@ -28,17 +28,26 @@ some_in_parts columns parts i = not (has_none (row_aggregates_of columns (parts_
 abbrev pub some_in_sides : ColumnList → List Step → ℕ → Bool
 some_in_sides columns steps i = not (has_none (row_aggregates_in columns (sides_from steps i)))
 
-pub some_in_parts_step : (columns : ColumnList) (parts : List Expr) (i : ℕ) (e : Expr) → i < length parts → e ≡ get_or parts i e
+some_in_parts_step : (columns : ColumnList) (parts : List Expr) (i : ℕ) (e : Expr) → i < length parts → e ≡ get_or parts i e
     → some_in_parts columns parts i ≡ (not (has_none (row_aggregates columns (tree_of e))) || some_in_parts columns parts (i + 1))
 unfolding row_aggregates
 some_in_parts_step columns parts i e h p =
     ap (λ ts. not (has_none (row_aggregates_of columns ts))) (parts_step parts i e h p) ∙ some_append (row_aggregates columns (tree_of e)) (row_aggregates_of columns (parts_from parts (i + 1)))
 
-pub some_in_sides_step : (columns : ColumnList) (steps : List Step) (i : ℕ) (s : Step) → i < length steps → s ≡ get_or steps i s
+some_in_sides_step : (columns : ColumnList) (steps : List Step) (i : ℕ) (s : Step) → i < length steps → s ≡ get_or steps i s
     → some_in_sides columns steps i ≡ (not (has_none (row_aggregates columns (tree_of s.operand))) || some_in_sides columns steps (i + 1))
 unfolding row_aggregates
 some_in_sides_step columns steps i s h p =
     ap (λ ls. not (has_none (row_aggregates_in columns ls))) (sides_step steps i s h p) ∙ some_append (row_aggregates columns (tree_of s.operand)) (row_aggregates_in columns (sides_from steps (i + 1)))
+
+-- one that was asked, and then those behind it
+pub some_in_parts_on : (columns : ColumnList) (parts : List Expr) (i : ℕ) (e : Expr) (has whole : Bool) → i < length parts → e ≡ get_or parts i e → has ≡ not (has_none (row_aggregates columns (tree_of e)))
+    → some_in_parts columns parts i ≡ whole → (has || some_in_parts columns parts (i + 1)) ≡ whole
+some_in_parts_on columns parts i e has whole h p asked so_far = ap (λ b. b || some_in_parts columns parts (i + 1)) asked ∙ sym (some_in_parts_step columns parts i e h p) ∙ so_far
+
+pub some_in_sides_on : (columns : ColumnList) (steps : List Step) (i : ℕ) (s : Step) (has whole : Bool) → i < length steps → s ≡ get_or steps i s → has ≡ not (has_none (row_aggregates columns (tree_of s.operand)))
+    → some_in_sides columns steps i ≡ whole → (has || some_in_sides columns steps (i + 1)) ≡ whole
+some_in_sides_on columns steps i s has whole h p asked so_far = ap (λ b. b || some_in_sides columns steps (i + 1)) asked ∙ sym (some_in_sides_step columns steps i s h p) ∙ so_far
 
 group_case : (b : Bool) (e : Entry) (c : List ℕ × ColumnKind) (s : Option Entry) (t : Option (List ℕ × ColumnKind)) → e.is_group ≡ holds_group c.1
     → group_in s ≡ holds_group (unwrap_or (option_map (λ (d : List ℕ × ColumnKind). d.1) t) kind.Plain)

@@ -6,7 +6,7 @@ use Rattle.gql_ast.specs.Meaning.{tree_of, link_of}
 use Rattle.gql_ast.specs.RowAggregates.{RowAggregate, row_aggregates, row_aggregates_of, row_aggregates_in, around, around_all, around_links}
 use Rattle.gql_ast.specs.declared.expr.Expr.{Expr}
 use Rattle.gql_ast.specs.declared.expr.Step.{Step}
-use Rattle.gql_eval.proofs.PartLemmas.{parts_from, sides_from, parts_step, sides_step}
+use Rattle.gql_ast.proofs.PartLemmas.{parts_from, sides_from, parts_step, sides_step}
 use Rattle.gql_ast.specs.ClauseColumns.{ColumnList}
 
 -- of two parts

@@ -1,6 +1,7 @@
 -- Rows that join the groups of their keys, one after the other, give for each key the rows of that key: the key's group
 -- is there once, and a row changes no other.
 use Rattle.std.proofs.Common.{◌≡◌, Bool, true, false, cond, not, List, [], ◌∷◌, ◌++◌, length, map, refl, sym, ap, subst, ◌∙◌, append_assoc, append-nil, arith}
+use Rattle.std.proofs.Math.Bool.{or-true}
 use Rattle.std.proofs.lemmas.Bool.{or_parts}
 use Rattle.std.specs.Prelude.{filter, ◌||◌}
 use Rattle.gql_values3.specs.Datum.{Datum}
@@ -132,13 +133,9 @@ later_groups known k r ks rs (d ∷ ds) there =
     ∙ later_case (not (among known d)) d k r ks rs (map (whole_group ks rs) (news known ds)) (map (whole_group (k ∷ ks) (r ∷ rs)) (news known ds)) (same_row d k) refl (not_there known k d (same_row d k) refl there) (later_groups known k r ks rs ds there)
     ∙ sym (cond_front (whole_group (k ∷ ks) (r ∷ rs)) (not (among known d)) d (news known ds))
 
-or_true : (b : Bool) → (b || true) ≡ true
-or_true true = refl
-or_true false = refl
-
 added_has : (ks : RowList) (k : List Datum) (b : Bool) → among ks k ≡ b → among (cond b ks (ks ++ k ∷ [])) k ≡ true
 added_has ks k true p = p
-added_has ks k false p = among_more ks k k ∙ ap (λ c. among ks k || c) (same_row_itself k) ∙ or_true (among ks k)
+added_has ks k false p = among_more ks k k ∙ ap (λ c. among ks k || c) (same_row_itself k) ∙ or-true (among ks k)
 
 -- one row joins, and then the others
 step_case : (gs : List Gathered) (k r : List Datum) (ks rs : RowList) (b : Bool) → among (keys_of gs) k ≡ b → Apart (keys_of gs)

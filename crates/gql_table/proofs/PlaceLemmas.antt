@@ -1,5 +1,6 @@
 -- The groups of equal rows, as they grow row by row.
 use Rattle.std.proofs.Common.{◌≡◌, ℕ, zero, suc, ◌+◌, ◌<◌, Bool, true, false, cond, not, List, [], ◌∷◌, ◌++◌, length, drop, get_or, add-one, refl, sym, ap, ◌∙◌, append_assoc, append-nil, arith, Some, None}
+use Rattle.std.proofs.Math.Bool.{or-false}
 use Rattle.std.proofs.lemmas.Bool.{or_parts}
 use Rattle.std.specs.Prelude.{filter, ◌||◌}
 use Rattle.gql_values3.specs.Datum.{Datum}
@@ -25,12 +26,8 @@ or_last : (b c d e : Bool) → e ≡ (c || d) → (b || e) ≡ ((b || c) || d)
 or_last true c d e p = refl
 or_last false c d e p = p
 
-or_false : (b : Bool) → b ≡ (b || false)
-or_false true = refl
-or_false false = refl
-
 pub among_more : (ks : RowList) (r s : List Datum) → among (ks ++ r ∷ []) s ≡ (among ks s || same_row r s)
-among_more [] r s = sym (or_false (same_row r s))
+among_more [] r s = or-false (same_row r s)
 among_more (k ∷ ks) r s = or_last (same_row k s) (among ks s) (same_row r s) (among (ks ++ r ∷ []) s) (among_more ks r s)
 
 -- two filters in a row, and one of both tests

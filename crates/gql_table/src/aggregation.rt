@@ -7,7 +7,7 @@ ghost use Rattle.gql_ast.specs.RowAggregates.{is_over_group, row_aggregates, row
 ghost use Rattle.gql_ast.specs.Projections.{has_none};
 
 use gql_ast::{Expr, Step};
-use gql_eval::{Header, Scope, group_name};
+use gql_eval::{Scope, group_name};
 use gql_values3::{ColumnKind, Text, Value};
 
 /// Whether the expression has an aggregate over rows. The values, of which only the number counts, are one for each
@@ -86,7 +86,7 @@ fn names_group(columns: &[(Text, ColumnKind)], blank: &[Value], expr: &Expr) -> 
 {
     let scope = Scope {
         front: &[],
-        header: Header::Listed(columns),
+        columns,
         row: blank,
         names: &[],
         bound: &[],

@@ -1,9 +1,8 @@
 //! The clauses over tables.
 
-ghost use Rattle.std.specs.Prelude.{IfOk, IsTrue};
+ghost use Rattle.std.specs.Prelude.{◌≡◌, IfOk, IsTrue};
 ghost use Rattle.gql_eval.specs.Gives.{Gives};
-ghost use Rattle.gql_ast.specs.declared.clause.Clause.TheVariants.{Let, Filter, For as for_clause, Page as page_clause, Return as return_clause};
-ghost use Rattle.gql_table.specs.Clauses.{table_after, page_rows};
+ghost use Rattle.gql_table.specs.Clauses.{columns_after, rows_after, table_after, page_rows};
 ghost use Rattle.gql_eval.specs.RowLists.{rows_fit};
 ghost use Rattle.gql_table.specs.Fitting.{names_serve};
 
@@ -13,9 +12,9 @@ use crate::let_clause::{columns_after_let, let_table};
 use crate::ordering::{Paging, page_table};
 use crate::projection::return_table;
 use crate::return_columns::columns_after_return;
-use gql_ast::{Clause, Expr, For, LetItems, Page, Return};
+use gql_ast::{Clause, Page};
 use gql_eval::{EvalError, copied_columns};
-use gql_values3::{Columns, Params, Rows, View};
+use gql_values3::{Columns, OutOfMemory, Params, Rows, View};
 use std::alloc::Global;
 
 /// The columns and the rows behind a clause, or its first fault: LET, FILTER, FOR, ORDER BY, OFFSET, LIMIT and RETURN.
@@ -47,87 +46,41 @@ fn apply_clause<V: View>(
 ) -> Result<(Columns, Rows), EvalError>
     ensures { Gives (λ t. (t.0, t.1)) result (table_after (V.graph view.now) params.now columns.now clause.now rows) }
 {
+    let behind = rows_behind(alloc, view, columns, rows, params, clause)?;
+    Ok((columns_behind(alloc, columns, clause)?, behind))
+}
+
+fn columns_behind(alloc: Global, columns: &Columns, clause: &Clause) -> Result<Columns, OutOfMemory>
+    ensures { IfOk result (λ behind. behind ≡ columns_after columns.now clause.now) }
+{
     match clause {
-        Clause::Let(items) => apply_let(alloc, view, columns, rows, params, items),
-        Clause::Filter(condition) => apply_filter(alloc, view, columns, rows, params, condition),
-        Clause::For(clause) => apply_for(alloc, view, columns, rows, params, clause),
-        Clause::Page(page) => apply_page(alloc, view, columns, rows, params, page),
-        Clause::Return(clause) => apply_return(alloc, view, columns, rows, params, clause),
-        Clause::Match(_) | Clause::Change(_) => Ok((
-            copied_columns(alloc, columns.as_slice())?,
-            rows,
-        )),
+        Clause::Let(items) => columns_after_let(alloc, columns, items.as_slice()),
+        Clause::For(clause) => columns_after_for(alloc, columns, clause),
+        Clause::Return(clause) => columns_after_return(alloc, columns, &clause.items),
+        Clause::Filter(_) | Clause::Page(_) | Clause::Match(_) | Clause::Change(_) => {
+            copied_columns(alloc, columns.as_slice())
+        }
     }
 }
 
-fn apply_let<V: View>(
+fn rows_behind<V: View>(
     alloc: Global,
     view: &V,
     columns: &Columns,
     rows: Rows,
     params: &Params,
-    items: &LetItems,
-) -> Result<(Columns, Rows), EvalError>
-    ensures { Gives (λ t. (t.0, t.1)) result (table_after (V.graph view.now) params.now columns.now (Let items.now) rows) }
+    clause: &Clause,
+) -> Result<Rows, EvalError>
+    ensures { Gives (λ r. r) result (rows_after (V.graph view.now) params.now columns.now clause.now rows) }
 {
-    let done = let_table(alloc, view, columns, rows, params, items.as_slice())?;
-    Ok((columns_after_let(alloc, columns, items.as_slice())?, done))
-}
-
-fn apply_filter<V: View>(
-    alloc: Global,
-    view: &V,
-    columns: &Columns,
-    rows: Rows,
-    params: &Params,
-    condition: &Expr,
-) -> Result<(Columns, Rows), EvalError>
-    ensures { Gives (λ t. (t.0, t.1)) result (table_after (V.graph view.now) params.now columns.now (Filter condition.now) rows) }
-{
-    let done = filter_table(alloc, view, columns, rows, params, condition)?;
-    Ok((copied_columns(alloc, columns.as_slice())?, done))
-}
-
-fn apply_for<V: View>(
-    alloc: Global,
-    view: &V,
-    columns: &Columns,
-    rows: Rows,
-    params: &Params,
-    clause: &For,
-) -> Result<(Columns, Rows), EvalError>
-    ensures { Gives (λ t. (t.0, t.1)) result (table_after (V.graph view.now) params.now columns.now (for_clause clause.now) rows) }
-{
-    let done = for_table(alloc, view, columns, rows, params, clause)?;
-    Ok((columns_after_for(alloc, columns, clause)?, done))
-}
-
-fn apply_page<V: View>(
-    alloc: Global,
-    view: &V,
-    columns: &Columns,
-    rows: Rows,
-    params: &Params,
-    page: &Page,
-) -> Result<(Columns, Rows), EvalError>
-    ensures { Gives (λ t. (t.0, t.1)) result (table_after (V.graph view.now) params.now columns.now (page_clause page.now) rows) }
-{
-    let done = paged_table(alloc, view, columns, rows, params, page)?;
-    Ok((copied_columns(alloc, columns.as_slice())?, done))
-}
-
-fn apply_return<V: View>(
-    alloc: Global,
-    view: &V,
-    columns: &Columns,
-    rows: Rows,
-    params: &Params,
-    clause: &Return,
-) -> Result<(Columns, Rows), EvalError>
-    ensures { Gives (λ t. (t.0, t.1)) result (table_after (V.graph view.now) params.now columns.now (return_clause clause.now) rows) }
-{
-    let done = return_table(alloc, view, columns, rows, params, clause)?;
-    Ok((columns_after_return(alloc, columns, &clause.items)?, done))
+    match clause {
+        Clause::Let(items) => let_table(alloc, view, columns, rows, params, items.as_slice()),
+        Clause::Filter(condition) => filter_table(alloc, view, columns, rows, params, condition),
+        Clause::For(clause) => for_table(alloc, view, columns, rows, params, clause),
+        Clause::Page(page) => paged_table(alloc, view, columns, rows, params, page),
+        Clause::Return(clause) => return_table(alloc, view, columns, rows, params, clause),
+        Clause::Match(_) | Clause::Change(_) => Ok(rows),
+    }
 }
 
 fn paged_table<V: View>(

@@ -9,7 +9,7 @@ ghost use Rattle.gql_table.specs.Machinery.Preparations.{prepared_under, prepare
 
 use crate::room::empty_row;
 use gql_ast::{Expr, ReturnItem, SortItem};
-use gql_eval::{EvalError, Header, Prepared};
+use gql_eval::{EvalError, Prepared};
 use gql_values3::{ColumnKind, OutOfMemory, Params, Row, Text, Value, View};
 use std::alloc::Global;
 
@@ -22,7 +22,7 @@ pub fn prepare<'a>(
 ) -> Result<Prepared<'a>, OutOfMemory>
     ensures { IfOk result (λ p. p ≡ prepared_under columns.now params.now (tree_of expr.now)) }
 {
-    Prepared::new(alloc, Header::Listed(columns), params, expr)
+    Prepared::new(alloc, columns, params, expr)
 }
 
 /// The items of RETURN, prepared.

@@ -6,7 +6,7 @@ use Rattle.std.specs.Option.{option_or}
 use Rattle.std.proofs.lemmas.Bool.Decides.{nat_tests}
 use Rattle.std.proofs.lemmas.List.Folds.{list_any-append}
 use Rattle.std.proofs.lemmas.List.Concat.{flat_map-append}
-use Rattle.std.proofs.lemmas.Bool.{le-leb}
+use Rattle.std.proofs.lemmas.Bool.{le-leb, or_right}
 use Rattle.gql_values3.specs.Texts.{same_text}
 use Rattle.gql_values3.specs.declared.table.ColumnKind.{ColumnKind}
 use Rattle.gql_values3.specs.declared.table.ColumnKind.TheVariants as kind
@@ -35,14 +35,10 @@ none_outside : (f : ℕ → Bool) (around qs : List ℕ) → ((q : ℕ) → is_n
 none_outside f around [] h = refl
 none_outside f around (q ∷ qs) h =
     (λ i. (not (h q (ap (λ b. b || is_number_among qs q) (is_one q)) i) && f q) || outside f around qs)
-    ∙ none_outside f around qs (λ r k. h r (or_second (q == r) (is_number_among qs r) k))
+    ∙ none_outside f around qs (λ r k. h r (or_right (q == r) (is_number_among qs r) k))
   where
     is_one : (q : ℕ) → (q == q) ≡ true
     is_one q = grind (arith, nat_tests)
-
-    or_second : (a b : Bool) → b ≡ true → (a || b) ≡ true
-    or_second true b k = refl
-    or_second false b k = k
 
 -- one declaration
 one_bars : (f : ℕ → Bool) (around : List ℕ) (k : ColumnKind) (a : ℕ) (qs : List ℕ) (v : Option (List ℕ)) (x : List ℕ) (u : Bool) → outside f around qs ≡ u

@@ -1,6 +1,7 @@
 -- References that cross an unprotected quantifier, told without places. The key: what a reference may name and what stands
 -- around no part of it was declared in front of the part, so its quantifiers are other ones than those around the reference.
-use Rattle.std.proofs.Common.{◌≡◌, ℕ, ◌==◌, Bool, true, false, not, ◌&&◌, ◌||◌, cond, List, [], ◌∷◌, filter, flat_map, refl, ap, ◌∙◌, subst}
+use Rattle.std.proofs.Common.{◌≡◌, ℕ, ◌==◌, Bool, true, false, not, ◌&&◌, ◌||◌, cond, List, [], ◌∷◌, filter, flat_map, refl, ap, ◌∙◌, subst, sym}
+use Rattle.std.proofs.Math.Bool.{or_self_left}
 use Rattle.std.specs.Prelude.{if◌then◌else◌}
 use Rattle.std.specs.List.{list_any}
 use Rattle.std.proofs.lemmas.Bool.{eqb-true}
@@ -17,10 +18,6 @@ use Rattle.gql_norm.specs.Reference.{once, crossed}
 pub or_none : (a b : Bool) → b ≡ false → (a || b) ≡ a
 or_none true b h = refl
 or_none false b h = h
-
-or_again : (a b : Bool) → (a || b) ≡ (a || (a || b))
-or_again true b = refl
-or_again false b = refl
 
 or_swap : (a b c : Bool) → c ≡ (b || c) → (a || c) ≡ (b || (a || c))
 or_swap true true c h = refl
@@ -41,7 +38,7 @@ one_more f [] x h = absurd (cc)
 one_more f (y ∷ ys) x h = by (y == x) refl h (one_more f ys x)
   where
     by : (b : Bool) → (y == x) ≡ b → (b || is_number_among ys x) ≡ true → (is_number_among ys x ≡ true → list_any f ys ≡ (f x || list_any f ys)) → (f y || list_any f ys) ≡ (f x || (f y || list_any f ys))
-    by true e h rest = subst (λ z. (f y || list_any f ys) ≡ (f z || (f y || list_any f ys))) (eqb-true y x e) (or_again (f y) (list_any f ys))
+    by true e h rest = subst (λ z. (f y || list_any f ys) ≡ (f z || (f y || list_any f ys))) (eqb-true y x e) (sym (or_self_left (f y) (list_any f ys)))
     by false e h rest = or_swap (f y) (f x) (list_any f ys) (rest h)
 
 any_once : (f : ℕ → Bool) (xs : List ℕ) → list_any f (once xs) ≡ list_any f xs

@@ -1,6 +1,7 @@
 -- What one walk tells of lengths is what the definitions say.
 use mathlib.Core.Bool.{and_assoc, or_assoc}
-use Rattle.std.proofs.Common.{◌≡◌, ℕ, zero, suc, ◌+◌, ◌*◌, min, Bool, true, false, ◌&&◌, ◌||◌, ◌==◌, List, [], ◌∷◌, length, map, Option, refl, sym, ap, ◌∙◌, arith}
+use Rattle.std.proofs.Common.{◌≡◌, ℕ, zero, suc, ◌+◌, ◌*◌, min, Bool, false, ◌&&◌, ◌||◌, ◌==◌, List, [], ◌∷◌, length, map, Option, refl, sym, ap, ◌∙◌, arith}
+use Rattle.std.proofs.Math.Bool.{and-true, or-false}
 use Rattle.std.specs.List.{list_any, list_all}
 use Rattle.std.proofs.lemmas.Bool.Decides.{nat_tests}
 use Rattle.std.proofs.lemmas.List.{length-map}
@@ -26,14 +27,6 @@ product_is_none zero n = grind (arith, nat_tests)
 product_is_none (suc m) zero = grind (arith, nat_tests)
 product_is_none (suc m) (suc n) = grind (arith, nat_tests)
 
-and_true : (a : Bool) → a ≡ (a && true)
-and_true true = refl
-and_true false = refl
-
-or_false : (a : Bool) → a ≡ (a || false)
-or_false true = refl
-or_false false = refl
-
 abbrev two_lengths : Bool → Bool → Lengths
 two_lengths a b = record { may_be_none = a; has_empty_loop = b }
 
@@ -43,12 +36,12 @@ same_lengths a b c d h k = λ i. two_lengths (h i) (k i)
 -- a row
 row_is_none : (p : Part) (ps : List Part) → has_no_length (in_a_row p ps) ≡ (has_no_length p && list_all has_no_length ps)
 unfolding least_length
-row_is_none p [] = and_true (has_no_length p)
+row_is_none p [] = sym (and-true (has_no_length p))
 row_is_none p (r ∷ rs) = sum_is_none (least_length p) (least_length (in_a_row r rs)) ∙ ap (λ b. has_no_length p && b) (row_is_none r rs)
 
 row_has_loop : (p : Part) (ps : List Part) → has_empty_loop (in_a_row p ps) ≡ (has_empty_loop p || list_any has_empty_loop ps)
 unfolding has_empty_loop
-row_has_loop p [] = or_false (has_empty_loop p)
+row_has_loop p [] = sym (or-false (has_empty_loop p))
 row_has_loop p (r ∷ rs) = ap (λ b. has_empty_loop p || b) (row_has_loop r rs)
 
 pub rows_are : (p r : Part) (rs : List Part) → row_lengths (lengths_of p) (lengths_of r) (list_lengths_of rs) ≡ lengths_of (Concat p (in_a_row r rs))
@@ -60,12 +53,12 @@ rows_are p r rs =
 -- parts beside each other
 beside_is_none : (p : Part) (ps : List Part) → has_no_length (side_by_side p ps) ≡ (has_no_length p || list_any has_no_length ps)
 unfolding least_length
-beside_is_none p [] = or_false (has_no_length p)
+beside_is_none p [] = sym (or-false (has_no_length p))
 beside_is_none p (r ∷ rs) = least_is_none (least_length p) (least_length (side_by_side r rs)) ∙ ap (λ b. has_no_length p || b) (beside_is_none r rs)
 
 beside_has_loop : (p : Part) (ps : List Part) → has_empty_loop (side_by_side p ps) ≡ (has_empty_loop p || list_any has_empty_loop ps)
 unfolding has_empty_loop
-beside_has_loop p [] = or_false (has_empty_loop p)
+beside_has_loop p [] = sym (or-false (has_empty_loop p))
 beside_has_loop p (r ∷ rs) = ap (λ b. has_empty_loop p || b) (beside_has_loop r rs)
 
 pub sides_are : (p r : Part) (rs : List Part) → side_lengths (lengths_of p) (lengths_of r) (list_lengths_of rs) ≡ lengths_of (Union p (side_by_side r rs))
@@ -77,7 +70,7 @@ sides_are p r rs =
 -- sides whose number is told
 sides_are_none : (k : ℕ) (ps : List Part) → (least_length_beside k (sides_of ps) == 0) ≡ ((k == 0) || list_any has_no_length ps)
 unfolding least_length
-sides_are_none k [] = or_false (k == 0)
+sides_are_none k [] = sym (or-false (k == 0))
 sides_are_none k (p ∷ ps) = least_is_none k (least_length_beside (least_length p) (sides_of ps)) ∙ ap (λ b. (k == 0) || b) (sides_are_none (least_length p) ps)
 
 is_some_side : (p : Part) (ps : List Part) → (length (p ∷ ps) == 0) ≡ false

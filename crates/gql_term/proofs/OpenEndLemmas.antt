@@ -1,5 +1,6 @@
 -- Unprotected quantifiers without their places: some quantifier is unprotected exactly where the list of them is not empty.
 use Rattle.std.proofs.Common.{◌≡◌, ℕ, ◌+◌, Bool, true, false, ◌&&◌, ◌||◌, is_none, List, [], ◌∷◌, ◌++◌, Option, Some, None, refl, sym, ap, ◌∙◌}
+use Rattle.std.proofs.Math.Bool.{or-false}
 use Rattle.std.specs.Prelude.{option_map}
 use Rattle.std.specs.List.{list_any}
 use Rattle.gql_norm.specs.NormalPattern.{Part, Node, Edge, Concat, Union, Alt, Quant, Opt, Scope, Sides, NoSide, Side, in_a_row, side_by_side, sides_of}
@@ -44,24 +45,14 @@ no_selector (Some s) = refl
 pub unprotected_is : (p : CodePath) → (has_open (part_data p.body) false && is_none p.selector) ≡ is_unprotected (path_data p)
 unprotected_is p = λ i. sym (open_is (part_data p.body) 0 false) i && no_selector p.selector i
 
-or_false : (a : Bool) → a ≡ (a || false)
-or_false true = refl
-or_false false = refl
-
 -- parts in a row, beside each other, and told
-row_open : (p : Part) (ps : List Part) (safe : Bool) → has_open (in_a_row p ps) safe ≡ (has_open p safe || list_any (λ q. has_open q safe) ps)
-row_open p [] safe = or_false (has_open p safe)
-row_open p (r ∷ rs) safe = ap (λ b. has_open p safe || b) (row_open r rs safe)
+pub open_row : (p : Part) (ps : List Part) (safe : Bool) → has_open (in_a_row p ps) safe ≡ (has_open p safe || list_any (λ q. has_open q safe) ps)
+open_row p [] safe = sym (or-false (has_open p safe))
+open_row p (r ∷ rs) safe = ap (λ b. has_open p safe || b) (open_row r rs safe)
 
-beside_open : (p : Part) (ps : List Part) (safe : Bool) → has_open (side_by_side p ps) safe ≡ (has_open p safe || list_any (λ q. has_open q safe) ps)
-beside_open p [] safe = or_false (has_open p safe)
-beside_open p (r ∷ rs) safe = ap (λ b. has_open p safe || b) (beside_open r rs safe)
-
-pub open_row : (p r : Part) (rs : List Part) (safe : Bool) → has_open (Concat p (in_a_row r rs)) safe ≡ (has_open p safe || (has_open r safe || list_any (λ q. has_open q safe) rs))
-open_row p r rs safe = row_open p (r ∷ rs) safe
-
-pub open_beside : (p r : Part) (rs : List Part) (safe : Bool) → has_open (Union p (side_by_side r rs)) safe ≡ (has_open p safe || (has_open r safe || list_any (λ q. has_open q safe) rs))
-open_beside p r rs safe = beside_open p (r ∷ rs) safe
+pub open_beside : (p : Part) (ps : List Part) (safe : Bool) → has_open (side_by_side p ps) safe ≡ (has_open p safe || list_any (λ q. has_open q safe) ps)
+open_beside p [] safe = sym (or-false (has_open p safe))
+open_beside p (r ∷ rs) safe = ap (λ b. has_open p safe || b) (open_beside r rs safe)
 
 pub open_told : (ps : List Part) (safe : Bool) → has_open_side (sides_of ps) safe ≡ list_any (λ q. has_open q safe) ps
 open_told [] safe = refl

@@ -1,11 +1,10 @@
 //! What stands in front of a reference, and which names it bars.
 
-ghost use Rattle.std.specs.Prelude.{◌≡◌, ◌&&◌, map};
+ghost use Rattle.std.specs.Prelude.{◌≡◌, ◌∷◌, map};
 ghost use Rattle.std.specs.List.{list_any};
 ghost use Rattle.gql_norm.specs.NormalData.{part_data};
-ghost use Rattle.gql_norm.specs.NormalPattern.{Concat, Union, in_a_row, side_by_side, sides_of};
 ghost use Rattle.gql_term.specs.Machinery.BarredNames.{barred_by};
-ghost use Rattle.gql_term.specs.Machinery.OpenReferences.{declares_open, declares_open_side, is_variable};
+ghost use Rattle.gql_term.specs.Machinery.OpenReferences.{declares_open, is_variable};
 
 use crate::open_ends::{is_open, protects};
 use gql_norm::Part;
@@ -37,6 +36,7 @@ pub fn is_barred<'a>(before: &Before<'a>, name: &Text) -> bool
 
 /// Whether the part declares the name under an unprotected quantifier, of which one may be around the part already.
 #[cycle(declares)]
+#[tactic(auto, using(crate::proofs::DeclaringLemmas::declaring_row, crate::proofs::DeclaringLemmas::declaring_beside, crate::proofs::DeclaringLemmas::declaring_told))]
 fn declares_open(part: &Part, is_safe: bool, is_under: bool, name: &Text) -> bool
     ensures { result ≡ declares_open (part_data part.now) is_safe is_under name.now }
 {
@@ -44,7 +44,7 @@ fn declares_open(part: &Part, is_safe: bool, is_under: bool, name: &Text) -> boo
         Part::Node(element) | Part::Edge(_, element) => {
             is_under & is_variable(&element.variable, name)
         }
-        Part::Concat(first, second, others) => in_row(
+        Part::Concat(first, second, others) => several_declare_open(
             first.part(),
             second.part(),
             others.as_slice(),
@@ -52,7 +52,7 @@ fn declares_open(part: &Part, is_safe: bool, is_under: bool, name: &Text) -> boo
             is_under,
             name,
         ),
-        Part::Union(first, second, others) => beside(
+        Part::Union(first, second, others) => several_declare_open(
             first.part(),
             second.part(),
             others.as_slice(),
@@ -60,7 +60,7 @@ fn declares_open(part: &Part, is_safe: bool, is_under: bool, name: &Text) -> boo
             is_under,
             name,
         ),
-        Part::Alt(sides) => told(sides.as_slice(), is_safe, is_under, name),
+        Part::Alt(sides) => some_declares_open(sides.as_slice(), is_safe, is_under, name),
         Part::Quant(part, _, most) => {
             declares_open(
                 part.part(),
@@ -77,8 +77,7 @@ fn declares_open(part: &Part, is_safe: bool, is_under: bool, name: &Text) -> boo
 }
 
 #[cycle(declares)]
-#[tactic(auto, using(crate::proofs::DeclaringLemmas::declaring_row))]
-fn in_row(
+fn several_declare_open(
     first: &Part,
     second: &Part,
     others: &[Part],
@@ -86,36 +85,11 @@ fn in_row(
     is_under: bool,
     name: &Text,
 ) -> bool
-    ensures { result ≡ declares_open (Concat (part_data first.now) (in_a_row (part_data second.now) (map part_data others.now))) is_safe is_under name.now }
+    ensures { result ≡ list_any (λ p. declares_open p is_safe is_under name.now) (part_data first.now ∷ part_data second.now ∷ map part_data others.now) }
 {
     declares_open(first, is_safe, is_under, name)
         || declares_open(second, is_safe, is_under, name)
         || some_declares_open(others, is_safe, is_under, name)
-}
-
-#[cycle(declares)]
-#[tactic(auto, using(crate::proofs::DeclaringLemmas::declaring_beside))]
-fn beside(
-    first: &Part,
-    second: &Part,
-    others: &[Part],
-    is_safe: bool,
-    is_under: bool,
-    name: &Text,
-) -> bool
-    ensures { result ≡ declares_open (Union (part_data first.now) (side_by_side (part_data second.now) (map part_data others.now))) is_safe is_under name.now }
-{
-    declares_open(first, is_safe, is_under, name)
-        || declares_open(second, is_safe, is_under, name)
-        || some_declares_open(others, is_safe, is_under, name)
-}
-
-#[cycle(declares)]
-#[tactic(auto, using(crate::proofs::DeclaringLemmas::declaring_told))]
-fn told(sides: &[Part], is_safe: bool, is_under: bool, name: &Text) -> bool
-    ensures { result ≡ declares_open_side (sides_of (map part_data sides.now)) is_safe is_under name.now }
-{
-    some_declares_open(sides, is_safe, is_under, name)
 }
 
 #[cycle(declares)]

@@ -1,11 +1,10 @@
 //! Quantifiers without an upper bound that nothing protects.
 
-ghost use Rattle.std.specs.Prelude.{◌≡◌, map};
+ghost use Rattle.std.specs.Prelude.{◌≡◌, ◌∷◌, map};
 ghost use Rattle.std.specs.List.{list_any};
 ghost use Rattle.gql_norm.specs.NormalData.{part_data, path_data, pattern_data};
-ghost use Rattle.gql_norm.specs.NormalPattern.{Concat, Union, in_a_row, side_by_side, sides_of};
 ghost use Rattle.gql_norm.specs.Termination.{is_unprotected, protects, unbounded};
-ghost use Rattle.gql_term.specs.Machinery.OpenEnds.{has_open, has_open_side, is_open};
+ghost use Rattle.gql_term.specs.Machinery.OpenEnds.{has_open, is_open};
 
 use gql_ast::Mode;
 use gql_norm::{NormalPath, NormalPattern, Part};
@@ -38,18 +37,19 @@ fn is_unprotected(path: &NormalPath) -> bool
 
 /// Whether some quantifier of the part is unprotected, where a scope around the part protects it or not.
 #[cycle(open)]
+#[tactic(auto, using(crate::proofs::OpenEndLemmas::open_row, crate::proofs::OpenEndLemmas::open_beside, crate::proofs::OpenEndLemmas::open_told))]
 pub fn has_open(part: &Part, is_safe: bool) -> bool
     ensures { result ≡ has_open (part_data part.now) is_safe }
 {
     match part {
         Part::Node(_) | Part::Edge(_, _) => false,
         Part::Concat(first, second, others) => {
-            in_row(first.part(), second.part(), others.as_slice(), is_safe)
+            several_have_open(first.part(), second.part(), others.as_slice(), is_safe)
         }
         Part::Union(first, second, others) => {
-            beside(first.part(), second.part(), others.as_slice(), is_safe)
+            several_have_open(first.part(), second.part(), others.as_slice(), is_safe)
         }
-        Part::Alt(sides) => told(sides.as_slice(), is_safe),
+        Part::Alt(sides) => some_has_open(sides.as_slice(), is_safe),
         Part::Quant(part, _, most) => is_open(is_safe, *most) || has_open(part.part(), is_safe),
         Part::Opt(part) => has_open(part.part(), is_safe),
         Part::Scope(mode, part, _) => has_open(part.part(), is_safe | protects(*mode)),
@@ -57,27 +57,10 @@ pub fn has_open(part: &Part, is_safe: bool) -> bool
 }
 
 #[cycle(open)]
-#[tactic(auto, using(crate::proofs::OpenEndLemmas::open_row))]
-fn in_row(first: &Part, second: &Part, others: &[Part], is_safe: bool) -> bool
-    ensures { result ≡ has_open (Concat (part_data first.now) (in_a_row (part_data second.now) (map part_data others.now))) is_safe }
+fn several_have_open(first: &Part, second: &Part, others: &[Part], is_safe: bool) -> bool
+    ensures { result ≡ list_any (λ p. has_open p is_safe) (part_data first.now ∷ part_data second.now ∷ map part_data others.now) }
 {
     has_open(first, is_safe) || has_open(second, is_safe) || some_has_open(others, is_safe)
-}
-
-#[cycle(open)]
-#[tactic(auto, using(crate::proofs::OpenEndLemmas::open_beside))]
-fn beside(first: &Part, second: &Part, others: &[Part], is_safe: bool) -> bool
-    ensures { result ≡ has_open (Union (part_data first.now) (side_by_side (part_data second.now) (map part_data others.now))) is_safe }
-{
-    has_open(first, is_safe) || has_open(second, is_safe) || some_has_open(others, is_safe)
-}
-
-#[cycle(open)]
-#[tactic(auto, using(crate::proofs::OpenEndLemmas::open_told))]
-fn told(sides: &[Part], is_safe: bool) -> bool
-    ensures { result ≡ has_open_side (sides_of (map part_data sides.now)) is_safe }
-{
-    some_has_open(sides, is_safe)
 }
 
 #[cycle(open)]

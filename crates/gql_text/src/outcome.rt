@@ -135,7 +135,8 @@ fn add_row(
 
 /// Adds the part that was gathered, of which nothing is left.
 fn hand_over(alloc: Global, part: &mut Text, out: &mut Bytes) -> Result<(), OutOfMemory>
-    ensures ok { OnOk result (out.new ++ part.new ≡ out.old ++ part.old) }
+    ensures ok { OnOk result (out.new ≡ out.old ++ part.old) }
+    ensures empty { OnOk result (part.new ≡ []) }
     ensures begins { BeginsWith out.old out.new }
 {
     out.append(part.as_str().as_bytes())?;

@@ -2,11 +2,12 @@
 use Rattle.std.proofs.Common.{◌≡◌, ◌≢◌, Bool, true, false, cond, not, ℕ, zero, suc, ◌+◌, List, [], ◌∷◌, ◌++◌, map, take, slice_get, Option, Some, None, refl, sym, ap, ◌∙◌, add-one}
 use Rattle.std.specs.Prelude.{filter, is_some, ◌&&◌, ◌||◌, if◌then◌else◌}
 use Rattle.std.specs.List.{AllByRecursion, list_any}
-use Rattle.std.proofs.lemmas.Bool.{and_from, and_parts}
+use Rattle.std.proofs.lemmas.Bool.{and_from, and_parts, not-true}
 use Rattle.gql_values3.specs.Texts.{same_text, texts_differ}
+use Rattle.gql_values3.proofs.WordLemmas.{same_is}
 use Rattle.gql_ports.specs.Held.{keys_ascend, value_at, value_after}
 use Rattle.gql_ports.specs.declared.stored.Record.{Record}
-use Rattle.gql_rowcode.proofs.NameLemmas.{text_is, text_same}
+use Rattle.gql_rowcode.proofs.NameLemmas.{text_same}
 use Rattle.gql_rowcode.proofs.OrderingLists.{all_weaker}
 use Rattle.gql_txn.specs.Machinery.Changes.{is_value, has_record, has_key, puts_of, drops_of}
 use Rattle.std.proofs.lemmas.List.{append-nil}
@@ -39,7 +40,7 @@ module _ (test : Record → Bool) where
       → value_at (filter test xs) key ≡ passed test key (value_at xs key) → value_at (filter test (x ∷ xs)) key ≡ passed test key (value_at (x ∷ xs) key)
   filter_case true x xs key e up more =
       let none : value_at (filter test xs) key ≡ None = more ∙ ap (passed test key) (first_once x xs key up e) in
-      let keys : x.key ≡ key = sym (text_is key x.key e) in
+      let keys : x.key ≡ key = sym (same_is key x.key e) in
       let passes : test x ≡ test (record_with key x.value) = ap (λ (k : List ℕ). test (record_with k x.value)) keys in
       here_case (test x) x xs (filter test xs) key e none ∙ ap (λ (b : Bool). if_passes b x.value) passes ∙ sym (ap (passed test key) (value_first x xs key e))
   filter_case false x xs key e up more =
@@ -94,7 +95,7 @@ dropped_is before after key None up e = any_passed (λ (r : Record). not (has_ke
 dropped_is before after key (Some value) up e = any_passed (λ (r : Record). not (has_key after r)) key before up ∙ ap (λ (o : Option (List ℕ)). is_some (passed (λ (r : Record). not (has_key after r)) key o)) e
 
 value_settled : (value other : List ℕ) (b : Bool) → same_text value other ≡ b → settled_by (if_passes (not b) value) false (Some other) ≡ Some value
-value_settled value other true e = ap (λ (v : List ℕ). Some v) (sym (text_is value other e))
+value_settled value other true e = ap (λ (v : List ℕ). Some v) (sym (same_is value other e))
 value_settled value other false e = refl
 
 settled_is : (a b : Option (List ℕ)) → settled_by (put_at a b) (is_some (dropped_at a b)) a ≡ b
@@ -166,12 +167,8 @@ differ_append : (rs : List Record) (ys : List (List ℕ)) → texts_differ (keys
 differ_append [] ys p q apart = q
 differ_append (r ∷ rs) ys p q apart =
     let parts = and_parts (not (list_any (same_text r.key) (keys rs))) (texts_differ (keys rs)) p in
-    let none : list_any (same_text r.key) (keys rs) ≡ false = was_false (list_any (same_text r.key) (keys rs)) parts.0 in
+    let none : list_any (same_text r.key) (keys rs) ≡ false = not-true (list_any (same_text r.key) (keys rs)) parts.0 in
     and_from (not (list_any (same_text r.key) (keys rs ++ ys))) (texts_differ (keys rs ++ ys)) (ap not (any_append r.key (keys rs) ys none apart.0)) (differ_append rs ys parts.1 q apart.1)
-  where
-    was_false : (b : Bool) → not b ≡ true → b ≡ false
-    was_false true h = absurd cc
-    was_false false h = refl
 
 pub changes_differ : (before after : List Record) → keys_ascend before ≡ true → keys_ascend after ≡ true → texts_differ (keys (puts_of before after) ++ drops_of before after) ≡ true
 changes_differ before after up up' =

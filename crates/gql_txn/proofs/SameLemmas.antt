@@ -4,15 +4,16 @@ use Rattle.std.specs.Bool.{Decides}
 use Rattle.std.specs.Cmp.Lexicographic.{pointwise_decides, unequal}
 use Rattle.std.proofs.lemmas.Bool.{and_from, and_parts}
 use Rattle.gql_values3.specs.Texts.{same_text}
+use Rattle.gql_values3.proofs.WordLemmas.{same_is}
 use Rattle.gql_ports.specs.declared.stored.Record.{Record}
-use Rattle.gql_rowcode.proofs.NameLemmas.{text_is, text_same}
+use Rattle.gql_rowcode.proofs.NameLemmas.{text_same}
 use Rattle.gql_txn.specs.Machinery.Changes.{same_record, same_records}
 
 record_is : (a b : Record) → same_record a b ≡ true → a ≡ b
 record_is a b h =
     let parts = and_parts (same_text a.key b.key) (same_text a.value b.value) h in
-    let keys : a.key ≡ b.key = text_is a.key b.key parts.0 in
-    let values : a.value ≡ b.value = text_is a.value b.value parts.1 in
+    let keys : a.key ≡ b.key = same_is a.key b.key parts.0 in
+    let values : a.value ≡ b.value = same_is a.value b.value parts.1 in
     λ i. record { key = keys i; value = values i }
 
 record_same : (a b : Record) → a ≡ b → same_record a b ≡ true

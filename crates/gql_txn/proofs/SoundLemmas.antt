@@ -5,6 +5,7 @@ use Rattle.std.specs.List.{AllByRecursion, list_all}
 use Rattle.std.proofs.lemmas.Bool.{and_from, and_parts}
 use Rattle.gql_values3.specs.PropertyGraph.{PropertyGraph, is_graph}
 use Rattle.gql_values3.specs.Texts.{same_text, texts_ascend}
+use Rattle.gql_values3.proofs.WordLemmas.{same_is}
 use Rattle.gql_graph.specs.Catalog.{CatalogGraph, CatalogData, is_catalog, named, put_named, without_named, is_before, held_in, type_in, with_graph, without_graph, with_type, without_type, replaced, empty_graph}
 use Rattle.gql_graph.specs.declared.graph_type.GraphType.{GraphType}
 use Rattle.gql_graph.proofs.CatalogLemmas.{names}
@@ -14,7 +15,7 @@ use Rattle.gql_type.specs.GraphTypes.{is_graph_type}
 use Rattle.gql_type.proofs.ConformanceLemmas.{no_misfit}
 use Rattle.gql_type.specs.SoundCatalog.{conforms_to, fits_kind, is_sound}
 use Rattle.gql_rowcode.proofs.MemberLemmas.{all_has}
-use Rattle.gql_rowcode.proofs.NameLemmas.{named_has, named_here, named_later, text_is, text_same}
+use Rattle.gql_rowcode.proofs.NameLemmas.{named_has, named_here, named_later, text_same}
 use Rattle.gql_rowcode.proofs.OrderingLists.{Pairs, all_of_map}
 use Rattle.gql_rowcode.proofs.OrderingKeys.{names_differ}
 use Rattle.gql_txn.specs.TxnData.{type_named, type_of_held, type_of_graph, misfit_under, misfit_in, new_graph}
@@ -115,7 +116,7 @@ named_without n name [] differ = refl
 named_without {X} n name (y ∷ ys) differ = by_case (same_text name y.0) refl (named_without n name ys differ)
   where
     by_case : (b : Bool) → same_text name y.0 ≡ b → named n (without_named name ys) ≡ named n ys → named n (cond (not b) (y ∷ without_named name ys) (without_named name ys)) ≡ named n (y ∷ ys)
-    by_case true e more = more ∙ sym (named_later n y ys (other_key n y.0 (λ same. differ (same ∙ sym (text_is name y.0 e)))))
+    by_case true e more = more ∙ sym (named_later n y ys (other_key n y.0 (λ same. differ (same ∙ sym (same_is name y.0 e)))))
     by_case false e more = named_step n y (without_named name ys) ys more
 
 -- a name under which nothing stands is none of a type that a graph conforms to
@@ -190,7 +191,7 @@ named_absent name (y ∷ ys) all = named_later name y ys (other_key name y.0 all
 -- a name that was found is not found behind it
 named_once : (name : List ℕ) (g : List ℕ × CatalogGraph) (gs : List (List ℕ × CatalogGraph)) → same_text name g.0 ≡ true → Pairs (λ (a b : List ℕ). a ≢ b) (names (g ∷ gs)) → named name gs ≡ None
 named_once name g gs e differ =
-    ap (λ (n : List ℕ). named n gs) (text_is name g.0 e) ∙ named_absent g.0 gs (all_of_map (λ (n : List ℕ). g.0 ≢ n) (λ (p : List ℕ × CatalogGraph). p.0) gs differ.0)
+    ap (λ (n : List ℕ). named n gs) (same_is name g.0 e) ∙ named_absent g.0 gs (all_of_map (λ (n : List ℕ). g.0 ≢ n) (λ (p : List ℕ × CatalogGraph). p.0) gs differ.0)
 
 module _ (c : CatalogData) (name : List ℕ) (graph : PropertyGraph) where
   abbrev put_graph : List ℕ × CatalogGraph → List ℕ × CatalogGraph

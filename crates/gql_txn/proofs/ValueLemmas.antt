@@ -1,5 +1,6 @@
 -- What stands at a key among records in order: no other record has the key, so values decide the records.
 use Rattle.std.proofs.Common.{◌≡◌, ◌≢◌, ℕ, zero, suc, ◌<◌, Bool, true, false, cond, not, List, [], ◌∷◌, ◌++◌, length, map, get_or, Option, Some, None, refl, sym, ap, subst, ◌∙◌, arith, inl, inr, ◌⊎◌}
+use Rattle.std.proofs.lemmas.Bool.{false_from_ne_true}
 use Rattle.std.specs.Prelude.{Contains, find, filter, option_map, is_some, ◌&&◌}
 use Rattle.std.specs.List.{AllByRecursion, list_any}
 use Rattle.std.specs.declared.cmp.Ordering.{Ordering}
@@ -7,11 +8,12 @@ use Rattle.std.specs.declared.cmp.Ordering.TheVariants.{Less, Equal, Greater}
 use Rattle.std.proofs.lemmas.Cmp.{nat_list_cmp_total}
 use Rattle.std.proofs.lemmas.Map.Lookups.{exact_bytes}
 use Rattle.gql_values3.specs.Texts.{same_text}
+use Rattle.gql_values3.proofs.WordLemmas.{same_is}
 use Rattle.gql_ports.specs.Held.{keys_ascend, value_at}
 use Rattle.gql_ports.specs.declared.stored.Record.{Record}
 use Rattle.gql_graph.proofs.AscendingTexts.{turned, above_ascends}
 use Rattle.gql_rowcode.specs.Machinery.Writing.{text_cmp}
-use Rattle.gql_rowcode.proofs.NameLemmas.{text_is, text_same}
+use Rattle.gql_rowcode.proofs.NameLemmas.{text_same}
 use Rattle.gql_rowcode.proofs.OrderingLists.{all_weaker, all_of_map}
 use Rattle.gql_rowcode.proofs.OrderingKeys.{all_above, less_differs}
 
@@ -20,12 +22,8 @@ record_with key value = record { key = key; value = value }
 
 -- ---- tests of keys
 
-not_true : (b : Bool) → (b ≡ true → ⊥) → b ≡ false
-not_true true h = absurd (h refl)
-not_true false h = refl
-
 pub other_key : (a b : List ℕ) → a ≢ b → same_text a b ≡ false
-other_key a b differ = not_true (same_text a b) (λ h. differ (text_is a b h))
+other_key a b differ = false_from_ne_true (same_text a b) (λ h. differ (same_is a b h))
 
 -- ---- records in order
 
@@ -54,7 +52,7 @@ value_absent (x ∷ xs) key all = value_behind x xs key (other_key key x.key all
 -- the first key has no value behind it
 pub first_once : (x : Record) (xs : List Record) (key : List ℕ) → keys_ascend (x ∷ xs) ≡ true → same_text key x.key ≡ true → value_at xs key ≡ None
 first_once x xs key up h =
-    let same : key ≡ x.key = text_is key x.key h in
+    let same : key ≡ x.key = same_is key x.key h in
     ap (value_at xs) same ∙ value_absent xs x.key (first_differs x xs up)
 
 -- ---- values decide the records
@@ -128,7 +126,7 @@ value_contained (x ∷ xs) key value h = by_case (same_text key x.key) refl (val
   where
     by_case : (b : Bool) → same_text key x.key ≡ b → (value_at xs key ≡ Some value → Contains xs (record_with key value)) → Contains (x ∷ xs) (record_with key value)
     by_case true e more =
-        let keys : x.key ≡ key = sym (text_is key x.key e) in
+        let keys : x.key ≡ key = sym (same_is key x.key e) in
         let one : Some x.value ≡ Some value = sym (value_first x xs key e) ∙ h in
         let values : x.value ≡ value = cc in
         (0, omega arith, λ i. record { key = keys i; value = values i })
@@ -140,7 +138,7 @@ value_there [] r k up lt h = absurd (omega arith)
 value_there (x ∷ xs) r zero up lt h = value_first x xs r.key (ap (λ (s : Record). same_text r.key s.key) h ∙ text_same r.key) ∙ ap (λ (s : Record). Some s.value) h
 value_there (x ∷ xs) r (suc k) up lt h =
     let there : value_at xs r.key ≡ Some r.value = value_there xs r k (rest_ascends x xs up) (omega arith) h in
-    value_behind x xs r.key (not_true (same_text r.key x.key) (λ e. let never : Some r.value ≡ None = sym there ∙ first_once x xs r.key up e in cc)) ∙ there
+    value_behind x xs r.key (false_from_ne_true (same_text r.key x.key) (λ e. let never : Some r.value ≡ None = sym there ∙ first_once x xs r.key up e in cc)) ∙ there
 
 pub contained_value : (xs : List Record) (r : Record) → keys_ascend xs ≡ true → Contains xs r → value_at xs r.key ≡ Some r.value
 contained_value xs r up c = value_there xs r c.0 up c.1 c.2

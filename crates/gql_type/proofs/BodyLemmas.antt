@@ -7,7 +7,7 @@ use Rattle.std.specs.declared.cmp.Ordering.TheVariants.{Less, Equal, Greater}
 use Rattle.std.specs.Ordering.{is_lt}
 use Rattle.std.specs.Cmp.{IsStrictWeakOrder}
 use Rattle.std.specs.Cmp.Lexicographic as texts
-use Rattle.std.proofs.lemmas.Bool.{and_from, and_parts}
+use Rattle.std.proofs.lemmas.Bool.{and_from, and_parts, or_left, or_right}
 use Rattle.std.proofs.lemmas.Bool.Decides.{nat_tests}
 use Rattle.std.proofs.lemmas.Cmp.{tied_itself, nat_list_cmp_total}
 use Rattle.std.proofs.lemmas.List.Sorted.{ranks_by}
@@ -28,7 +28,6 @@ use Rattle.gql_type.specs.Conformance.{contains_name}
 use Rattle.gql_type.specs.BodyFaults.{repeated, alias_in, aliases_in, unknown, aliases_at_fault, wrong_aliases, names_given, repeated_names}
 use Rattle.gql_type.specs.BodyMeaning.{labels_meant, property_type, name_before, properties_meant, node_type, node_types, place_of, edge_type, edge_types, graph_type_of}
 use Rattle.gql_graph.proofs.AscendingTexts.{text_cmp, turned, tied}
-use Rattle.gql_type.proofs.ConformanceLemmas.{or_second}
 use Rattle.gql_type.proofs.SortedTexts.{IsNew, inserted_ascends}
 use Rattle.gql_type.proofs.MatchingLemmas.{names_of}
 
@@ -84,11 +83,7 @@ not_there true z y before e there none =
 not_there false z y before e there none = refl
 
 itself : (x : List ℕ) (before : List (List ℕ)) → contains_name (x ∷ before) x ≡ true
-itself x before = first (same_text x x) (contains_name before x) (tied x x (tied_itself nat_list_cmp_total x))
-  where
-    first : (a b : Bool) → a ≡ true → (a || b) ≡ true
-    first true b h = refl
-    first false b h = absurd (cc)
+itself x before = or_left (same_text x x) (contains_name before x) (tied x x (tied_itself nat_list_cmp_total x))
 
 -- the name of a type differs from those of all others
 abbrev other_name : PropType → PropType → Bool
@@ -113,7 +108,7 @@ others_differ before p [] e there = refl
 others_differ before p (q ∷ qs) e there =
     let now = none_repeats (contains_name before q.name) q.name (repeated before (names_given (Some qs))) (repeated (q.name ∷ before) (names_given (Some qs))) e in
     and_from (not (same_text p.name q.name)) (list_all (other_name (property_type p)) (map property_type qs)) (not_there (same_text p.name q.name) p.name q.name before refl there now.0)
-    (others_differ (q.name ∷ before) p qs now.1 (or_second (same_text p.name q.name) (contains_name before p.name) there))
+    (others_differ (q.name ∷ before) p qs now.1 (or_right (same_text p.name q.name) (contains_name before p.name) there))
 
 names_ascend : (before : List (List ℕ)) (ps : List TypeProperty) → repeated before (names_given (Some ps)) ≡ [] → texts_ascend (names_of (stably_sorted name_before (map property_type ps))) ≡ true
 names_ascend before [] e = refl

@@ -1,9 +1,10 @@
 -- Among elements and types that are in order, what the code finds is what conformance says.
 use Rattle.std.proofs.Common.{◌≡◌, ℕ, zero, suc, ◌<◌, ◌≤◌, nat_lt, nat_le, ◌^◌, Bool, true, false, not, cond, ◌&&◌, ◌||◌, ◌==◌, List, [], ◌∷◌, map, length, Option, Some, None, refl, sym, ap, subst, ◌∙◌, arith}
+use Rattle.std.proofs.Math.Bool.{and_assoc}
 use Rattle.std.specs.Prelude.{find, option_map, is_some, slice_get}
 use Rattle.std.specs.Option.{option_or}
 use Rattle.std.specs.List.{list_all, list_any}
-use Rattle.std.proofs.lemmas.Bool.{and_from, and_parts}
+use Rattle.std.proofs.lemmas.Bool.{and_from, and_parts, not-false, or_right}
 use Rattle.std.proofs.lemmas.Bool.Decides.{nat_tests}
 use Rattle.gql_values3.specs.Datum.{Datum}
 use Rattle.gql_values3.specs.Texts.{texts_ascend}
@@ -25,7 +26,6 @@ use Rattle.gql_type.specs.GraphTypes.{is_content_type, is_node_type, is_edge_typ
 use Rattle.gql_type.specs.Conformance.{PropertyList, same_set, is_allowed, is_provided, has_content, fits_node_type, both_fit, is_end, has_ends, fits_edge_type, node_fits, edge_fits, conforms, first_misfit, is_least_misfit}
 use Rattle.gql_type.specs.Machinery.InOrder.{matches_content, matches_node_type, both_match, end_matches, ends_match, matches_edge_type, node_matches, edge_matches, first_unmatched}
 use Rattle.gql_graph.specs.Machinery.Ascending.{AscendsTo}
-use Rattle.gql_graph.proofs.GraphLemmas.{first_true}
 use Rattle.gql_type.proofs.SetLemmas.{same_names-in_order}
 use Rattle.gql_type.proofs.MatchingLemmas.{names_of, are_matched-in_order}
 
@@ -63,11 +63,7 @@ module _ (labels : List (List ℕ)) (body : List PropType) (ls : List (List ℕ)
       let own_parts = and_parts (texts_ascend ls) (are_properties ps) own in
       let rising = (and_parts (texts_ascend (names ps)) (list_all (λ (p : List ℕ × Datum). is_property p.1) ps) own_parts.1).0 in
       (λ i. same_names-in_order ls labels own_parts.0 type_parts.0 i && are_matched-in_order body ps type_parts.1 rising i)
-      ∙ regroup (same_set ls labels) (list_all (is_allowed body) ps) (list_all (is_provided ps) body)
-    where
-      regroup : (a b c : Bool) → (a && (b && c)) ≡ ((a && b) && c)
-      regroup true b c = refl
-      regroup false b c = refl
+      ∙ sym (and_assoc (same_set ls labels) (list_all (is_allowed body) ps) (list_all (is_provided ps) body))
 
 node_agrees : (r : NodeRecord) (t : NodeType) → is_node_record r ≡ true → is_node_type t ≡ true → matches_node_type r t ≡ fits_node_type r t
 node_agrees r t own kind = content_matches t.labels t.body r.labels r.properties kind own
@@ -155,16 +151,8 @@ found_unless p (x ∷ xs) = by_case (p x) x (find (λ y. not (p y)) xs) (list_al
     by_case true x r c h = h
     by_case false x r c h = refl
 
-no_not : (b : Bool) → not b ≡ false → b ≡ true
-no_not true h = refl
-no_not false h = absurd (cc)
-
 none_found : {A : Type 0} (p : A → Bool) (xs : List A) → None ≡ find (λ x. not (p x)) xs → list_all p xs ≡ true
-none_found p xs e = no_not (list_all p xs) (sym (found_unless p xs) ∙ ap is_some (sym e))
-
-pub or_second : (a b : Bool) → b ≡ true → (a || b) ≡ true
-or_second true b h = refl
-or_second false b h = h
+none_found p xs e = not-false (list_all p xs) (sym (found_unless p xs) ∙ ap is_some (sym e))
 
 -- of items by ascending number, what is found first has the least
 module _ {A : Type 0} (key : A → ℕ) (p : A → Bool) (high : ℕ) where
@@ -174,7 +162,7 @@ module _ {A : Type 0} (key : A → ℕ) (p : A → Bool) (high : ℕ) where
       let parts = and_parts (nat_lt low (key x)) (numbers_ascend (key x) (map key xs) high) up in
       let below : low < key x = grind (arith, nat_tests, parts.0) in
       let le_key : k ≤ key x = omega arith in
-      and_from (p x || nat_le k (key x)) (list_all (λ y. p y || nat_le k (key y)) xs) (or_second (p x) (nat_le k (key x)) (grind (arith, nat_tests))) (later k (key x) xs le_key parts.1)
+      and_from (p x || nat_le k (key x)) (list_all (λ y. p y || nat_le k (key y)) xs) (or_right (p x) (nat_le k (key x)) (grind (arith, nat_tests))) (later k (key x) xs le_key parts.1)
 
   abbrev Least : A → List A → Type 0
   Least y xs = (list_any (λ x. (key x == key y) && not (p x)) xs ≡ true) × (list_all (λ x. p x || nat_le (key y) (key x)) xs ≡ true)
@@ -183,12 +171,12 @@ module _ {A : Type 0} (key : A → ℕ) (p : A → Bool) (high : ℕ) where
       → (find (λ z. not (p z)) xs ≡ Some y → Least y xs) → cond (not b) (Some x) (find (λ z. not (p z)) xs) ≡ Some y → Least y (x ∷ xs)
   least_case true x y xs e up more h =
       let rest = more h in
-      (or_second ((key x == key y) && not (p x)) _ rest.0, and_from (p x || nat_le (key y) (key x)) _ (ap (λ b. b || nat_le (key y) (key x)) e) rest.1)
+      (or_right ((key x == key y) && not (p x)) _ rest.0, and_from (p x || nat_le (key y) (key x)) _ (ap (λ b. b || nat_le (key y) (key x)) e) rest.1)
   least_case false x y xs e up more h =
       let same : x ≡ y = cc in
       let own : Least x (x ∷ xs) = (
         ap (λ b. ((key x == key x) && not b) || list_any (λ z. (key z == key x) && not (p z)) xs) e ∙ itself (key x) _,
-        and_from (p x || nat_le (key x) (key x)) _ (or_second (p x) (nat_le (key x) (key x)) (grind (arith, nat_tests))) (later (key x) (key x) xs (omega arith) up),
+        and_from (p x || nat_le (key x) (key x)) _ (or_right (p x) (nat_le (key x) (key x)) (grind (arith, nat_tests))) (later (key x) (key x) xs (omega arith) up),
       ) in
       subst (λ (z : A). Least z (x ∷ xs)) same own
     where
@@ -218,17 +206,17 @@ module _ (g : PropertyGraph) (t : GraphType) where
       either false b = refl
 
   pub no_misfit : first_misfit g t ≡ None → conforms g t ≡ true
-  no_misfit none = no_not (conforms g t) (sym found_conforms ∙ ap is_some none)
+  no_misfit none = not-false (conforms g t) (sym found_conforms ∙ ap is_some none)
 
 module _ (g : PropertyGraph) (t : GraphType) (one : is_graph g ≡ true) where
   parts : (are_nodes g.nodes g.next_node ≡ true) × (are_edges g.nodes g.edges g.next_edge ≡ true)
   parts = and_parts (are_nodes g.nodes g.next_node) (are_edges g.nodes g.edges g.next_edge) one
 
   node_numbers : numbers_ascend 0 (map (λ (r : NodeRecord). r.number.0) g.nodes) g.next_node ≡ true
-  node_numbers = first_true _ _ (first_true (are_numbers (map (λ (r : NodeRecord). r.number.0) g.nodes) g.next_node) (list_all is_node_record g.nodes) parts.0)
+  node_numbers = (and_parts _ _ (and_parts (are_numbers (map (λ (r : NodeRecord). r.number.0) g.nodes) g.next_node) (list_all is_node_record g.nodes) parts.0).0).0
 
   edge_numbers : numbers_ascend 0 (map (λ (r : EdgeRecord). r.number.0) g.edges) g.next_edge ≡ true
-  edge_numbers = first_true _ _ (first_true (are_numbers (map (λ (r : EdgeRecord). r.number.0) g.edges) g.next_edge) (list_all (is_edge_record g.nodes) g.edges) parts.1)
+  edge_numbers = (and_parts _ _ (and_parts (are_numbers (map (λ (r : EdgeRecord). r.number.0) g.edges) g.next_edge) (list_all (is_edge_record g.nodes) g.edges) parts.1).0).0
 
   least_of : (a : Option NodeRecord) (b : Option EdgeRecord) (e : Elem) → a ≡ find (λ r. not (node_fits t r)) g.nodes → b ≡ find (λ r. not (edge_fits g t r)) g.edges
       → option_or (option_map (λ (r : NodeRecord). elem.Node r.number) a) (option_map (λ (r : EdgeRecord). elem.Edge r.number) b) ≡ Some e → is_least_misfit g t e ≡ true

@@ -1,13 +1,5 @@
 -- Names at fault: a set of names answers like the list of them, and a walk that stops at the first name at fault answers it.
-use Rattle.std.proofs.Common.{◌≡◌, ℕ, Bool, true, false, cond, ◌||◌, List, [], ◌∷◌, ◌++◌, map, None, refl, sym, ap, ◌∙◌}
-use Rattle.std.specs.List.{list_any}
-use Rattle.std.specs.Prelude.{if◌then◌else◌}
-use Rattle.std.specs.Str.{bytes_eq}
-use Rattle.std.specs.Cmp.Lexicographic as texts
-use Rattle.std.specs.declared.string.String.{String}
-use Rattle.std.specs.String.{string_bytes, string_eq}
-use Rattle.std.proofs.lemmas.List.{map-append}
-use Rattle.indexmap.specs.IndexSet.{insert_key}
+use Rattle.std.proofs.Common.{◌≡◌, ℕ, Bool, false, cond, ◌||◌, List, [], ◌∷◌, ◌++◌, None, refl, sym, ap, ◌∙◌}
 use Rattle.gql_values3.specs.Texts.{same_text}
 use Rattle.gql_ast.specs.declared.graph_type.TypeElement.{TypeElement}
 use Rattle.gql_type.specs.Conformance.{contains_name}
@@ -16,41 +8,6 @@ use Rattle.gql_type.specs.BodyFaults.{repeated, alias_in, used_in, unknown, alia
 -- two lists that have the same names
 abbrev pub HaveSame : List (List ℕ) → List (List ℕ) → Type 0
 HaveSame xs ys = (x : List ℕ) → contains_name xs x ≡ contains_name ys x
-
-contains-append : (xs ys : List (List ℕ)) (x : List ℕ) → contains_name (xs ++ ys) x ≡ (contains_name xs x || contains_name ys x)
-contains-append [] ys x = refl
-contains-append (y ∷ xs) ys x = step (same_text x y) (contains_name (xs ++ ys) x) (contains_name xs x) (contains_name ys x) (contains-append xs ys x)
-  where
-    step : (a r b c : Bool) → r ≡ (b || c) → (a || r) ≡ ((a || b) || c)
-    step true r b c h = refl
-    step false r b c h = h
-
--- the keys of a set
-pub among_keys : {Y : Type 0} (x : List ℕ) (ks : List (String Y)) → list_any (λ k. bytes_eq x (string_bytes k)) ks ≡ contains_name (map string_bytes ks) x
-among_keys x [] = refl
-among_keys x (k ∷ ks) = ap (λ b. bytes_eq x (string_bytes k) || b) (among_keys x ks)
-
--- a name that is there twice is there as it was
-there_already : (a : Bool) (names : List (List ℕ)) (k x : List ℕ) → same_text x k ≡ a → contains_name names k ≡ true → contains_name names x ≡ (a || contains_name names x)
-there_already true names k x same there = ap (contains_name names) (texts.same_text x k (sym same)) ∙ there
-there_already false names k x same there = refl
-
--- a name behind others
-put_behind : (a b : Bool) → (b || (a || false)) ≡ (a || b)
-put_behind true true = refl
-put_behind true false = refl
-put_behind false true = refl
-put_behind false false = refl
-
-pub inserted : {Y : Type 0} (ks : List (String Y)) (k : String Y) → HaveSame (map string_bytes (insert_key string_eq ks k)) (string_bytes k ∷ map string_bytes ks)
-inserted ks k x = by (list_any (string_eq k) ks) (sym (among_keys (string_bytes k) ks))
-  where
-    by : (b : Bool) → contains_name (map string_bytes ks) (string_bytes k) ≡ b
-        → contains_name (map string_bytes (if b then ks else ks ++ k ∷ [])) x ≡ (same_text x (string_bytes k) || contains_name (map string_bytes ks) x)
-    by true there = there_already (same_text x (string_bytes k)) (map string_bytes ks) (string_bytes k) x refl there
-    by false there =
-        ap (λ names. contains_name names x) (map-append string_bytes ks (k ∷ [])) ∙ contains-append (map string_bytes ks) (string_bytes k ∷ []) x
-        ∙ put_behind (same_text x (string_bytes k)) (contains_name (map string_bytes ks) x)
 
 -- faults are told by which names are there
 pub same_repeated : (before others : List (List ℕ)) → HaveSame before others → (xs : List (List ℕ)) → repeated before xs ≡ repeated others xs

@@ -1,5 +1,6 @@
 -- Properties in order by name: one walk over them and the types finds what the two questions of conformance ask.
 use Rattle.std.proofs.Common.{◌≡◌, ℕ, Bool, true, false, not, ◌&&◌, ◌||◌, List, [], ◌∷◌, map, refl, sym, ap, ◌∙◌}
+use Rattle.std.proofs.Math.Bool.{and-false}
 use Rattle.std.specs.List.{list_all, list_any}
 use Rattle.std.specs.Prelude.{if◌then◌else◌}
 use Rattle.std.specs.declared.cmp.Ordering.{Ordering}
@@ -44,10 +45,6 @@ provided_behind p ps (t ∷ ts) h =
 abbrev Fits : List PropType → PropertyList → Bool
 Fits ts ps = list_all (is_allowed ts) ps && list_all (is_provided ps) ts
 
-no_right : (b : Bool) → (b && false) ≡ false
-no_right true = refl
-no_right false = refl
-
 or_none : (a b : Bool) → b ≡ false → (a || b) ≡ a
 or_none true b h = refl
 or_none false b h = h
@@ -85,7 +82,7 @@ walk_case Greater t ts p ps o h k both behind =
     let nothing : Fits ts (p ∷ ps) ≡ false = ap (λ (b : Bool). (b && list_all (is_allowed ts) ps) && list_all (is_provided (p ∷ ps)) ts) none in
     let no_more : Fits (t ∷ ts) (p ∷ ps) ≡ false =
     λ i. (((differ i && is_of_kind t.kind p.1) || none i) && list_all (is_allowed (t ∷ ts)) ps) && list_all (is_provided (p ∷ ps)) (t ∷ ts) in
-    left ∙ ap (λ (b : Bool). not t.required && b) (behind ∙ nothing) ∙ no_right (not t.required) ∙ sym no_more
+    left ∙ ap (λ (b : Bool). not t.required && b) (behind ∙ nothing) ∙ and-false (not t.required) ∙ sym no_more
 walk_case Equal t ts p ps o h k both behind =
     let e : t.name ≡ p.0 = exact_bytes t.name p.0 o in
     let same : same_text t.name p.0 ≡ true = tied t.name p.0 o in

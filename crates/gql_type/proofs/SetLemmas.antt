@@ -1,5 +1,6 @@
 -- Names in order by bytes: two lists of them are one set exactly where they are the same from the left.
 use Rattle.std.proofs.Common.{◌≡◌, ◌≢◌, ℕ, suc, Bool, true, false, ◌&&◌, ◌||◌, List, [], ◌∷◌, length, refl, sym, ap, ◌∙◌}
+use Rattle.std.proofs.Math.Bool.{and-false}
 use Rattle.std.specs.List.{list_all}
 use Rattle.std.specs.declared.cmp.Ordering.{Ordering}
 use Rattle.std.specs.declared.cmp.Ordering.TheVariants.{Less, Equal, Greater}
@@ -40,12 +41,8 @@ set_case Greater x y xs ys p h k more =
     let q : text_cmp y x ≡ Less = turned x y p in
     let none : contains_name (x ∷ xs) y ≡ false = λ i. apart y x q i || is_below y xs (lower y x xs q h) i in
     let left : same_names (x ∷ xs) (y ∷ ys) ≡ false = ap (λ (b : Bool). b && same_names xs ys) (apart_turned y x q) in
-    let right : same_set (x ∷ xs) (y ∷ ys) ≡ false = ap (λ (b : Bool). list_all (contains_name (y ∷ ys)) (x ∷ xs) && (b && list_all (contains_name (x ∷ xs)) ys)) none ∙ no_right (list_all (contains_name (y ∷ ys)) (x ∷ xs)) in
+    let right : same_set (x ∷ xs) (y ∷ ys) ≡ false = ap (λ (b : Bool). list_all (contains_name (y ∷ ys)) (x ∷ xs) && (b && list_all (contains_name (x ∷ xs)) ys)) none ∙ and-false (list_all (contains_name (y ∷ ys)) (x ∷ xs)) in
     left ∙ sym right
-  where
-    no_right : (b : Bool) → (b && false) ≡ false
-    no_right true = refl
-    no_right false = refl
 set_case Equal x y xs ys p h k more =
     let e : x ≡ y = exact_bytes x y p in
     let left : same_names (x ∷ xs) (y ∷ ys) ≡ same_set xs ys = ap (λ (b : Bool). b && same_names xs ys) (tied x y p) ∙ more in

@@ -5,8 +5,8 @@ ghost use Rattle.std.specs.Option.{option_copied};
 ghost use Rattle.gql_type.specs.Conformance.{contains_name};
 ghost use Rattle.gql_type.specs.BodyFaults.{alias_in, aliases_in, used_in, aliases_at_fault, wrong_aliases, first_name, repeated, unknown};
 
-use crate::name_set::NameSet;
 use gql_ast::{TypeBody, TypeElement};
+use gql_expr_checks::NameList;
 use gql_values3::{OutOfMemory, Text};
 use std::alloc::Global;
 
@@ -19,10 +19,10 @@ pub fn wrong_alias(alloc: Global, body: &TypeBody) -> Result<Option<&Text>, OutO
 }
 
 /// The aliases that are declared, wherever they stand.
-fn aliases_of(alloc: Global, elements: &[TypeElement]) -> Result<NameSet, OutOfMemory>
+fn aliases_of(alloc: Global, elements: &[TypeElement]) -> Result<NameList, OutOfMemory>
     ensures { IfOk result (λ known. (x : List ℕ) → contains_name known x ≡ contains_name (aliases_in elements.now) x) }
 {
-    let mut known = NameSet::new(alloc);
+    let mut known = NameList::new(alloc);
     for element in elements {
         declare(alloc, &mut known, element)?;
     }
@@ -30,7 +30,7 @@ fn aliases_of(alloc: Global, elements: &[TypeElement]) -> Result<NameSet, OutOfM
 }
 
 /// Adds the element's alias, where it has one.
-fn declare(alloc: Global, known: &mut NameSet, element: &TypeElement) -> Result<(), OutOfMemory>
+fn declare(alloc: Global, known: &mut NameList, element: &TypeElement) -> Result<(), OutOfMemory>
     ensures { OnOk result ((x : List ℕ) → contains_name known.new x ≡ contains_name (alias_in element.now ++ known.old) x) }
 {
     match element {
@@ -41,12 +41,12 @@ fn declare(alloc: Global, known: &mut NameSet, element: &TypeElement) -> Result<
 
 fn first_at_fault<'a>(
     alloc: Global,
-    known: &NameSet,
+    known: &NameList,
     elements: &'a [TypeElement],
 ) -> Result<Option<&'a Text>, OutOfMemory>
     ensures { IfOk result (λ alias. option_copied alias ≡ first_name (aliases_at_fault known.now [] elements.now)) }
 {
-    let mut before = NameSet::new(alloc);
+    let mut before = NameList::new(alloc);
     for element in elements {
         if let Some(alias) = fault_in(known, &before, element) {
             return Ok(Some(alias));
@@ -57,7 +57,7 @@ fn first_at_fault<'a>(
 }
 
 /// The element's first alias that is refused, behind some that are declared before.
-fn fault_in<'a>(known: &NameSet, before: &NameSet, element: &'a TypeElement) -> Option<&'a Text>
+fn fault_in<'a>(known: &NameList, before: &NameList, element: &'a TypeElement) -> Option<&'a Text>
     ensures { option_copied result ≡ first_name (repeated before.now (alias_in element.now) ++ unknown known.now (used_in element.now)) }
 {
     match element {

@@ -15,7 +15,6 @@ mod laws;
 mod matching;
 mod meaning;
 mod misfit;
-mod name_set;
 mod nodes;
 mod order;
 mod places;

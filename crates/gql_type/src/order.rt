@@ -1,13 +1,11 @@
 //! Which graph types are in order.
 
-ghost use Rattle.std.specs.Prelude.{◌≡◌, map};
+ghost use Rattle.std.specs.Prelude.{◌≡◌};
 ghost use Rattle.std.specs.List.{list_all};
-ghost use Rattle.gql_values3.specs.Texts.{texts_ascend, ascend_above};
 ghost use Rattle.gql_type.specs.GraphTypes.{is_content_type, is_node_type, is_edge_type, is_graph_type};
 
 use gql_graph::{EdgeType, GraphType, NodeType, PropType};
 use gql_values3::{Names, keys_ascend};
-use std::cmp::Ordering;
 
 /// Whether labels and names of properties are sets in order, and the ends of edge types are node types. It takes no memory.
 pub fn is_graph_type(kind: &GraphType) -> bool
@@ -44,22 +42,5 @@ fn is_edge_type(count: u64, kind: &EdgeType) -> bool
 fn is_content_type(labels: &Names, body: &[PropType]) -> bool
     ensures { result ≡ is_content_type labels.now body.now }
 {
-    keys_ascend(labels.as_slice()) && names_ascend(body)
-}
-
-/// Whether the names of the properties strictly ascend by bytes.
-fn names_ascend(body: &[PropType]) -> bool
-    ensures { result ≡ texts_ascend (map (λ t. t.name) body.now) }
-{
-    let Some((first, rest)) = body.split_first() else {
-        return true;
-    };
-    let mut low = &first.name;
-    for kind in rest {
-        if low.cmp(&kind.name) != Ordering::Less {
-            return false;
-        }
-        low = &kind.name;
-    }
-    true
+    keys_ascend(labels.as_slice()) && keys_ascend(body)
 }

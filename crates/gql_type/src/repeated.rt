@@ -4,8 +4,8 @@ ghost use Rattle.std.specs.Prelude.{◌≡◌, [], map, IfOk};
 ghost use Rattle.std.specs.Option.{option_copied};
 ghost use Rattle.gql_type.specs.BodyFaults.{content_in, names_given, repeated, repeated_names, first_name};
 
-use crate::name_set::NameSet;
 use gql_ast::{ElementBody, TypeBody, TypeElement, TypeProperty};
+use gql_expr_checks::NameList;
 use gql_values3::{OutOfMemory, Text};
 use std::alloc::Global;
 
@@ -48,7 +48,7 @@ fn repeated_in(alloc: Global, body: &ElementBody) -> Result<Option<&Text>, OutOf
 fn first_twice(alloc: Global, properties: &[TypeProperty]) -> Result<Option<&Text>, OutOfMemory>
     ensures { IfOk result (λ name. option_copied name ≡ first_name (repeated [] (map (λ p. p.name) properties.now))) }
 {
-    let mut before = NameSet::new(alloc);
+    let mut before = NameList::new(alloc);
     for property in properties {
         if before.contains(&property.name) {
             return Ok(Some(&property.name));

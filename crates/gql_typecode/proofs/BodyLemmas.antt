@@ -1,11 +1,10 @@
 -- The properties of a type: what is read was spelled, and what was spelled is read.
 use Rattle.std.proofs.Common.{◌≡◌, ℕ, Bool, true, false, cond, List, [], ◌∷◌, ◌++◌, map, Some, None, refl, ap, subst, ◌∙◌, append_assoc}
-use Rattle.std.specs.Int.{w64}
 use Rattle.gql_values3.specs.Texts.{texts_ascend}
 use Rattle.gql_values3.specs.declared.prop_kind.PropKind.{PropKind}
 use Rattle.gql_graph.specs.declared.graph_type.PropType.{PropType}
 use Rattle.gql_fields.specs.Spelling.{spelled, flag_spelled}
-use Rattle.gql_fields.specs.Machinery.Reading.{◌>>=◌, number_at, text_at, flag_at, items_at, counted_at}
+use Rattle.gql_fields.specs.Machinery.Reading.{◌>>=◌, text_at, flag_at, counted_at}
 use Rattle.gql_fields.proofs.FieldLemmas.{Takes, Takes-then, bind_some, when_some, text_takes, text_again}
 use Rattle.gql_fields.proofs.ItemLemmas.{IsSpelled, IsReadAgain, counted_takes, counted_again}
 use Rattle.gql_fields.proofs.ValueLemmas.{flag_takes, flag_again}
@@ -59,10 +58,10 @@ unfolding body_at
 body_again ts rest kept = rw (counted_again property_type_spelled IsKeptPropType property_type_at property_type_again ts rest (kept.few, kept.texts), kept.ascend) refl
 
 -- the properties behind their count, by the test of their names
-pub body_at-in_order : (bytes rest : List ℕ) (count : ℕ) (ts : List PropType) (after : List ℕ) → number_at w64 bytes ≡ Some (count, rest) → items_at property_type_at count rest ≡ Some (ts, after) → texts_ascend (names ts) ≡ true → body_at bytes ≡ Some (ts, after)
+pub body_at-in_order : (bytes : List ℕ) (ts : List PropType) (after : List ℕ) → counted_at property_type_at bytes ≡ Some (ts, after) → texts_ascend (names ts) ≡ true → body_at bytes ≡ Some (ts, after)
 unfolding body_at
-body_at-in_order bytes rest count ts after counted items ascend = rw (counted, items, ascend) refl
+body_at-in_order bytes ts after counted ascend = rw (counted, ascend) refl
 
-pub body_at-disorder : (bytes rest : List ℕ) (count : ℕ) (ts : List PropType) (after : List ℕ) → number_at w64 bytes ≡ Some (count, rest) → items_at property_type_at count rest ≡ Some (ts, after) → texts_ascend (names ts) ≡ false → body_at bytes ≡ None
+pub body_at-disorder : (bytes : List ℕ) (ts : List PropType) (after : List ℕ) → counted_at property_type_at bytes ≡ Some (ts, after) → texts_ascend (names ts) ≡ false → body_at bytes ≡ None
 unfolding body_at
-body_at-disorder bytes rest count ts after counted items disorder = rw (counted, items, disorder) refl
+body_at-disorder bytes ts after counted disorder = rw (counted, disorder) refl

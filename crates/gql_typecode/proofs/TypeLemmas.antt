@@ -1,5 +1,6 @@
 -- Node types, edge types and graph types: what is read was spelled, and what was spelled is read.
-use Rattle.std.proofs.Common.{◌≡◌, ℕ, ◌<◌, ◌^◌, Bool, true, false, not, cond, eqb, List, [], ◌∷◌, ◌++◌, length, Option, Some, None, Result, Ok, Err, refl, sym, ap, subst, ◌∙◌, append_assoc}
+use Rattle.std.proofs.Common.{◌≡◌, ℕ, ◌<◌, ◌^◌, Bool, not, cond, eqb, List, [], ◌∷◌, ◌++◌, length, Option, Some, None, Result, Ok, Err, refl, sym, ap, subst, ◌∙◌, append_assoc}
+use Rattle.std.proofs.Math.Bool.{not-not}
 use Rattle.std.specs.Prelude.{IfOk, MatchResult}
 use Rattle.std.specs.Int.{w64, to_be_bytes}
 use Rattle.std.specs.List.{flat_map}
@@ -58,10 +59,6 @@ AreKeptEnds e = (e.first < 2 ^ 64) × (e.second < 2 ^ 64)
 abbrev ends_with : Bool → ℕ → ℕ → TypeEnds
 ends_with undirected first second = record { directed = not undirected; first = first; second = second }
 
-not_twice : (b : Bool) → not (not b) ≡ b
-not_twice true = refl
-not_twice false = refl
-
 -- ends that are read were spelled
 ends_take : IsSpelled ends_spelled AreKeptEnds ends_at
 unfolding ends_at
@@ -74,7 +71,7 @@ ends_take bytes x fits e =
     let second = number_takes w64 (2 ^ 64) wide64 b.0.1 d.0.0 d.0.1 first.0.rest_fits d.1 in
     let places = Takes-then a.0.1 (to_be_bytes w64 b.0.0) b.0.1 (to_be_bytes w64 d.0.0) d.0.1 first.0 second.0 in
     let all = Takes-then bytes (flag_spelled a.0.0 ∷ []) a.0.1 (to_be_bytes w64 b.0.0 ++ to_be_bytes w64 d.0.0) d.0.1 flag places in
-    let whole : Takes bytes (ends_spelled (ends_with a.0.0 b.0.0 d.0.0)) d.0.1 = subst (λ (u : Bool). Takes bytes (flag_spelled u ∷ (to_be_bytes w64 b.0.0 ++ to_be_bytes w64 d.0.0)) d.0.1) (sym (not_twice a.0.0)) all in
+    let whole : Takes bytes (ends_spelled (ends_with a.0.0 b.0.0 d.0.0)) d.0.1 = subst (λ (u : Bool). Takes bytes (flag_spelled u ∷ (to_be_bytes w64 b.0.0 ++ to_be_bytes w64 d.0.0)) d.0.1) (sym (not-not a.0.0)) all in
     found_is (λ (y : TypeEnds × List ℕ). Takes bytes (ends_spelled y.0) y.1 × AreKeptEnds y.0) (ends_with a.0.0 b.0.0 d.0.0) d.0.1 x d.2 (whole, (first.1, second.1))
 
 -- those that were spelled are read
@@ -83,7 +80,7 @@ unfolding ends_at
 ends_again t rest kept =
     let behind : List ℕ = to_be_bytes w64 t.second ++ rest in
     ap (λ (y : List ℕ). ends_at (flag_spelled (not t.directed) ∷ y)) (append_assoc (to_be_bytes w64 t.first) (to_be_bytes w64 t.second) rest)
-    ∙ rw (flag_again (not t.directed) (to_be_bytes w64 t.first ++ behind), number_again w64 (2 ^ 64) wide64 t.first behind kept.0, number_again w64 (2 ^ 64) wide64 t.second rest kept.1, not_twice t.directed) refl
+    ∙ rw (flag_again (not t.directed) (to_be_bytes w64 t.first ++ behind), number_again w64 (2 ^ 64) wide64 t.first behind kept.0, number_again w64 (2 ^ 64) wide64 t.second rest kept.1, not-not t.directed) refl
 
 -- ---- edge types
 

@@ -8,10 +8,9 @@ ghost use Rattle.gql_typecode.specs.KeptTypes.{IsKeptType};
 ghost use Rattle.gql_typecode.specs.TypeOrder.{IsTypeInOrder};
 ghost use Rattle.gql_typecode.specs.Machinery.TypeReading.{graph_type_at, whole_type_at};
 
-use crate::edge_type::{edge_types_of, put_edge_types};
-use crate::node_type::{node_types_of, put_node_types};
+use crate::counted::{counted_of, put_counted};
 use gql_fields::Misread;
-use gql_graph::GraphType;
+use gql_graph::{EdgeType, GraphType, NodeType};
 use gql_values3::{Bytes, OutOfMemory};
 use std::alloc::Global;
 
@@ -45,8 +44,8 @@ fn whole_type_of(alloc: Global, bytes: &[u8]) -> Result<GraphType, Misread>
 fn graph_type_of(alloc: Global, bytes: &[u8]) -> Result<(GraphType, &[u8]), Misread>
     ensures { Gives (λ x. (x.0, x.1.now)) result (graph_type_at bytes.now) }
 {
-    let (nodes, rest) = node_types_of(alloc, bytes)?;
-    let (edges, rest) = edge_types_of(alloc, rest)?;
+    let (nodes, rest) = counted_of::<NodeType>(alloc, bytes)?;
+    let (edges, rest) = counted_of::<EdgeType>(alloc, rest)?;
     Ok((GraphType { nodes, edges }, rest))
 }
 
@@ -56,6 +55,6 @@ pub fn put_graph_type(out: &mut Bytes, kind: &GraphType) -> Result<(), OutOfMemo
     ensures written { OnOk result (out.new ≡ out.old ++ graph_type_spelled kind.now) }
     ensures kept { OnOk result (IsKeptType kind.now) }
 {
-    put_node_types(out, &kind.nodes)?;
-    put_edge_types(out, &kind.edges)
+    put_counted(out, &kind.nodes)?;
+    put_counted(out, &kind.edges)
 }

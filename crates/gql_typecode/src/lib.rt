@@ -6,6 +6,7 @@
 
 mod body;
 mod byte;
+mod counted;
 mod edge_type;
 mod graph_type;
 mod kind;

@@ -56,7 +56,7 @@ pub position-missing : (xs : List (List ℕ)) (t : List ℕ) → ((k : ℕ) → 
 position-missing xs t h = no_place (same_text t) xs (position_or_len_is (same_text t) xs (length xs) [] (omega arith) h (λ l. absurd (omega arith)))
 
 -- words that are the same
-same_is : (u w : List ℕ) → same_text u w ≡ true → u ≡ w
+pub same_is : (u w : List ℕ) → same_text u w ≡ true → u ≡ w
 same_is u w h = exact_bytes u w (equal_from_is_eq (order u w) (sym (same_text-order u w) ∙ h))
 
 -- a test that tells two words apart

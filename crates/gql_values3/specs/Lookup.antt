@@ -25,6 +25,11 @@ edge_of g e = find (λ r. r.number.0 == e.0) g.edges
 abbrev pub has_node : PropertyGraph → NodeId → Bool
 has_node g n = is_some (node_of g n)
 
+-- the graph has a node or an edge of this number
+abbrev pub has_element : PropertyGraph → Elem → Bool
+has_element g (elem.Node n) = is_some (node_of g n)
+has_element g (elem.Edge e) = is_some (edge_of g e)
+
 -- the endpoints of an edge, where the graph has the edge
 abbrev pub ends_of : PropertyGraph → EdgeId → Option Ends
 ends_of g e = option_map (λ r. r.ends) (edge_of g e)

@@ -3,14 +3,13 @@ use Rattle.std.specs.Prelude.{ℕ, Bool, true, not, ◌&&◌, List, [], ◌∷�
 use Rattle.std.specs.List.{list_all}
 use Rattle.gql_values3.specs.Meaning.{datum_of}
 use Rattle.gql_values3.specs.PropertyGraph.{PropertyGraph, is_storable}
-use Rattle.gql_values3.specs.Lookup.{ends_of, labels_of, properties_of}
+use Rattle.gql_values3.specs.Lookup.{ends_of, labels_of, properties_of, has_element}
 use Rattle.gql_values3.specs.declared.element.EdgeId.{EdgeId}
 use Rattle.gql_values3.specs.declared.element.Elem.{Elem}
 use Rattle.gql_values3.specs.declared.element.Elem.TheVariants as elem
 use Rattle.gql_values3.specs.declared.element.Ends.{Ends}
 use Rattle.gql_graph.specs.declared.change.Change.{Change}
 use Rattle.gql_graph.specs.declared.change.Change.TheVariants as change
-use Rattle.gql_ast.specs.ElementTests.{is_there}
 use Rattle.gql_change.specs.Storing.{PropertyList}
 use Rattle.gql_change.specs.Conflicts.{same_elem}
 use Rattle.gql_change.specs.AssignedGraph.{labels_after, properties_after}
@@ -40,7 +39,7 @@ act_fits (act.NoLabel l) = true
 
 -- the element is in the graph, and what it gets may be stored
 abbrev pub fits : PropertyGraph → Assignment → Bool
-fits g a = is_there g a.target && act_fits a.act
+fits g a = has_element g a.target && act_fits a.act
 
 abbrev pub all_fit : PropertyGraph → List Assignment → Bool
 all_fit g xs = list_all (fits g) xs

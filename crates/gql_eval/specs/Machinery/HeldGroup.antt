@@ -2,7 +2,7 @@
 use Rattle.std.specs.Prelude.{ℕ, List}
 use Rattle.gql_values3.specs.Datum.{Datum}
 use Rattle.gql_eval.specs.CowValue.{cow_datum}
-use Rattle.gql_eval.specs.Machinery.Program.{held_at}
+use Rattle.gql_eval.specs.Machinery.AtPlaces.{held_at}
 use Rattle.gql_eval.specs.declared.held_groups.HeldGroup.{HeldGroup}
 use Rattle.gql_eval.specs.declared.places.Places.{Places}
 use Rattle.gql_eval.specs.declared.scope.Scope.{Scope}

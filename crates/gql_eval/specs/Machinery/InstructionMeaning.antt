@@ -2,7 +2,7 @@
 use Rattle.std.specs.Prelude.{List}
 use Rattle.gql_ast.specs.Meaning.{tree_of}
 use Rattle.gql_eval.specs.CowValue.{cow_datum}
-use Rattle.gql_eval.specs.Machinery.Program.{Op, fixed, held_name, held_property, of_one, of_two, join_side, as_truth, join_all, join_any, skip_if, start_list, add_item, end_list, or_else, over_group}
+use Rattle.gql_eval.specs.Machinery.Steps.{Op, fixed, held_name, held_property, of_one, of_two, join_side, as_truth, join_all, join_any, skip_if, start_list, add_item, end_list, or_else, over_group}
 use Rattle.gql_eval.specs.Machinery.Turned.{turned}
 use Rattle.gql_eval.specs.declared.instruction.Instruction.{Instruction}
 use Rattle.gql_eval.specs.declared.instruction.Instruction.TheVariants as instruction

@@ -5,19 +5,12 @@ use Rattle.gql_values3.specs.declared.table.ColumnKind.{ColumnKind}
 use Rattle.gql_values3.specs.Meaning.{datum_of}
 use Rattle.gql_ast.specs.Scope.{Scope as Entries, Entry, row_scope, holds_group}
 use Rattle.gql_eval.specs.Bound.{match_scope}
-use Rattle.gql_eval.specs.declared.scope.Header.{Header}
-use Rattle.gql_eval.specs.declared.scope.Header.TheVariants as header
 use Rattle.gql_eval.specs.declared.scope.Item.{Item}
 use Rattle.gql_eval.specs.declared.scope.Scope.{Scope}
 
 -- a name and the value that it stands for
 abbrev pub item_entry : Item → Entry
 item_entry i = record { name = i.name.now; is_group = i.is_group; datum = datum_of i.value.now }
-
--- the columns
-abbrev pub columns_of : Header → List (List ℕ × ColumnKind)
-columns_of (header.Listed cs) = cs.now
-columns_of (header.Indexed h) = h.now
 
 -- the entry of the column of a place, where the row has a value for it
 abbrev pub column_entry : List (List ℕ × ColumnKind) → List Datum → ℕ → Option Entry
@@ -28,7 +21,7 @@ column_entry (c ∷ cs) (d ∷ ds) (suc i) = column_entry cs ds i
 
 -- the row under its columns, and then the names of a match
 unfoldable pub rest_of : Scope → Entries
-rest_of s = row_scope (columns_of s.header) (map datum_of s.row.now) ++ match_scope s.names.now s.bound.now
+rest_of s = row_scope s.columns.now (map datum_of s.row.now) ++ match_scope s.names.now s.bound.now
 
 -- the items in front, and then the rest
 unfoldable pub scope_of : Scope → Entries

@@ -11,18 +11,17 @@ use Rattle.gql_lexer.specs.SymbolPlaces.{opening_brace, colon}
 use Rattle.gql_lexer.specs.WordPlaces.{WHERE}
 use Rattle.gql_front.specs.Reading.{◌>>=◌, Reader, is_sign, is_word, name_in, any_name_in, after, op_at, maybe, opted}
 use Rattle.gql_parts.specs.PartWords.{is_colon}
-use Rattle.gql_parts.specs.Machinery.PartReaders.{read_value, read_labels, led, listed_to_brace}
+use Rattle.gql_parts.specs.Machinery.PartReaders.{read_value, read_labels, named_value_of, led, listed_to_brace}
 
 -- [WHERE Expr]
 unfoldable pub where_of : Reader (Option Expr)
 where_of ts = led (is_word WHERE) read_value ts
 
+abbrev pub as_map_item : List ℕ → Expr → MapItem
+as_map_item x e = record { name = x; value = e }
+
 unfoldable pub map_item_of : Reader MapItem
-map_item_of ts = do
-  x ← op_at any_name_in ts
-  a ← after (is_sign colon) x.1
-  e ← read_value a
-  Some (record { name = x.0; value = e.0 }, e.1)
+map_item_of ts = named_value_of any_name_in colon as_map_item ts
 
 -- [list(Any ":" Expr)] "}"
 unfoldable pub map_of : Reader (List MapItem)

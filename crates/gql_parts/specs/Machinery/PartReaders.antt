@@ -1,12 +1,12 @@
 -- PartReaders: reading what productions are made of.
-use Rattle.std.specs.Prelude.{List, [], ◌∷◌, Bool, Option, Some, None}
+use Rattle.std.specs.Prelude.{ℕ, List, [], ◌∷◌, Bool, Option, Some, None}
 use Rattle.gql_lexer.specs.declared.lexeme.Lexeme.{Lexeme}
 use Rattle.gql_ast.specs.LabelMeaning.{label_expr_of}
 use Rattle.gql_ast.specs.Meaning.{expr_of}
 use Rattle.gql_ast.specs.declared.expr.Expr.{Expr}
 use Rattle.gql_ast.specs.declared.label.LabelExpr.{LabelExpr}
 use Rattle.gql_lexer.specs.SymbolPlaces.{closing_brace}
-use Rattle.gql_front.specs.Reading.{◌>>=◌, Reader, is_sign, after, opted, step, sequence}
+use Rattle.gql_front.specs.Reading.{◌>>=◌, Reader, is_sign, after, op_at, opted, step, sequence}
 use Rattle.gql_exprs.specs.Machinery.LabelReaders.{read_label}
 use Rattle.gql_exprs.specs.Machinery.LeafReaders.{comma_op}
 use Rattle.gql_exprs.specs.Machinery.Readers.{read_expr}
@@ -16,6 +16,20 @@ unfoldable pub read_value : Reader Expr
 read_value ts = do
   e ← read_expr ts
   Some (expr_of e.0, e.1)
+
+-- a symbol, and the expression behind it as the value of this name
+abbrev pub value_behind : ℕ → List ℕ → Reader (List ℕ × Expr)
+value_behind sign x ts = do
+  a ← after (is_sign sign) ts
+  e ← read_value a
+  Some ((x, e.0), e.1)
+
+-- a name, a symbol, and the expression whose value the name gets
+abbrev pub named_value_of : {A : Type 0} → (Lexeme → Option (List ℕ)) → ℕ → (List ℕ → Expr → A) → Reader A
+named_value_of says sign make ts = do
+  x ← op_at says ts
+  v ← value_behind sign x.0 x.1
+  Some (make v.0.0 v.0.1, v.1)
 
 -- a label expression, whose meaning is read
 unfoldable pub read_labels : Reader LabelExpr

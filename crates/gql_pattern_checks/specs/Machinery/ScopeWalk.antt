@@ -11,7 +11,7 @@ use Rattle.gql_expr_checks.specs.Refusals.{refusal_of_first, misuse_if}
 use Rattle.gql_expr_checks.specs.Repeated.{is_among}
 use Rattle.gql_norm.specs.NormalPattern.{ElementPattern, Part, Node, Edge, Concat, Union, Alt, Quant, Opt, Scope, Sides, NoSide, Side, NormalPath, NormalPattern}
 use Rattle.gql_norm.specs.PredicateSpot.{tree_in, trees_in}
-use Rattle.gql_pattern_checks.specs.Machinery.NameList.{with_name}
+use Rattle.gql_expr_checks.specs.Machinery.NameList.{with_name}
 use Rattle.gql_pattern_checks.specs.Machinery.Scopes.{no_names, with_variable_of, with_part, with_paths, known_columns}
 use Rattle.gql_pattern_checks.specs.declared.scope.Names.{Names}
 use Rattle.gql_pattern_checks.specs.declared.scoped.ScopeQuestion.{ScopeQuestion}

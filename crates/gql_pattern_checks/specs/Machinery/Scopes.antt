@@ -5,7 +5,7 @@ use Rattle.gql_values3.specs.declared.table.ColumnKind.TheVariants as kind
 use Rattle.gql_ast.specs.ClauseColumns.{ColumnList}
 use Rattle.gql_expr_checks.specs.Repeated.{is_among}
 use Rattle.gql_norm.specs.NormalPattern.{Part, Node, Edge, Concat, Union, Alt, Quant, Opt, Scope, Sides, NoSide, Side, NormalPath}
-use Rattle.gql_pattern_checks.specs.Machinery.NameList.{with_name}
+use Rattle.gql_expr_checks.specs.Machinery.NameList.{with_name}
 use Rattle.gql_pattern_checks.specs.declared.scope.Names.{Names}
 
 -- nothing

@@ -9,22 +9,21 @@ use Rattle.gql_ast.specs.declared.clause.For.{For}
 use Rattle.gql_ast.specs.declared.clause.LetItem.{LetItem}
 use Rattle.gql_lexer.specs.SymbolPlaces.{equal}
 use Rattle.gql_lexer.specs.WordPlaces.{IN, WHERE, WITH}
-use Rattle.gql_front.specs.Reading.{◌>>=◌, Reader, is_sign, is_word, name_in, after, op_at}
+use Rattle.gql_front.specs.Reading.{◌>>=◌, Reader, is_word, name_in, after, op_at}
 use Rattle.gql_statements.specs.declared.clause_word.ClauseWord.{ClauseWord}
 use Rattle.gql_statements.specs.declared.clause_word.ClauseWord.TheVariants as begins
 use Rattle.gql_statements.specs.ClauseWords.{clause_word}
 use Rattle.gql_statements.specs.PartWords.{counting_word}
-use Rattle.gql_parts.specs.Machinery.PartReaders.{read_value, led, past, listed}
+use Rattle.gql_parts.specs.Machinery.PartReaders.{read_value, named_value_of, led, past, listed}
 use Rattle.gql_statements.specs.Machinery.PageReaders.{order_page_of, skip_page_of, limit_page_of}
 use Rattle.gql_statements.specs.Machinery.MatchReaders.{match_of, optional_match_of}
 use Rattle.gql_statements.specs.Machinery.ChangeReaders.{change_behind}
 
+abbrev pub as_let_item : List ℕ → Expr → LetItem
+as_let_item x e = record { name = x; value = e }
+
 unfoldable pub let_item_of : Reader LetItem
-let_item_of ts = do
-  x ← op_at name_in ts
-  a ← after (is_sign equal) x.1
-  e ← read_value a
-  Some (record { name = x.0; value = e.0 }, e.1)
+let_item_of ts = named_value_of name_in equal as_let_item ts
 
 unfoldable pub let_of : Reader (List LetItem)
 let_of = listed let_item_of

@@ -5,12 +5,12 @@ use Rattle.gql_ast.specs.declared.statement.SessionStatement.{SessionStatement}
 use Rattle.gql_ast.specs.declared.statement.SessionStatement.TheVariants as session
 use Rattle.gql_lexer.specs.SymbolPlaces.{equal}
 use Rattle.gql_lexer.specs.WordPlaces.{VALUE}
-use Rattle.gql_front.specs.Reading.{◌>>=◌, Reader, is_sign, is_word, name_in, after, op_at}
+use Rattle.gql_front.specs.Reading.{◌>>=◌, Reader, is_word, name_in, after, op_at}
 use Rattle.gql_statements.specs.declared.session_word.SessionWord.{SessionWord}
 use Rattle.gql_statements.specs.declared.session_word.SessionWord.TheVariants as says
 use Rattle.gql_statements.specs.SessionWords.{session_word}
 use Rattle.gql_statements.specs.PartWords.{param_in}
-use Rattle.gql_parts.specs.Machinery.PartReaders.{read_value}
+use Rattle.gql_parts.specs.Machinery.PartReaders.{named_value_of}
 use Rattle.gql_statements.specs.Machinery.GraphReaders.{after_graph}
 
 -- behind SESSION SET [PROPERTY] GRAPH
@@ -23,10 +23,7 @@ set_graph_of ts = do
 unfoldable pub set_value_of : Reader SessionStatement
 set_value_of ts = do
   a ← after (is_word VALUE) ts
-  x ← op_at param_in a
-  b ← after (is_sign equal) x.1
-  e ← read_value b
-  Some (session.SetValue x.0 e.0, e.1)
+  named_value_of param_in equal session.SetValue a
 
 abbrev pub graph_or_value : List Lexeme → Option (List Lexeme) → Option (SessionStatement × List Lexeme)
 graph_or_value ts (Some a) = set_graph_of a

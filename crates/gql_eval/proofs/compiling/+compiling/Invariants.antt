@@ -2,9 +2,8 @@ use Rattle.std.proofs.Common.{◌≡◌, ◌++◌, ◌+◌, ◌*◌, max, map}
 use Rattle.gql_ast.specs.Meaning.{tree_of, link_of}
 use Rattle.gql_ast.specs.Machinery.Height.{height_of, highest, highest_link}
 use Rattle.gql_eval.specs.Machinery.InstructionMeaning.{program_of}
-use Rattle.gql_eval.specs.Machinery.Program.{compiled_items, compiled_others, compiled_chain, compiled_all, compiled_any}
-use Rattle.gql_eval.specs.Machinery.ScopeMeaning.{columns_of}
-use Rattle.gql_eval.proofs.PartLemmas.{parts_from, sides_from}
+use Rattle.gql_eval.specs.Machinery.Compiled.{compiled_items, compiled_others, compiled_chain, compiled_all, compiled_any}
+use Rattle.gql_ast.proofs.PartLemmas.{parts_from, sides_from}
 use Rattle.gql_eval.proofs.compiling.+compiling.Given as goal
 
 abbrev pub decreases-compile : goal.decreases-compile
@@ -32,13 +31,13 @@ abbrev pub decreases-put_any_side : goal.decreases-put_any_side
 decreases-put_any_side l = 4 * height_of (tree_of l.side.now) + 1
 
 abbrev pub invariant-chain-loop-i : goal.invariant-chain-loop-i
-invariant-chain-loop-i l = program_of l.program.items ≡ compiled_chain (columns_of l.fn.header) l.names l.params (sides_from l.steps l.i) ++ program_of l.fn.program.items
+invariant-chain-loop-i l = program_of l.program.items ≡ compiled_chain l.columns l.names l.params (sides_from l.steps l.i) ++ program_of l.fn.program.items
 
 abbrev pub invariant-all_sides-loop-i : goal.invariant-all_sides-loop-i
-invariant-all_sides-loop-i l = program_of l.program.items ≡ compiled_all (columns_of l.fn.header) l.names l.params (sides_from l.steps l.i) ++ program_of l.fn.program.items
+invariant-all_sides-loop-i l = program_of l.program.items ≡ compiled_all l.columns l.names l.params (sides_from l.steps l.i) ++ program_of l.fn.program.items
 
 abbrev pub invariant-any_sides-loop-i : goal.invariant-any_sides-loop-i
-invariant-any_sides-loop-i l = program_of l.program.items ≡ compiled_any (columns_of l.fn.header) l.names l.params (sides_from l.steps l.i) ++ program_of l.fn.program.items
+invariant-any_sides-loop-i l = program_of l.program.items ≡ compiled_any l.columns l.names l.params (sides_from l.steps l.i) ++ program_of l.fn.program.items
 
 abbrev pub decreases-list : goal.decreases-list
 decreases-list l = 4 * highest (map tree_of l.parts.now) + 2
@@ -53,7 +52,7 @@ abbrev pub decreases-over_group : goal.decreases-over_group
 decreases-over_group l = 4 * height_of (tree_of l.part.now) + 1
 
 abbrev pub invariant-items-loop-i : goal.invariant-items-loop-i
-invariant-items-loop-i l = program_of l.program.items ≡ compiled_items (columns_of l.fn.header) l.names l.params (parts_from l.parts l.i) ++ program_of l.fn.program.items
+invariant-items-loop-i l = program_of l.program.items ≡ compiled_items l.columns l.names l.params (parts_from l.parts l.i) ++ program_of l.fn.program.items
 
 abbrev pub invariant-others-loop-i : goal.invariant-others-loop-i
-invariant-others-loop-i l = program_of l.program.items ≡ compiled_others (columns_of l.fn.header) l.names l.params (parts_from l.parts l.i) ++ program_of l.fn.program.items
+invariant-others-loop-i l = program_of l.program.items ≡ compiled_others l.columns l.names l.params (parts_from l.parts l.i) ++ program_of l.fn.program.items

@@ -1,7 +1,7 @@
 use Rattle.std.proofs.Common.{◌≡◌}
-use Rattle.gql_eval.specs.Machinery.Program.{constants_of}
+use Rattle.gql_eval.specs.Machinery.Compiled.{constants_of}
 use Rattle.gql_eval.proofs.ConstantLemmas.{known_behind}
-use Rattle.gql_eval.proofs.PartLemmas.{parts_from}
+use Rattle.gql_ast.proofs.PartLemmas.{parts_from}
 use Rattle.gql_eval.proofs.constants.constants.Given as goal
 
 abbrev pub invariant-loop-i : goal.invariant-loop-i

@@ -1,7 +1,8 @@
 use Rattle.std.proofs.Common.{◌≡◌, ◌∙◌, ◌-◌, ◌<◌, suc, ap, sym, length, take, arith}
 use Rattle.std.specs.Prelude.{find}
 use Rattle.gql_eval.specs.Machinery.InstructionMeaning.{op_of, program_of}
-use Rattle.gql_eval.specs.Machinery.Program.{is_group_at, name_held, names_held}
+use Rattle.gql_eval.specs.Machinery.AtPlaces.{is_group_at}
+use Rattle.gql_eval.specs.Machinery.Steps.{name_held, names_held}
 use Rattle.gql_eval.proofs.HeldNameLemmas.{found_here, found_not, found_none}
 use Rattle.gql_eval.proofs.TurnedLemmas.{turned_step}
 use Rattle.gql_eval.proofs.held_groups.first_group.Goals as goal

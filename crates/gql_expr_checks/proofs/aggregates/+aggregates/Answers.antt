@@ -4,7 +4,7 @@ use Rattle.gql_ast.specs.Projections.{has_none}
 use Rattle.gql_ast.specs.RowAggregates.{row_aggregates, row_aggregates_of, row_aggregates_in}
 use Rattle.gql_ast.proofs.HeightLemmas.{height_of_le-highest, link_height_of_le-highest_link}
 use Rattle.gql_expr_checks.proofs.FirstLemmas.{some_in_two, or_first, or_second}
-use Rattle.gql_expr_checks.proofs.PartLemmas.{parts_from, sides_from, parts_step, sides_step}
+use Rattle.gql_ast.proofs.PartLemmas.{parts_from, sides_from, parts_step, sides_step}
 use Rattle.gql_expr_checks.proofs.aggregates.+aggregates.Goals as goal
 
 pub any_has_aggregate-has_aggregate-requires : goal.any_has_aggregate-has_aggregate-requires

@@ -3,7 +3,7 @@ use Rattle.gql_ast.specs.Projections.{has_none}
 use Rattle.gql_ast.specs.RowAggregates.{row_aggregates_of, row_aggregates_in}
 use Rattle.gql_ast.specs.Meaning.{tree_of, link_of}
 use Rattle.gql_ast.specs.Machinery.Height.{height_of, highest, highest_link}
-use Rattle.gql_expr_checks.proofs.PartLemmas.{parts_from, sides_from}
+use Rattle.gql_ast.proofs.PartLemmas.{parts_from, sides_from}
 use Rattle.gql_expr_checks.proofs.aggregates.+aggregates.Given as goal
 
 abbrev pub decreases-has_aggregate : goal.decreases-has_aggregate

@@ -3,7 +3,7 @@ use Rattle.gql_expr_checks.specs.ExprMisuses.{misused_any, misused_side}
 use Rattle.gql_expr_checks.specs.Machinery.Places.{columns_at, place_of}
 use Rattle.gql_ast.specs.Meaning.{tree_of, link_of}
 use Rattle.gql_ast.specs.Machinery.Height.{height_of, highest, highest_link}
-use Rattle.gql_expr_checks.proofs.PartLemmas.{parts_from, sides_from}
+use Rattle.gql_ast.proofs.PartLemmas.{parts_from, sides_from}
 use Rattle.gql_expr_checks.proofs.misuses.+misuses.Given as goal
 
 abbrev pub decreases-is_misused : goal.decreases-is_misused

@@ -5,7 +5,7 @@ use Rattle.gql_expr_checks.proofs.FirstLemmas.{first_in_two}
 use Rattle.gql_ast.specs.Meaning.{tree_of, link_of}
 use Rattle.gql_ast.proofs.HeightLemmas.{height_of_le-highest, link_height_of_le-highest_link}
 use Rattle.gql_expr_checks.specs.First.{first}
-use Rattle.gql_expr_checks.proofs.PartLemmas.{parts_from, sides_from, parts_step, sides_step}
+use Rattle.gql_ast.proofs.PartLemmas.{parts_from, sides_from, parts_step, sides_step}
 use Rattle.gql_expr_checks.proofs.outside.+outside.Goals as goal
 
 pub outside_parts-name_outside-requires : goal.outside_parts-name_outside-requires

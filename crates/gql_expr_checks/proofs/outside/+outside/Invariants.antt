@@ -3,7 +3,7 @@ use Rattle.gql_expr_checks.specs.NamesOutside.{names_outside_each, names_outside
 use Rattle.gql_expr_checks.specs.First.{first}
 use Rattle.gql_ast.specs.Meaning.{tree_of, link_of}
 use Rattle.gql_ast.specs.Machinery.Height.{height_of, highest, highest_link}
-use Rattle.gql_expr_checks.proofs.PartLemmas.{parts_from, sides_from}
+use Rattle.gql_ast.proofs.PartLemmas.{parts_from, sides_from}
 use Rattle.gql_expr_checks.proofs.outside.+outside.Given as goal
 
 abbrev pub decreases-name_outside : goal.decreases-name_outside

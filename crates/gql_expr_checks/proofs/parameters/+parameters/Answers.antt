@@ -5,7 +5,7 @@ use Rattle.gql_expr_checks.proofs.FirstLemmas.{unset_in_two}
 use Rattle.gql_ast.specs.Meaning.{tree_of, link_of}
 use Rattle.gql_ast.proofs.HeightLemmas.{height_of_le-highest, link_height_of_le-highest_link}
 use Rattle.gql_expr_checks.specs.First.{first}
-use Rattle.gql_expr_checks.proofs.PartLemmas.{parts_from, sides_from, parts_step, sides_step}
+use Rattle.gql_ast.proofs.PartLemmas.{parts_from, sides_from, parts_step, sides_step}
 use Rattle.gql_expr_checks.proofs.parameters.+parameters.Goals as goal
 
 pub unset_in_parts-unset_parameter-requires : goal.unset_in_parts-unset_parameter-requires

@@ -3,7 +3,7 @@ use Rattle.gql_expr_checks.specs.ExprParameters.{unset, parameters_in_each, para
 use Rattle.gql_expr_checks.specs.First.{first}
 use Rattle.gql_ast.specs.Meaning.{tree_of, link_of}
 use Rattle.gql_ast.specs.Machinery.Height.{height_of, highest, highest_link}
-use Rattle.gql_expr_checks.proofs.PartLemmas.{parts_from, sides_from}
+use Rattle.gql_ast.proofs.PartLemmas.{parts_from, sides_from}
 use Rattle.gql_expr_checks.proofs.parameters.+parameters.Given as goal
 
 abbrev pub decreases-unset_parameter : goal.decreases-unset_parameter

@@ -9,6 +9,7 @@ returns-clause-all c =
     let told = c.in_ok-records.ensures in record {
       rows = told.0;
       before = File c.in_ok-own.own c.establish.new.conn;
+      store = (c.in_ok-conn.conn, c.in_ok-conn.ensures.new, λ clean. c.in_ok-establish.ensures.made clean);
       selected = (refl, λ clean. (told.0, told.2 clean, IsPermutation-refl told.0));
       are = told.1;
     }

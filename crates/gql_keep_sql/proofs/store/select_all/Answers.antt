@@ -24,7 +24,7 @@ rows-preserved g c =
       same_reference = moved.same_reference ∙ c.rows.invariant.same_reference;
       read = (
         before.0 ++ row ∷ [],
-        rw c.in_ok-push.ensures.items (all_zipped_more HasRecord before.0 c.rows.records.items row c.in_ok-record_of.field-0 before.1 c.in_ok-record_of.ensures),
+        rw c.in_ok-push.ensures.items (all_zipped_more HasRecord before.0 c.rows.records.items row c.in_ok-record_of.field-0 before.1 c.in_ok-record_of.ensures.read),
         λ clean. read_one g.S.Store (codes "SELECT key, value FROM record") old mid new before.0 row _ c.in-Some.ensures (before.2 (omega (arith, moved.survives.clean))) (moved.ok clean) (moved.same clean) (moved.hands clean),
       );
     }

@@ -1,9 +1,11 @@
 -- The puts and then the drops ran in one transaction, which is committed as a whole.
-use Rattle.std.proofs.Common.{◌≡◌, sym, subst, arith, rules}
+use Rattle.std.proofs.Common.{◌≡◌, refl, sym, subst, arith, rules}
 use Rattle.sqlite.specs.State.{HasCleanDisk}
 use Rattle.sqlite.specs.Held.{state}
+use Rattle.sqlite.specs.Steps.{FailsToCommit}
 use Rattle.gql_keep_sql.specs.Transaction.{Rewrote}
-use Rattle.gql_keep_sql.proofs.TransactionLemmas.{rewrote, rewrites_or_not}
+use Rattle.gql_keep_sql.proofs.RefusalLemmas.{fails_as}
+use Rattle.gql_keep_sql.proofs.TransactionLemmas.{rewrote, rewrites_or_not, put_refused, drop_refused, commit_refused}
 use Rattle.gql_keep_sql.proofs.transaction.write.Goals as goal
 
 pub returns-clause-all : goal.returns-clause-all
@@ -31,3 +33,34 @@ returns-in_err-commit-clause-crash g c =
     (record { ran = c.in_ok-put_all.ensures.ran; survives = c.put_all.ensures.survives }) (record { ran = c.in_ok-drop_all.ensures.ran; survives = c.drop_all.ensures.survives })
     c.commit.new.self.0 c.commit.ensures.survives in
     search rules
+
+pub returns-in_err-put_all-clause-refused : goal.returns-in_err-put_all-clause-refused
+returns-in_err-put_all-clause-refused g c =
+    let begun = c.transaction-transaction.ensures.begun in
+    fails_as _ c.in_err-put_all.field-0.0 _ (search rules)
+    (λ other clean.
+    let end : HasCleanDisk (state g.S.Store c.drop-transaction.new.self.0) = search rules in
+    put_refused g.S.Store c.args.puts.now c.args.drops.now c.args.conn.now _ begun _ (c.in_err-put_all.ensures.refused (omega (arith, end, c.drop-transaction.ensures.survives.clean)) (rw begun refl)) c.conn-1.given.0 clean)
+
+pub returns-in_err-drop_all-clause-refused : goal.returns-in_err-drop_all-clause-refused
+returns-in_err-drop_all-clause-refused g c =
+    let begun = c.transaction-transaction.ensures.begun in
+    fails_as _ c.in_err-drop_all.field-0.0 _ (search rules)
+    (λ other clean.
+    let end : HasCleanDisk (state g.S.Store c.drop-transaction-in_err-drop_all.new.self.0) = search rules in
+    let last : HasCleanDisk (state g.S.Store c.drop_all.new.transaction.conn.now) = omega (arith, end, c.drop-transaction-in_err-drop_all.ensures.survives.clean) in
+    let put = c.in_ok-put_all.ensures.ran (omega (arith, last, c.drop_all.ensures.survives.clean)) (rw begun refl) in
+    drop_refused g.S.Store c.args.puts.now c.args.drops.now c.args.conn.now _ begun _ c.put_all.new.transaction.conn.now put.0 (c.in_err-drop_all.ensures.refused last put.1) c.conn-in_err-drop_all-1.given.0 clean)
+
+pub returns-in_err-commit-clause-refused : goal.returns-in_err-commit-clause-refused
+returns-in_err-commit-clause-refused g c =
+    let begun = c.transaction-transaction.ensures.begun in
+    fails_as _ c.in_err-commit.field-0.0 _ (search rules)
+    (λ other clean.
+    let end : HasCleanDisk (state g.S.Store c.commit.new.self.0) = search rules in
+    let last : HasCleanDisk (state g.S.Store c.drop_all.new.transaction.conn.now) = omega (arith, end, c.commit.ensures.survives.clean) in
+    let put = c.in_ok-put_all.ensures.ran (omega (arith, last, c.drop_all.ensures.survives.clean)) (rw begun refl) in
+    let dropped = c.in_ok-drop_all.ensures.ran last put.1 in
+    let same : c.commit.new.self.0 ≡ c.conn-2-1.given.0 = search rules in
+    commit_refused g.S.Store c.args.puts.now c.args.drops.now c.args.conn.now _ begun _ c.put_all.new.transaction.conn.now c.drop_all.new.transaction.conn.now c.conn-2-1.given.0 put.0 dropped.0
+    (subst (λ h. FailsToCommit (state g.S.Store c.drop_all.new.transaction.conn.now) (state g.S.Store h) c.in_err-commit.field-0.0) same (c.in_err-commit.ensures.err end)) clean)

@@ -1,9 +1,8 @@
-use Rattle.std.proofs.Common.{List, [], Ok, refl, sym, subst}
+use Rattle.std.proofs.Common.{List, [], sym, subst}
 use Rattle.std.proofs.lemmas.Result.{err_from_is_err_and}
 use Rattle.gql_ast.specs.declared.clause.Clause.{Clause}
-use Rattle.gql_linear.specs.Gives.{MayRefuse}
-use Rattle.gql_linear.specs.QueryRun.{Working, beginning, MayRun}
 use Rattle.gql_linear.specs.SoundQuery.{MatchesAreSound}
+use Rattle.gql_linear.proofs.QuerySteps.{query_runs, query_refused}
 use Rattle.gql_linear.proofs.query.run_query.Goals as goal
 
 pub run_clauses-requires-clause-sound : goal.run_clauses-requires-clause-sound
@@ -11,17 +10,11 @@ run_clauses-requires-clause-sound g c = λ lives outlived. subst (λ (cs : List 
 
 pub returns : goal.returns
 returns g c =
-    let before = g.G.View.graph c.args.graph.now in
     let after = g.G.View.graph c.run_clauses.new.graph in
-    let t : Working = record { graph = after; columns = c.in_ok-columns.columns; rows = c.in_ok-columns.rows } in (
-      t,
-      subst (λ (cs : List Clause). MayRun c.args.params.now (beginning before) cs (Ok t)) c.as_slice.ensures c.in_ok-columns.ensures,
-      c.in_ok-answered.ensures after,
-      refl,
-    )
+    query_runs c.args.params.now (g.G.View.graph c.args.graph.now) c.args.query.now _ c.as_slice.ensures (record { graph = after; columns = c.in_ok-columns.columns; rows = c.in_ok-columns.rows }) c.in_ok-answered.field-0 c.in_ok-columns.ensures
+    (c.in_ok-answered.ensures after)
 
 pub returns-in_err-columns : goal.returns-in_err-columns
 returns-in_err-columns g c =
-    let before = g.G.View.graph c.args.graph.now in
     let p = err_from_is_err_and c.from_residual.result c.from_residual.ensures.1 in
-    rw (p.1, p.2) (subst (λ (cs : List Clause). MayRefuse (MayRun c.args.params.now (beginning before) cs) c.in_err-columns.field-0.0) c.as_slice.ensures c.in_err-columns.ensures)
+    rw (p.1, p.2) (query_refused c.args.params.now (g.G.View.graph c.args.graph.now) c.args.query.now _ c.as_slice.ensures c.in_err-columns.field-0.0 c.in_err-columns.ensures)

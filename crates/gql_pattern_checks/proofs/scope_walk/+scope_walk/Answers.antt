@@ -2,7 +2,7 @@ use Rattle.std.proofs.Common.{◌<◌, ◌+◌, ◌∙◌, ◌∷◌, false, len
 use Rattle.gql_norm.specs.NormalData.{part_data}
 use Rattle.gql_norm.proofs.HeightLemmas.{height_le-highest_part}
 use Rattle.gql_expr_checks.proofs.RefusalLemmas.{gives_fault, stops, goes_on}
-use Rattle.gql_pattern_checks.specs.Machinery.Scopes.{with_part}
+use Rattle.gql_pattern_checks.specs.Machinery.Scopes.{with_part, with_parts}
 use Rattle.gql_pattern_checks.specs.Machinery.ScopeWalk.{refused_in, refused_in_row}
 use Rattle.gql_pattern_checks.specs.Machinery.Marks.{cut_to}
 use Rattle.gql_pattern_checks.proofs.MarkLemmas.{parts_cut}
@@ -63,5 +63,7 @@ check_steps-returns-in_err-check_step-clause-faults t c =
 
 pub check_row-returns-clause-kept : goal.check_row-returns-clause-kept
 check_row-returns-clause-kept t c =
-    c.cut.ensures ∙ (λ i. cut_to (c.marks-marks.ensures i) (c.in_ok-check_first_steps.ensures.added i))
+    let two = c.in_ok-check_step-2.ensures.added ∙ ap (λ s. with_part false s (part_data c.args.second.now)) c.in_ok-check_step.ensures.added in
+    let all = c.in_ok-check_steps.ensures.added ∙ ap (λ s. with_parts false s (map part_data c.args.others.now)) two in
+    c.cut.ensures ∙ (λ i. cut_to (c.marks-marks.ensures i) (all i))
     ∙ parts_cut c.args.names.now (part_data c.args.first.now ∷ part_data c.args.second.now ∷ map part_data c.args.others.now)

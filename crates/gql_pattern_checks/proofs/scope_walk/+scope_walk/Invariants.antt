@@ -14,9 +14,6 @@ decreases-check_parens l = 6 * part_height_of (part_data l.part.now) + 2
 abbrev pub decreases-check_row : goal.decreases-check_row
 decreases-check_row l = 6 * max (max (part_height_of (part_data l.first.now)) (part_height_of (part_data l.second.now))) (highest_part (map part_data l.others.now)) + 4
 
-abbrev pub decreases-check_first_steps : goal.decreases-check_first_steps
-decreases-check_first_steps l = 6 * max (max (part_height_of (part_data l.first.now)) (part_height_of (part_data l.second.now))) (highest_part (map part_data l.others.now)) + 3
-
 abbrev pub decreases-check_step : goal.decreases-check_step
 decreases-check_step l = 6 * part_height_of (part_data l.part.now) + 1
 

@@ -7,14 +7,8 @@ use Rattle.gql_term.proofs.before.+declares.Given as goal
 abbrev pub decreases-declares_open : goal.decreases-declares_open
 decreases-declares_open l = 3 * part_height_of (part_data l.part.now)
 
-abbrev pub decreases-in_row : goal.decreases-in_row
-decreases-in_row l = 3 * max (max (part_height_of (part_data l.first.now)) (part_height_of (part_data l.second.now))) (highest_part (map part_data l.others.now)) + 2
-
-abbrev pub decreases-beside : goal.decreases-beside
-decreases-beside l = 3 * max (max (part_height_of (part_data l.first.now)) (part_height_of (part_data l.second.now))) (highest_part (map part_data l.others.now)) + 2
-
-abbrev pub decreases-told : goal.decreases-told
-decreases-told l = 3 * highest_part (map part_data l.sides.now) + 2
+abbrev pub decreases-several_declare_open : goal.decreases-several_declare_open
+decreases-several_declare_open l = 3 * max (max (part_height_of (part_data l.first.now)) (part_height_of (part_data l.second.now))) (highest_part (map part_data l.others.now)) + 2
 
 abbrev pub decreases-some_declares_open : goal.decreases-some_declares_open
 decreases-some_declares_open l = 3 * highest_part (map part_data l.parts.now) + 1

@@ -3,7 +3,8 @@ use Rattle.std.specs.Option.{option_or}
 use Rattle.gql_ast.specs.Meaning.{tree_of, link_of}
 use Rattle.gql_ast.specs.Scope.{names_in, names_in_trees, names_in_links}
 use Rattle.gql_ast.proofs.HeightLemmas.{height_of_le-highest, link_height_of_le-highest_link}
-use Rattle.gql_expr_checks.proofs.PartLemmas.{parts_from, sides_from, parts_step, sides_step, found_in_two}
+use Rattle.gql_ast.proofs.PartLemmas.{parts_from, sides_from, parts_step, sides_step}
+use Rattle.gql_expr_checks.proofs.PartLemmas.{found_in_two}
 use Rattle.gql_term.specs.Machinery.BarredNames.{barred_by}
 use Rattle.gql_term.proofs.names.+names.Goals as goal
 

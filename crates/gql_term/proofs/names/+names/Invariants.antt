@@ -2,7 +2,7 @@ use Rattle.std.proofs.Common.{◌≡◌, map, find, ◌+◌, ◌*◌}
 use Rattle.gql_ast.specs.Meaning.{tree_of, link_of}
 use Rattle.gql_ast.specs.Machinery.Height.{height_of, highest, highest_link}
 use Rattle.gql_ast.specs.Scope.{names_in_trees, names_in_links}
-use Rattle.gql_expr_checks.proofs.PartLemmas.{parts_from, sides_from}
+use Rattle.gql_ast.proofs.PartLemmas.{parts_from, sides_from}
 use Rattle.gql_term.specs.Machinery.BarredNames.{barred_by}
 use Rattle.gql_term.proofs.names.+names.Given as goal
 

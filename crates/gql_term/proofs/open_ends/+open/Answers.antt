@@ -2,11 +2,11 @@ use Rattle.std.proofs.Common.{◌<◌, length, arith}
 use Rattle.gql_norm.proofs.HeightLemmas.{row_falls, union_falls, height_le-highest_part}
 use Rattle.gql_term.proofs.open_ends.+open.Goals as goal
 
-pub has_open-in_row-requires : goal.has_open-in_row-requires
-has_open-in_row-requires t c = (omega (arith, row_falls _ _ _ _ _ _ _ c.in-Concat.is c.part.ensures c.part-in-Concat.ensures c.as_slice.ensures), tt {0})
+pub has_open-several_have_open-requires : goal.has_open-several_have_open-requires
+has_open-several_have_open-requires t c = (omega (arith, row_falls _ _ _ _ _ _ _ c.in-Concat.is c.part.ensures c.part-in-Concat.ensures c.as_slice.ensures), tt {0})
 
-pub has_open-beside-requires : goal.has_open-beside-requires
-has_open-beside-requires t c = (omega (arith, union_falls _ _ _ _ _ _ _ c.in-Union.is c.part-in-Union.ensures c.part-in-Union-2.ensures c.as_slice-in-Union.ensures), tt {0})
+pub has_open-several_have_open-requires-in-Union : goal.has_open-several_have_open-requires-in-Union
+has_open-several_have_open-requires-in-Union t c = (omega (arith, union_falls _ _ _ _ _ _ _ c.in-Union.is c.part-in-Union.ensures c.part-in-Union-2.ensures c.as_slice-in-Union.ensures), tt {0})
 
 pub some_has_open-has_open-requires : goal.some_has_open-has_open-requires
 some_has_open-has_open-requires t c =

@@ -8,14 +8,8 @@ use Rattle.gql_term.proofs.open_ends.+open.Given as goal
 abbrev pub decreases-has_open : goal.decreases-has_open
 decreases-has_open l = 3 * part_height_of (part_data l.part.now)
 
-abbrev pub decreases-in_row : goal.decreases-in_row
-decreases-in_row l = 3 * max (max (part_height_of (part_data l.first.now)) (part_height_of (part_data l.second.now))) (highest_part (map part_data l.others.now)) + 2
-
-abbrev pub decreases-beside : goal.decreases-beside
-decreases-beside l = 3 * max (max (part_height_of (part_data l.first.now)) (part_height_of (part_data l.second.now))) (highest_part (map part_data l.others.now)) + 2
-
-abbrev pub decreases-told : goal.decreases-told
-decreases-told l = 3 * highest_part (map part_data l.sides.now) + 2
+abbrev pub decreases-several_have_open : goal.decreases-several_have_open
+decreases-several_have_open l = 3 * max (max (part_height_of (part_data l.first.now)) (part_height_of (part_data l.second.now))) (highest_part (map part_data l.others.now)) + 2
 
 abbrev pub decreases-some_has_open : goal.decreases-some_has_open
 decreases-some_has_open l = 3 * highest_part (map part_data l.parts.now) + 1

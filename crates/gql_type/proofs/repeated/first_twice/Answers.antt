@@ -12,5 +12,5 @@ loop-property-preserved c =
     let p = c.property-item.result in
     let rest = drop (c.loop-property.property-index + 1) c.args.properties.now in
     let here = drop_here c.args.properties.now c.loop-property.property-index p (omega arith) c.property-item.is in
-    not_repeated before c.add.new.self p.name (map (λ (q : TypeProperty). q.name) rest) (sym c.contains.ensures ∙ c.if-contains.false) c.in_ok-add.ensures
+    not_repeated before c.add.new.self p.name (map (λ (q : TypeProperty). q.name) rest) (sym c.contains.ensures ∙ c.if-contains.false) c.in_ok-add.ensures.among
     ∙ sym (ap (λ (ps : List TypeProperty). first_name (repeated before (map (λ (q : TypeProperty). q.name) ps))) here) ∙ c.loop-property.invariant

@@ -1,6 +1,6 @@
 use Rattle.std.proofs.Common.{◌∙◌, ap, sym}
 use Rattle.gql_values3.specs.Datum.{Datum, is_null}
-use Rattle.gql_eval.specs.Machinery.Program.{has_null_on_top}
+use Rattle.gql_eval.specs.Machinery.Steps.{has_null_on_top}
 use Rattle.gql_eval.specs.Machinery.Turned.{turned}
 use Rattle.gql_eval.proofs.TopLemmas.{top_is}
 use Rattle.gql_eval.proofs.stack.Stack.has_null_on_top.Goals as goal

@@ -1,6 +1,6 @@
 use Rattle.std.proofs.Common.{◌∙◌, ap, sym}
 use Rattle.gql_values3.specs.Datum.{Datum}
-use Rattle.gql_eval.specs.Machinery.Program.{is_boolean, has_on_top}
+use Rattle.gql_eval.specs.Machinery.Steps.{is_boolean, has_on_top}
 use Rattle.gql_eval.specs.Machinery.Turned.{turned}
 use Rattle.gql_eval.proofs.TopLemmas.{top_is}
 use Rattle.gql_eval.proofs.stack.Stack.has_on_top.Goals as goal

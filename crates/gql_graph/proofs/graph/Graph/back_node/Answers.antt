@@ -1,17 +1,17 @@
 use Rattle.std.proofs.Common.{refl, sym, arith}
+use Rattle.std.proofs.lemmas.Bool.{and_parts}
 use Rattle.gql_graph.specs.contracts.graph.Graph.{the_view}
-use Rattle.gql_graph.proofs.GraphLemmas.{first_true}
 use Rattle.gql_graph.proofs.UndoLemmas.{back_node_undone}
 use Rattle.gql_graph.proofs.RoomLemmas.{made, room_for_node}
 use Rattle.gql_graph.proofs.graph.Graph.back_node.Goals as goal
 
-pub put_node-requires-clause-room : goal.put_node-requires-clause-room
-put_node-requires-clause-room c =
+pub put_numbered-requires-clause-room : goal.put_numbered-requires-clause-room
+put_numbered-requires-clause-room c =
     let room = rw (← c.self.view_is) at c.requires.room in
     omega (arith, room_for_node (the_view c.self.inside) c.args.node room, c.self.inside.nodes.ok.0)
 
 pub returns : goal.returns
 returns c =
     let acts = rw (← c.self.view_is) at c.requires.acts in
-    let undone = back_node_undone _ c.self.invariant c.args.node (first_true _ _ acts) in
-    rw (← c.self.view_is) (made _ _ _ _ c.self.invariant undone (rw c.put_node.ensures.items refl) (sym c.put_node.ensures.room) refl (omega (arith, c.self.inside.nodes.ok.0, c.self.inside.nodes.ok.1)) (omega (arith, c.self.inside.edges.ok.0, c.self.inside.edges.ok.1)))
+    let undone = back_node_undone _ c.self.invariant c.args.node (and_parts _ _ acts).0 in
+    rw (← c.self.view_is) (made _ _ _ _ c.self.invariant undone (rw c.put_numbered.ensures.items refl) (sym c.put_numbered.ensures.room) refl (omega (arith, c.self.inside.nodes.ok.0, c.self.inside.nodes.ok.1)) (omega (arith, c.self.inside.edges.ok.0, c.self.inside.edges.ok.1)))

@@ -1,7 +1,7 @@
 use Rattle.gql_graph.proofs.GraphLemmas.{edges_ascend}
 use Rattle.gql_graph.proofs.graph.Graph.edge.Goals as goal
 
-pub find_edge-requires : goal.find_edge-requires
-find_edge-requires c =
+pub find_numbered-requires : goal.find_numbered-requires
+find_numbered-requires c =
     let s = c.self.inside in
     rw c.as_slice.ensures.value (edges_ascend s.nodes.items s.edges.items s.next_node s.next_edge c.self.invariant)

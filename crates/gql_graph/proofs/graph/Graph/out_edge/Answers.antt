@@ -5,5 +5,5 @@ use Rattle.gql_graph.proofs.graph.Graph.out_edge.Goals as goal
 
 pub returns : goal.returns
 returns c =
-    let undone = out_edge_undone _ c.self.invariant c.args.edge c.take_edge.result c.take_edge.ensures.taken in
-    rw (← c.self.view_is) (made _ _ _ _ c.self.invariant undone (rw c.take_edge.ensures.items refl) refl (sym c.take_edge.ensures.room) (omega (arith, c.self.inside.nodes.ok.0, c.self.inside.nodes.ok.1)) (omega (arith, c.self.inside.edges.ok.0, c.self.inside.edges.ok.1)))
+    let undone = out_edge_undone _ c.self.invariant c.args.edge c.take_numbered.result c.take_numbered.ensures.taken in
+    rw (← c.self.view_is) (made _ _ _ _ c.self.invariant undone (rw c.take_numbered.ensures.items refl) refl (sym c.take_numbered.ensures.room) (omega (arith, c.self.inside.nodes.ok.0, c.self.inside.nodes.ok.1)) (omega (arith, c.self.inside.edges.ok.0, c.self.inside.edges.ok.1)))

@@ -1,8 +1,6 @@
--- Each row stands in the answer at its own place, and the place stays.
-use Rattle.std.proofs.Common.{refl}
-use Rattle.gql_keep_sql.proofs.HeldLemmas.{run_in_rows}
+use Rattle.std.proofs.Common.{rules}
+use Rattle.gql_keep_sql.proofs.RefusalLemmas.{fails_as}
 use Rattle.gql_keep_sql.proofs.place.Place.select.Goals as goal
 
-pub returns-in_ok-select-in-File : goal.returns-in_ok-select-in-File
-returns-in_ok-select-in-File c =
-    rw c.in-File.is (λ i d below. let it = run_in_rows _ _ _ _ _ c.in_ok-select-in-File.ensures i d below in (it.0, it.1, (refl, it.2)))
+pub returns-in_err-select-in-File-clause-refused : goal.returns-in_err-select-in-File-clause-refused
+returns-in_err-select-in-File-clause-refused c = rw c.in-File.is (fails_as _ c.in_err-select-in-File.field-0.0 _ (search rules) c.in_err-select-in-File.ensures.refused)

@@ -1,8 +1,38 @@
--- The record of the run that has the key has the value, and letting the run go asks nothing of the place.
+-- The record that is taken has the value, and letting the run go asks nothing of the place.
+use Rattle.std.proofs.Common.{◌≡◌, None, subst, reverse, rules}
+use Rattle.std.specs.List.{list_all}
 use Rattle.std.proofs.Math.Logic.{∥∥₁_map}
-use Rattle.gql_keep_sql.proofs.HeldLemmas.{found_fetches}
+use Rattle.std.proofs.lemmas.List.Sorted.{IsPermutation-sym, IsPermutation-reverse}
+use Rattle.gql_keep_sql.specs.Fetched.{IsRun, is_record, FailsToRead}
+use Rattle.gql_keep_sql.proofs.HeldLemmas.{found_fetches, held_found, run_found}
+use Rattle.gql_keep_sql.proofs.RefusalLemmas.{fails_as}
+use Rattle.gql_keep_sql.proofs.RunLemmas.{run_selected, fails_to_begin, untaken}
 use Rattle.gql_keep_sql.proofs.reader.Reader.fetch_row.Goals as goal
 
-pub returns-clause-value : goal.returns-clause-value
-returns-clause-value c =
-    ∥∥₁_map c.in_ok-read.ensures (λ found. found_fetches c.read.new.self.run.items c.in-Some.record c.args.self.now.place c.read.new.self.place c.take.new.self.place c.in-Some.ensures.record c.in-Some.ensures.place found)
+pub returns-in-Some-clause-value : goal.returns-in-Some-clause-value
+returns-in-Some-clause-value c =
+    let place = c.args.self.now.place in
+    let run = c.args.self.now.run.items in
+    ∥∥₁_map c.args.self.now.held (λ held. found_fetches run c.in-Some.record place place c.take.new.self.place c.in-Some.ensures.record.0 c.in-Some.ensures.place (held_found run place held))
+
+pub returns-in-Some-take-clause-value : goal.returns-in-Some-take-clause-value
+returns-in-Some-take-clause-value c =
+    let place = c.args.self.now.place in
+    let run = c.read.new.self.run.items in
+    let read = subst (λ old. IsRun c.args.key.now (reverse run) old c.read.new.self.place) c.take.ensures.place c.in_ok-read.ensures.read in
+    let found = run_found (reverse run) run place c.read.new.self.place (run_selected _ _ _ _ read) (IsPermutation-sym _ _ (IsPermutation-reverse run)) in
+    ∣ found_fetches run c.in-Some-take.record place c.read.new.self.place _ c.in-Some-take.ensures.record.0 c.in-Some-take.ensures.place found ∣₁
+
+pub returns-in_err-read-clause-refused : goal.returns-in_err-read-clause-refused
+returns-in_err-read-clause-refused c =
+    let key = c.args.key.now in
+    fails_as _ c.in_err-read.field-0.0 _ (search rules)
+    (λ other. fails_to_begin key _ _ _ (subst (λ old. FailsToRead key (list_all is_record) old c.read.new.self.place c.in_err-read.field-0.0) c.take.ensures.place (c.in_err-read.ensures.refused other)))
+
+pub returns-in-None-clause-refused : goal.returns-in-None-clause-refused
+returns-in-None-clause-refused c other =
+    let key = c.args.key.now in
+    let run = c.read.new.self.run.items in
+    let read = subst (λ old. IsRun key (reverse run) old c.read.new.self.place) c.take.ensures.place c.in_ok-read.ensures.read in
+    let none : c.take-2.result ≡ None = search rules in
+    rw c.take-2.ensures.place (untaken key run _ c.args.self.now.place c.read.new.self.place _ read c.take-2.ensures.next none)
