@@ -1,6 +1,6 @@
 -- Endpoints of an INSERT that stand already. Key idea: what is asked of spots is asked of a front of them, and then of the
 -- rest under the columns behind the front.
-use Rattle.std.proofs.Common.{◌≡◌, ℕ, suc, Bool, true, false, cond, ◌&&◌, ◌||◌, List, [], ◌∷◌, ◌++◌, Option, Some, None, refl, sym, ap, ◌∙◌, append_assoc, append-nil, slice_get}
+use Rattle.std.proofs.Common.{◌≡◌, ℕ, Bool, true, false, cond, ◌&&◌, ◌||◌, List, [], ◌∷◌, ◌++◌, Option, Some, None, refl, sym, ap, ◌∙◌, append_assoc, append-nil}
 use Rattle.std.proofs.Math.Bool.{and_assoc}
 use Rattle.std.specs.Prelude.{option_map, find, is_some, not, unwrap_or, if◌then◌else◌}
 use Rattle.gql_values3.specs.Texts.{same_text}
@@ -10,7 +10,6 @@ use Rattle.gql_ast.specs.ClauseColumns.{ColumnList, is_column}
 use Rattle.gql_ast.specs.Outputs.{kind_of_name}
 use Rattle.gql_ast.specs.InsertColumns.{Spots, spot_columns, step_spots, with_variable}
 use Rattle.gql_ast.specs.declared.change.InsertStep.{InsertStep}
-use Rattle.gql_eval.specs.Machinery.Places.{place_among}
 use Rattle.gql_ast.specs.Endpoints.{is_node, wrong_endpoint, wrong_in_spots}
 use Rattle.gql_change.specs.Changing.{is_empty}
 use Rattle.gql_change.specs.Machinery.Endpoints.{may_stand}
@@ -98,22 +97,3 @@ right_step b cs s =
     let node = wrong_endpoint (with_variable cs kind.Edge s.edge.variable) kind.Node s.node.variable in
     and_assoc b (is_empty edge) (is_empty node)
     ∙ ap (λ (c : Bool). b && c) (sym (empty_append edge (node ++ []) ∙ ap (λ (ns : List (List ℕ)). is_empty edge && is_empty ns) (append-nil node)))
-
--- what a column holds, by its place
-abbrev pub kind_by : ColumnList → Option ℕ → Option ColumnKind
-kind_by cs None = None
-kind_by cs (Some i) = option_map (λ (c : List ℕ × ColumnKind). c.1) (slice_get cs i)
-
-kind_behind : (c : List ℕ × ColumnKind) (cs : ColumnList) (o : Option ℕ) → kind_by (c ∷ cs) (option_map suc o) ≡ kind_by cs o
-kind_behind c cs None = refl
-kind_behind c cs (Some i) = refl
-
-kind_placed : (b : Bool) (c : List ℕ × ColumnKind) (cs : ColumnList) (found : Option (List ℕ × ColumnKind)) (o : Option ℕ)
-    → option_map (λ (c : List ℕ × ColumnKind). c.1) found ≡ kind_by cs o
-    → option_map (λ (c : List ℕ × ColumnKind). c.1) (cond b (Some c) found) ≡ kind_by (c ∷ cs) (cond b (Some 0) (option_map suc o))
-kind_placed true c cs found o h = refl
-kind_placed false c cs found o h = h ∙ sym (kind_behind c cs o)
-
-pub kind_of_place : (cs : ColumnList) (x : List ℕ) → kind_at cs x ≡ kind_by cs (place_among cs x)
-kind_of_place [] x = refl
-kind_of_place (c ∷ cs) x = kind_placed (same_text x c.0) c cs (find (λ c. same_text x c.0) cs) (place_among cs x) (kind_of_place cs x)

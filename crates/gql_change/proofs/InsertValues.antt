@@ -26,7 +26,7 @@ use Rattle.gql_ast.specs.declared.fault.DataFault.{DataFault}
 use Rattle.gql_ast.specs.declared.fault.DataFault.TheVariants as fault
 use Rattle.gql_eval.specs.Machinery.Places.{place_among}
 use Rattle.gql_eval.proofs.ScopeLemmas.{place_below}
-use Rattle.gql_change.specs.Machinery.Noting.{earlier}
+use Rattle.gql_eval.specs.Machinery.Noting.{earlier}
 use Rattle.gql_change.specs.Storing.{PropertyList, stored}
 use Rattle.gql_change.specs.Insertion.{items_in, refers, map_values, node_there, endpoint, spot_values, spots_values}
 use Rattle.gql_change.specs.Machinery.Roles.{Question, questions, datum_at, role_at, role_of, looked_at, item_value, spot_of, line_of}

@@ -16,7 +16,7 @@ use Rattle.gql_eval.specs.Machinery.Places.{place_among}
 use Rattle.gql_eval.specs.Machinery.ScopeMeaning.{column_entry}
 use Rattle.gql_eval.proofs.ScopeLemmas.{at_place, entry_at_place, place_below}
 use Rattle.gql_change.specs.Machinery.Roles.{datum_at, role_at, role_of, Question, questions}
-use Rattle.gql_change.specs.Machinery.Noting.{earlier}
+use Rattle.gql_eval.specs.Machinery.Noting.{earlier}
 use Rattle.gql_change.specs.declared.role.Role.{Role}
 use Rattle.gql_change.specs.declared.role.Role.TheVariants as role
 use Rattle.gql_change.proofs.PlaceOfName.{a_column}

@@ -7,7 +7,6 @@ pub mod Endpoints
 pub mod InRow
 pub mod InsertByPlaces
 pub mod Makes
-pub mod Noting
 pub mod Places
 pub mod PreparedItems
 pub mod PreparedSpots

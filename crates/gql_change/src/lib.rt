@@ -25,7 +25,6 @@ mod leftover;
 mod list;
 mod making;
 mod making_fault;
-mod names;
 mod naming;
 mod new_edge;
 mod new_node;

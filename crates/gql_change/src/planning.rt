@@ -15,12 +15,11 @@ use crate::deletion::plan_delete;
 use crate::fault::ChangeFault;
 use crate::insert::plan_insert;
 use crate::list::ChangeList;
-use crate::names::Names;
 use crate::questions::{Outline, outline_of};
 use crate::set_clause::{plan_remove, plan_set};
 use crate::spot_question::SpotQuestion;
 use gql_ast::{ChangeClause, DataFault, InsertPath, Refusal};
-use gql_eval::copied_columns;
+use gql_eval::{Heading, copied_columns};
 use gql_graph::Changes;
 use gql_values3::{Columns, Params, Row, Rows, View};
 use std::alloc::Global;
@@ -128,7 +127,7 @@ fn insert_outlined<'a, V: View>(
     basis: &Basis<'a, V>,
     rows: Rows,
     paths: &[InsertPath],
-    names: Names,
+    names: Heading,
     asked: &[SpotQuestion<'a>],
 ) -> Result<(Changes, Columns, Rows), ChangeFault>
     requires guard { IsTrue (has_endpoints basis.now.columns.now rows paths.now) }

@@ -10,10 +10,10 @@ ghost use Rattle.gql_change.specs.Insertion.{items_in};
 ghost use Rattle.gql_change.specs.Machinery.Roles.{question_of, questions, role_of, role_there};
 
 use crate::columns::past_spot;
-use crate::names::{Names, names_of};
 use crate::role::Role;
 use crate::spot_question::SpotQuestion;
 use gql_ast::{Fill, InsertPath, InsertStep, Map, MapItem};
+use gql_eval::{Heading, copied_columns};
 use gql_values3::{ColumnKind, Columns, OutOfMemory, Text};
 use std::alloc::Global;
 
@@ -21,7 +21,7 @@ use std::alloc::Global;
 #[derive(Drop)]
 pub struct Outline<'a> {
     /// The columns behind it.
-    pub names: Names,
+    pub names: Heading,
     /// Whether each endpoint that stands already is a column of nodes.
     pub fits: bool,
     /// What is asked of each spot, in the order of the text.
@@ -39,7 +39,8 @@ pub fn outline_of<'a>(
     ensures asked { IfOk result (λ o. map question_of o.asked.items ≡ questions columns.now (insert_spots paths.now)) }
 {
     let mut asked = Vec::new(alloc);
-    let mut so_far = (names_of(alloc, columns)?, true);
+    let heading = Heading::new(alloc, copied_columns(alloc, columns.as_slice())?)?;
+    let mut so_far = (heading, true);
     for i in 0..paths.len() {
         let path = &paths[i];
         so_far = ask_path(alloc, so_far, &mut asked, path)?;
@@ -51,10 +52,10 @@ pub fn outline_of<'a>(
 /// Adds the questions of a path; answers the columns behind it, and whether its endpoints are nodes too.
 fn ask_path<'a>(
     alloc: Global,
-    so_far: (Names, bool),
+    so_far: (Heading, bool),
     asked: &mut Vec<SpotQuestion<'a>>,
     path: &'a InsertPath,
-) -> Result<(Names, bool), OutOfMemory>
+) -> Result<(Heading, bool), OutOfMemory>
     ensures behind { IfOk result (λ p. (p.0 ≡ spot_columns so_far.0 (path_spots path.now)) × (p.1 ≡ (so_far.1 && is_empty (wrong_in_spots so_far.0 (path_spots path.now))))) }
     ensures asked { OnOk result (map question_of asked.new.items ≡ map question_of asked.old.items ++ questions so_far.0 (path_spots path.now)) }
 {
@@ -69,10 +70,10 @@ fn ask_path<'a>(
 
 fn ask_step<'a>(
     alloc: Global,
-    so_far: (Names, bool),
+    so_far: (Heading, bool),
     asked: &mut Vec<SpotQuestion<'a>>,
     step: &'a InsertStep,
-) -> Result<(Names, bool), OutOfMemory>
+) -> Result<(Heading, bool), OutOfMemory>
     ensures behind { IfOk result (λ p. (p.0 ≡ spot_columns so_far.0 (step_spots step.now)) × (p.1 ≡ (so_far.1 && is_empty (wrong_in_spots so_far.0 (step_spots step.now))))) }
     ensures asked { OnOk result (map question_of asked.new.items ≡ map question_of asked.old.items ++ questions so_far.0 (step_spots step.now)) }
 {
@@ -84,11 +85,11 @@ fn ask_step<'a>(
 /// Adds the question of a spot; answers the same.
 fn ask<'a>(
     alloc: Global,
-    so_far: (Names, bool),
+    so_far: (Heading, bool),
     asked: &mut Vec<SpotQuestion<'a>>,
     kind: ColumnKind,
     fill: &'a Fill,
-) -> Result<(Names, bool), OutOfMemory>
+) -> Result<(Heading, bool), OutOfMemory>
     ensures behind { IfOk result (λ p. (p.0 ≡ with_variable so_far.0 kind fill.now.variable) × (p.1 ≡ (so_far.1 && is_empty (wrong_endpoint so_far.0 kind fill.now.variable)))) }
     ensures asked { OnOk result (map question_of asked.new.items ≡ map question_of asked.old.items ++ (role_of so_far.0 kind fill.now.variable, items_in fill.now.map) ∷ []) }
 {
@@ -108,7 +109,7 @@ fn items_of<'a>(map: &'a Option<Map>) -> &'a [MapItem]
 }
 
 /// The role of a spot with this variable.
-fn role_of(names: &Names, kind: ColumnKind, variable: &Option<Text>) -> Role
+fn role_of(names: &Heading, kind: ColumnKind, variable: &Option<Text>) -> Role
     ensures { result ≡ role_of names.now kind variable.now }
 {
     let Some(name) = variable else {

@@ -2,6 +2,7 @@ pub mod ItemLemmas
 pub mod LabelLemmas
 pub mod ElementLemmas
 pub mod HeadingLemmas
+pub mod NotingLemmas
 pub mod NameLemmas
 pub mod JoiningLemmas
 pub mod ScopeLemmas

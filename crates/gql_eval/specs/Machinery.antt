@@ -2,6 +2,7 @@
 pub mod Next
 pub mod ScopeMeaning
 pub mod Places
+pub mod Noting
 pub mod AtPlaces
 pub mod Operations
 pub mod JoinedTruth

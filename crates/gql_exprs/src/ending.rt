@@ -7,9 +7,9 @@ ghost use Rattle.gql_exprs.specs.Machinery.EndingMeaning.{ending_of};
 ghost use Rattle.gql_exprs.specs.Machinery.LeafReaders.{sense_of, labels_ending, end_ending, asked_ending, is_ending, ending, tested};
 
 use crate::labels::label_expression;
-use crate::test_word::{TestWord, asked_at};
+use crate::test_word::{TestWord, TestWords};
 use gql_ast::{EdgeEnd, Expr, LabelExpr, ParseFault, Quality, Sense, Sub};
-use gql_front::{ParseResult, after_word, plain_name};
+use gql_front::{ParseResult, after_word, plain_name, word_at};
 use gql_lexer::Lexeme;
 use gql_lexer::symbols::COLON;
 use gql_lexer::words::{IS, NOT, OF};
@@ -54,7 +54,7 @@ fn behind_is<'a>(alloc: Global, rest: &'a [Lexeme]) -> ParseResult<'a, TestEndin
     ensures { ReadsAs ending_of result rest.now is_ending }
 {
     let (sense, rest) = sense_of(rest);
-    let (word, rest) = asked_at(rest)?;
+    let (word, rest) = word_at::<TestWords>(rest)?;
     asked(alloc, sense, word, rest)
 }
 

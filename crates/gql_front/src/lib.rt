@@ -7,6 +7,8 @@
 
 mod lexemes;
 mod no_front;
+mod word_table;
 
 pub use lexemes::{after_sign, after_word, any_name, from_place, plain_name};
 pub use no_front::{NoFront, ParseResult};
+pub use word_table::{WordTable, word_at};

@@ -4,7 +4,7 @@ ghost use Rattle.std.specs.Prelude.{◌≡◌, map, IsTrue, IfErr, OnOk, OnErr};
 ghost use Rattle.sqlite.specs.Effect.{Database};
 ghost use Rattle.sqlite.specs.State.{HasCleanDisk, KeepsCommit, Survives};
 ghost use Rattle.sqlite.specs.Held.{state};
-ghost use Rattle.gql_keep_sql.specs.Transaction.{put_step, drop_step, Ran, Refuses, RunsInside, Rewrote, FailsToRewrite};
+ghost use Rattle.gql_keep_sql.specs.Transaction.{Step, put_step, drop_step, Ran, Refuses, RunsInside, Rewrote, FailsToRewrite};
 ghost use Rattle.gql_keep_sql.specs.Refusals.{FailsOnlyBy};
 
 use gql_ports::{Key, Record};
@@ -30,54 +30,55 @@ pub fn write<S: Alter>(
         return Err(Error::SqliteFailure(ErrorCode::TransactionState));
     }
     let mut transaction = conn.transaction();
-    put_all(&mut transaction, puts)?;
-    drop_all(&mut transaction, drops)?;
+    write_all(&mut transaction, puts)?;
+    write_all(&mut transaction, drops)?;
     transaction.commit()?;
     Ok(())
 }
 
-fn put_all<S: Alter>(transaction: &mut Transaction<'_, S>, puts: &[Record]) -> Result<(), Error>
+/// What one statement writes: a record that is put, or a key that is dropped.
+trait Written<S: Alter> {
+    /// The statement, and what is bound to its parameters.
+    ghost step: { Self → Step };
+
+    /// Runs the statement.
+    fn write(&self, transaction: &mut Transaction<'_, S>) -> Result<usize, Error>
+        ensures same_reference { transaction.new.conn.ghost_name ≡ transaction.old.conn.ghost_name }
+        ensures runs { RunsInside S.Store (step self.now) transaction.old.conn.now transaction.new.conn.now result }
+        ensures survives { Survives (state S.Store transaction.old.conn.now) (state S.Store transaction.new.conn.now) (λ _. ⊥) };
+}
+
+impl<S: Alter> Written<S> for Record {
+    ghost step = { put_step };
+
+    fn write(&self, transaction: &mut Transaction<'_, S>) -> Result<usize, Error> {
+        transaction.execute(PUT, params![self.key.as_slice(), self.value.as_slice()])
+    }
+}
+
+impl<S: Alter> Written<S> for Key {
+    ghost step = { drop_step };
+
+    fn write(&self, transaction: &mut Transaction<'_, S>) -> Result<usize, Error> {
+        transaction.execute(DROP, params![self.as_slice()])
+    }
+}
+
+/// Runs the statements of all of these, one after the other.
+fn write_all<S: Alter, W: Written<S>>(
+    transaction: &mut Transaction<'_, S>,
+    items: &[W],
+) -> Result<(), Error>
     ensures same_reference { transaction.new.conn.ghost_name ≡ transaction.old.conn.ghost_name }
     ensures ran { HasCleanDisk (state S.Store transaction.new.conn.now) → IsTrue (state S.Store transaction.old.conn.now).in_transaction
-        → OnOk result (Ran S.Store (map put_step puts.now) transaction.old.conn.now transaction.new.conn.now × IsTrue (state S.Store transaction.new.conn.now).in_transaction) }
-    ensures refused { HasCleanDisk (state S.Store transaction.new.conn.now) → IsTrue (state S.Store transaction.old.conn.now).in_transaction → IfErr result (Refuses S.Store (map put_step puts.now) transaction.old.conn.now) }
+        → OnOk result (Ran S.Store (map W.step items.now) transaction.old.conn.now transaction.new.conn.now × IsTrue (state S.Store transaction.new.conn.now).in_transaction) }
+    ensures refused { HasCleanDisk (state S.Store transaction.new.conn.now) → IsTrue (state S.Store transaction.old.conn.now).in_transaction → IfErr result (Refuses S.Store (map W.step items.now) transaction.old.conn.now) }
     ensures kept { HasCleanDisk (state S.Store transaction.new.conn.now) → IsTrue (state S.Store transaction.old.conn.now).in_transaction
         → KeepsCommit (state S.Store transaction.old.conn.now) (state S.Store transaction.new.conn.now) }
     ensures survives { Survives (state S.Store transaction.old.conn.now) (state S.Store transaction.new.conn.now) (λ _. ⊥) }
 {
-    for record in puts {
-        put(transaction, record)?;
+    for item in items {
+        item.write(transaction)?;
     }
     Ok(())
-}
-
-fn drop_all<S: Alter>(transaction: &mut Transaction<'_, S>, drops: &[Key]) -> Result<(), Error>
-    ensures same_reference { transaction.new.conn.ghost_name ≡ transaction.old.conn.ghost_name }
-    ensures ran { HasCleanDisk (state S.Store transaction.new.conn.now) → IsTrue (state S.Store transaction.old.conn.now).in_transaction
-        → OnOk result (Ran S.Store (map drop_step drops.now) transaction.old.conn.now transaction.new.conn.now × IsTrue (state S.Store transaction.new.conn.now).in_transaction) }
-    ensures refused { HasCleanDisk (state S.Store transaction.new.conn.now) → IsTrue (state S.Store transaction.old.conn.now).in_transaction → IfErr result (Refuses S.Store (map drop_step drops.now) transaction.old.conn.now) }
-    ensures kept { HasCleanDisk (state S.Store transaction.new.conn.now) → IsTrue (state S.Store transaction.old.conn.now).in_transaction
-        → KeepsCommit (state S.Store transaction.old.conn.now) (state S.Store transaction.new.conn.now) }
-    ensures survives { Survives (state S.Store transaction.old.conn.now) (state S.Store transaction.new.conn.now) (λ _. ⊥) }
-{
-    for key in drops {
-        drop_key(transaction, key)?;
-    }
-    Ok(())
-}
-
-fn put<S: Alter>(transaction: &mut Transaction<'_, S>, kept: &Record) -> Result<usize, Error>
-    ensures same_reference { transaction.new.conn.ghost_name ≡ transaction.old.conn.ghost_name }
-    ensures runs { RunsInside S.Store (put_step kept.now) transaction.old.conn.now transaction.new.conn.now result }
-    ensures survives { Survives (state S.Store transaction.old.conn.now) (state S.Store transaction.new.conn.now) (λ _. ⊥) }
-{
-    transaction.execute(PUT, params![kept.key.as_slice(), kept.value.as_slice()])
-}
-
-fn drop_key<S: Alter>(transaction: &mut Transaction<'_, S>, key: &Key) -> Result<usize, Error>
-    ensures same_reference { transaction.new.conn.ghost_name ≡ transaction.old.conn.ghost_name }
-    ensures runs { RunsInside S.Store (drop_step key.now) transaction.old.conn.now transaction.new.conn.now result }
-    ensures survives { Survives (state S.Store transaction.old.conn.now) (state S.Store transaction.new.conn.now) (λ _. ⊥) }
-{
-    transaction.execute(DROP, params![key.as_slice()])
 }

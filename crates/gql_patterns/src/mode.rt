@@ -1,40 +1,32 @@
 //! Path modes, and the words PATH and PATHS behind them.
 
 ghost use Rattle.std.specs.Prelude.{◌≡◌};
-ghost use Rattle.gql_front.specs.Tables.{entry};
-ghost use Rattle.gql_front.specs.Reading.{op_at};
 ghost use Rattle.gql_front.specs.Reads.{Takes, AlwaysReads, LeftBehind};
-ghost use Rattle.gql_patterns.specs.PatternWords.{mode_words, mode_word};
+ghost use Rattle.gql_patterns.specs.PatternWords.{mode_words};
 ghost use Rattle.gql_patterns.specs.Machinery.PrefixReaders.{past_path_word, mode_of, part_mode_of, mode_behind};
 
 use gql_ast::Mode;
-use gql_front::NoFront;
+use gql_front::{NoFront, WordTable, word_at};
 use gql_lexer::Lexeme;
 use gql_lexer::words::{ACYCLIC, PATH, PATHS, SIMPLE, TRAIL, WALK};
 
-/// The mode that the reserved word of the place says, if it says one.
-fn mode_word(place: u32) -> Option<Mode>
-    ensures { result ≡ entry mode_words place }
-{
-    match place {
-        WALK => Some(Mode::Walk),
-        TRAIL => Some(Mode::Trail),
-        ACYCLIC => Some(Mode::Acyclic),
-        SIMPLE => Some(Mode::Simple),
-        _ => None,
-    }
-}
+/// The words that say a mode.
+struct ModeWords;
 
-/// The mode at the front.
-fn mode_word_at(rest: &[Lexeme]) -> Result<(Mode, &[Lexeme]), NoFront>
-    ensures { Takes result rest.now (op_at mode_word) }
-{
-    if let [Lexeme::Word { place, .. }, after @ ..] = rest {
-        if let Some(mode) = mode_word(*place) {
-            return Ok((mode, after));
+impl WordTable for ModeWords {
+    type Says = Mode;
+
+    ghost words = { mode_words };
+
+    fn says(place: u32) -> Option<Mode> {
+        match place {
+            WALK => Some(Mode::Walk),
+            TRAIL => Some(Mode::Trail),
+            ACYCLIC => Some(Mode::Acyclic),
+            SIMPLE => Some(Mode::Simple),
+            _ => None,
         }
     }
-    Err(NoFront)
 }
 
 /// What is behind PATH or PATHS, or all where neither stands.
@@ -53,7 +45,7 @@ pub fn past_path_word(rest: &[Lexeme]) -> &[Lexeme]
 fn mode(rest: &[Lexeme]) -> Result<(Mode, &[Lexeme]), NoFront>
     ensures { Takes result rest.now mode_of }
 {
-    let (mode, rest) = mode_word_at(rest)?;
+    let (mode, rest) = word_at::<ModeWords>(rest)?;
     Ok((mode, past_path_word(rest)))
 }
 
@@ -73,7 +65,7 @@ pub fn part_mode(rest: &[Lexeme]) -> (Option<Mode>, &[Lexeme])
 pub fn mode_behind(rest: &[Lexeme]) -> (Option<Mode>, &[Lexeme])
     ensures { AlwaysReads result rest.now (mode_behind rest.now) }
 {
-    match mode_word_at(rest) {
+    match word_at::<ModeWords>(rest) {
         Ok((mode, behind)) => (Some(mode), past_path_word(behind)),
         Err(NoFront) => (None, past_path_word(rest)),
     }

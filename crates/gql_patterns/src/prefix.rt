@@ -5,10 +5,10 @@ ghost use Rattle.gql_patterns.specs.PatternWords.{is_group_word};
 ghost use Rattle.gql_patterns.specs.Machinery.PrefixReaders.{all_of, any_of, shortest_of, prefix_behind, prefix_of};
 
 use crate::mode::{mode_behind, past_path_word};
-use crate::prefix_word::{PrefixWord, prefix_word_at};
+use crate::prefix_word::{PrefixWord, PrefixWords};
 use crate::quantifier::number;
 use gql_ast::{ParseFault, Prefix};
-use gql_front::{NoFront, ParseResult, after_word};
+use gql_front::{NoFront, ParseResult, after_word, word_at};
 use gql_lexer::Lexeme;
 use gql_lexer::words::{GROUP, GROUPS, SHORTEST};
 use std::alloc::Global;
@@ -18,7 +18,7 @@ use std::alloc::Global;
 pub fn prefix<'a>(alloc: Global, rest: &'a [Lexeme]) -> ParseResult<'a, Prefix>
     ensures { Reads result rest.now prefix_of }
 {
-    let (word, rest) = prefix_word_at(rest)?;
+    let (word, rest) = word_at::<PrefixWords>(rest)?;
     prefix_behind(alloc, word, rest)
 }
 

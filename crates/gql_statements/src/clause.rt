@@ -5,14 +5,14 @@ ghost use Rattle.gql_front.specs.Reads.{Reads};
 ghost use Rattle.gql_statements.specs.Machinery.ClauseReaders.{clause_behind};
 
 use crate::change_word::change_behind;
-use crate::clause_word::{ClauseWord, clause_word_at};
+use crate::clause_word::{ClauseWord, ClauseWords};
 use crate::filter_clause::filter;
 use crate::for_clause::for_items;
 use crate::let_clause::let_items;
 use crate::match_clause::{match_behind, optional_match};
 use crate::page_clause::{limit_page, order_page, skip_page};
 use gql_ast::Clause;
-use gql_front::ParseResult;
+use gql_front::{ParseResult, word_at};
 use gql_lexer::Lexeme;
 use gql_parts::Item;
 use std::alloc::Global;
@@ -29,7 +29,7 @@ impl Item<Clauses> for Clause {
 
     #[tactic(auto, unfolding(crate::specs::Machinery::ClauseReaders::clause_of))]
     fn read<'a>(alloc: Global, rest: &'a [Lexeme]) -> ParseResult<'a, Clause> {
-        let (word, rest) = clause_word_at(rest)?;
+        let (word, rest) = word_at::<ClauseWords>(rest)?;
         clause_behind(alloc, word, rest)
     }
 }

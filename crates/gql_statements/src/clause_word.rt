@@ -1,15 +1,10 @@
 //! The words that begin a clause.
 
-ghost use Rattle.std.specs.Prelude.{◌≡◌, ◌<◌, length, IfOk};
-ghost use Rattle.gql_front.specs.Tables.{entry};
-ghost use Rattle.gql_front.specs.Reading.{op_at};
-ghost use Rattle.gql_front.specs.Reads.{Takes};
-ghost use Rattle.gql_statements.specs.ClauseWords.{clause_words, clause_word};
+ghost use Rattle.gql_statements.specs.ClauseWords.{clause_words};
 
 use crate::change_word::ChangeWord;
 use gql_ast::Detachment;
-use gql_front::NoFront;
-use gql_lexer::Lexeme;
+use gql_front::WordTable;
 use gql_lexer::words::{
     DELETE, DETACH, FILTER, FOR, INSERT, LET, LIMIT, MATCH, NODETACH, OFFSET, OPTIONAL, ORDER,
     REMOVE, SET, SKIP,
@@ -31,38 +26,32 @@ pub enum ClauseWord {
     Change(ChangeWord),
 }
 
-/// What the reserved word of the place begins, if it begins a clause.
-fn clause_word(place: u32) -> Option<ClauseWord>
-    ensures { result ≡ entry clause_words place }
-{
-    match place {
-        MATCH => Some(ClauseWord::Match),
-        OPTIONAL => Some(ClauseWord::Optional),
-        LET => Some(ClauseWord::Let),
-        FILTER => Some(ClauseWord::Filter),
-        FOR => Some(ClauseWord::For),
-        ORDER => Some(ClauseWord::Order),
-        OFFSET => Some(ClauseWord::Skip),
-        SKIP => Some(ClauseWord::Skip),
-        LIMIT => Some(ClauseWord::Limit),
-        INSERT => Some(ClauseWord::Change(ChangeWord::Insert)),
-        SET => Some(ClauseWord::Change(ChangeWord::Set)),
-        REMOVE => Some(ClauseWord::Change(ChangeWord::Remove)),
-        DELETE => Some(ClauseWord::Change(ChangeWord::Delete)),
-        DETACH => Some(ClauseWord::Change(ChangeWord::Detaching(Detachment::Detach))),
-        NODETACH => Some(ClauseWord::Change(ChangeWord::Detaching(Detachment::NoDetach))),
-        _ => None,
-    }
-}
+/// The words that begin a clause.
+pub struct ClauseWords;
 
-/// What the word at the front begins.
-pub fn clause_word_at(rest: &[Lexeme]) -> Result<(ClauseWord, &[Lexeme]), NoFront>
-    ensures { Takes result rest.now (op_at clause_word) }
-{
-    if let [Lexeme::Word { place, .. }, after @ ..] = rest {
-        if let Some(word) = clause_word(*place) {
-            return Ok((word, after));
+impl WordTable for ClauseWords {
+    type Says = ClauseWord;
+
+    ghost words = { clause_words };
+
+    fn says(place: u32) -> Option<ClauseWord> {
+        match place {
+            MATCH => Some(ClauseWord::Match),
+            OPTIONAL => Some(ClauseWord::Optional),
+            LET => Some(ClauseWord::Let),
+            FILTER => Some(ClauseWord::Filter),
+            FOR => Some(ClauseWord::For),
+            ORDER => Some(ClauseWord::Order),
+            OFFSET => Some(ClauseWord::Skip),
+            SKIP => Some(ClauseWord::Skip),
+            LIMIT => Some(ClauseWord::Limit),
+            INSERT => Some(ClauseWord::Change(ChangeWord::Insert)),
+            SET => Some(ClauseWord::Change(ChangeWord::Set)),
+            REMOVE => Some(ClauseWord::Change(ChangeWord::Remove)),
+            DELETE => Some(ClauseWord::Change(ChangeWord::Delete)),
+            DETACH => Some(ClauseWord::Change(ChangeWord::Detaching(Detachment::Detach))),
+            NODETACH => Some(ClauseWord::Change(ChangeWord::Detaching(Detachment::NoDetach))),
+            _ => None,
         }
     }
-    Err(NoFront)
 }

@@ -7,9 +7,9 @@ ghost use Rattle.gql_statements.specs.PartWords.{param_in};
 ghost use Rattle.gql_statements.specs.Machinery.SessionReaders.{set_graph_of, set_value_of, set_of, session_of};
 
 use crate::graph_words::after_graph;
-use crate::session_word::{SessionWord, session_word_at};
+use crate::session_word::{SessionWord, SessionWords};
 use gql_ast::{ParseFault, SessionStatement};
-use gql_front::{NoFront, ParseResult, after_word, plain_name};
+use gql_front::{NoFront, ParseResult, after_word, plain_name, word_at};
 use gql_lexer::Lexeme;
 use gql_lexer::symbols::EQUAL;
 use gql_lexer::words::VALUE;
@@ -22,7 +22,7 @@ use std::alloc::Global;
 pub fn session<'a>(alloc: Global, rest: &'a [Lexeme]) -> ParseResult<'a, SessionStatement>
     ensures { Reads result rest.now session_of }
 {
-    let (word, rest) = session_word_at(rest)?;
+    let (word, rest) = word_at::<SessionWords>(rest)?;
     match word {
         SessionWord::Set => set(alloc, rest),
         SessionWord::Reset => Ok((SessionStatement::Reset, rest)),

@@ -1,13 +1,8 @@
 //! The words behind SESSION.
 
-ghost use Rattle.std.specs.Prelude.{◌≡◌, ◌<◌, length, IfOk};
-ghost use Rattle.gql_front.specs.Tables.{entry};
-ghost use Rattle.gql_front.specs.Reading.{op_at};
-ghost use Rattle.gql_front.specs.Reads.{Takes};
-ghost use Rattle.gql_statements.specs.SessionWords.{session_words, session_word};
+ghost use Rattle.gql_statements.specs.SessionWords.{session_words};
 
-use gql_front::NoFront;
-use gql_lexer::Lexeme;
+use gql_front::WordTable;
 use gql_lexer::words::{CLOSE, RESET, SET};
 
 /// What a reserved word behind SESSION says.
@@ -18,26 +13,20 @@ pub enum SessionWord {
     Close,
 }
 
-/// What the reserved word of the place says, if it says anything.
-fn session_word(place: u32) -> Option<SessionWord>
-    ensures { result ≡ entry session_words place }
-{
-    match place {
-        SET => Some(SessionWord::Set),
-        RESET => Some(SessionWord::Reset),
-        CLOSE => Some(SessionWord::Close),
-        _ => None,
-    }
-}
+/// The words behind SESSION.
+pub struct SessionWords;
 
-/// What the word at the front says.
-pub fn session_word_at(rest: &[Lexeme]) -> Result<(SessionWord, &[Lexeme]), NoFront>
-    ensures { Takes result rest.now (op_at session_word) }
-{
-    if let [Lexeme::Word { place, .. }, after @ ..] = rest {
-        if let Some(word) = session_word(*place) {
-            return Ok((word, after));
+impl WordTable for SessionWords {
+    type Says = SessionWord;
+
+    ghost words = { session_words };
+
+    fn says(place: u32) -> Option<SessionWord> {
+        match place {
+            SET => Some(SessionWord::Set),
+            RESET => Some(SessionWord::Reset),
+            CLOSE => Some(SessionWord::Close),
+            _ => None,
         }
     }
-    Err(NoFront)
 }

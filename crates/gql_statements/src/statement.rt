@@ -7,10 +7,10 @@ ghost use Rattle.gql_statements.specs.Machinery.StatementReaders.{statement_behi
 use crate::catalog::{create, drop_named};
 use crate::query::query;
 use crate::session::session;
-use crate::statement_word::{StatementWord, statement_word_at};
+use crate::statement_word::{StatementWord, StatementWords};
 use crate::transaction::start;
 use gql_ast::{ParseFault, Statement, TransactionStatement};
-use gql_front::{NoFront, ParseResult};
+use gql_front::{NoFront, ParseResult, word_at};
 use gql_lexer::Lexeme;
 use std::alloc::Global;
 
@@ -19,7 +19,7 @@ use std::alloc::Global;
 pub fn statement<'a>(alloc: Global, rest: &'a [Lexeme]) -> ParseResult<'a, Statement>
     ensures { Reads result rest.now statement_of }
 {
-    match statement_word_at(rest) {
+    match word_at::<StatementWords>(rest) {
         Ok((word, behind)) => {
             let (found, rest) = statement_behind(alloc, word, behind)?;
             Ok((found, rest))

@@ -1,13 +1,8 @@
 //! The words that begin statements other than queries.
 
-ghost use Rattle.std.specs.Prelude.{◌≡◌, ◌<◌, length, IfOk};
-ghost use Rattle.gql_front.specs.Tables.{entry};
-ghost use Rattle.gql_front.specs.Reading.{op_at};
-ghost use Rattle.gql_front.specs.Reads.{Takes};
-ghost use Rattle.gql_statements.specs.StatementWords.{statement_words, statement_word};
+ghost use Rattle.gql_statements.specs.StatementWords.{statement_words};
 
-use gql_front::NoFront;
-use gql_lexer::Lexeme;
+use gql_front::WordTable;
 use gql_lexer::words::{COMMIT, CREATE, DROP, ROLLBACK, SESSION, START};
 
 /// What a reserved word at the front begins a statement of.
@@ -21,29 +16,23 @@ pub enum StatementWord {
     Drop,
 }
 
-/// What the reserved word of the place begins, if it begins a statement other than a query.
-fn statement_word(place: u32) -> Option<StatementWord>
-    ensures { result ≡ entry statement_words place }
-{
-    match place {
-        SESSION => Some(StatementWord::Session),
-        START => Some(StatementWord::Start),
-        COMMIT => Some(StatementWord::Commit),
-        ROLLBACK => Some(StatementWord::Rollback),
-        CREATE => Some(StatementWord::Create),
-        DROP => Some(StatementWord::Drop),
-        _ => None,
-    }
-}
+/// The words that begin statements other than queries.
+pub struct StatementWords;
 
-/// What the word at the front begins.
-pub fn statement_word_at(rest: &[Lexeme]) -> Result<(StatementWord, &[Lexeme]), NoFront>
-    ensures { Takes result rest.now (op_at statement_word) }
-{
-    if let [Lexeme::Word { place, .. }, after @ ..] = rest {
-        if let Some(word) = statement_word(*place) {
-            return Ok((word, after));
+impl WordTable for StatementWords {
+    type Says = StatementWord;
+
+    ghost words = { statement_words };
+
+    fn says(place: u32) -> Option<StatementWord> {
+        match place {
+            SESSION => Some(StatementWord::Session),
+            START => Some(StatementWord::Start),
+            COMMIT => Some(StatementWord::Commit),
+            ROLLBACK => Some(StatementWord::Rollback),
+            CREATE => Some(StatementWord::Create),
+            DROP => Some(StatementWord::Drop),
+            _ => None,
         }
     }
-    Err(NoFront)
 }

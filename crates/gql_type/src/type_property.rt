@@ -1,16 +1,14 @@
 //! A property of an element of a graph type: its name, its kind, and whether it is NOT NULL.
 
 ghost use Rattle.std.specs.Prelude.{◌≡◌};
-ghost use Rattle.gql_front.specs.Reading.{op_at};
 ghost use Rattle.gql_front.specs.Reads.{Takes, AlwaysReads, GoesBehind, LeftBehind};
-ghost use Rattle.gql_front.specs.Tables.{entry};
 ghost use Rattle.gql_parts.specs.Machinery.PartReaders.{past};
-ghost use Rattle.gql_type.specs.TypeWords.{scalar_words, scalar_word, is_typed};
+ghost use Rattle.gql_type.specs.TypeWords.{scalar_words, is_typed};
 ghost use Rattle.gql_type.specs.Machinery.TypeReaders.{not_null_of, required_of, list_kind_of, kind_of};
 
 use crate::type_content::TypeParts;
 use gql_ast::TypeProperty;
-use gql_front::{NoFront, ParseResult, after_sign, after_word, any_name};
+use gql_front::{NoFront, ParseResult, WordTable, after_sign, after_word, any_name, word_at};
 use gql_lexer::Lexeme;
 use gql_lexer::symbols::{DOUBLE_COLON, GREATER, LESS};
 use gql_lexer::words::{BOOL, BOOLEAN, INT, INT64, INTEGER, LIST, NOT, NULL, STRING, TYPED};
@@ -56,7 +54,7 @@ fn past_typed(rest: &[Lexeme]) -> &[Lexeme]
 fn kind(rest: &[Lexeme]) -> Result<(PropKind, &[Lexeme]), NoFront>
     ensures { Takes result rest.now kind_of }
 {
-    match scalar_at(rest) {
+    match word_at::<ScalarWords>(rest) {
         Ok((scalar, rest)) => Ok((PropKind::One(scalar), rest)),
         Err(NoFront) => list_kind(rest),
     }
@@ -68,7 +66,7 @@ fn list_kind(rest: &[Lexeme]) -> Result<(PropKind, &[Lexeme]), NoFront>
 {
     let rest = after_word(LIST, rest)?;
     let rest = after_sign(LESS, rest)?;
-    let (item, rest) = scalar_at(rest)?;
+    let (item, rest) = word_at::<ScalarWords>(rest)?;
     let (required, rest) = required(rest);
     let rest = after_sign(GREATER, rest)?;
     Ok((PropKind::Many { item, required }, rest))
@@ -92,29 +90,23 @@ fn after_not_null(rest: &[Lexeme]) -> Result<&[Lexeme], NoFront>
     after_word(NULL, rest)
 }
 
-/// The kind of plain values at the front.
-fn scalar_at(rest: &[Lexeme]) -> Result<(Scalar, &[Lexeme]), NoFront>
-    ensures { Takes result rest.now (op_at scalar_word) }
-{
-    if let [Lexeme::Word { place, .. }, after @ ..] = rest {
-        if let Some(scalar) = scalar_of(*place) {
-            return Ok((scalar, after));
-        }
-    }
-    Err(NoFront)
-}
+/// The words that say a kind of plain values.
+struct ScalarWords;
 
-/// The kind that the reserved word of the place says, if it says one.
-fn scalar_of(place: u32) -> Option<Scalar>
-    ensures { result ≡ entry scalar_words place }
-{
-    match place {
-        BOOL => Some(Scalar::Bool),
-        BOOLEAN => Some(Scalar::Bool),
-        INT => Some(Scalar::Int),
-        INTEGER => Some(Scalar::Int),
-        INT64 => Some(Scalar::Int),
-        STRING => Some(Scalar::Text),
-        _ => None,
+impl WordTable for ScalarWords {
+    type Says = Scalar;
+
+    ghost words = { scalar_words };
+
+    fn says(place: u32) -> Option<Scalar> {
+        match place {
+            BOOL => Some(Scalar::Bool),
+            BOOLEAN => Some(Scalar::Bool),
+            INT => Some(Scalar::Int),
+            INTEGER => Some(Scalar::Int),
+            INT64 => Some(Scalar::Int),
+            STRING => Some(Scalar::Text),
+            _ => None,
+        }
     }
 }

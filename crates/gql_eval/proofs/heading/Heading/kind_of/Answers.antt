@@ -1,8 +1,8 @@
 use Rattle.std.proofs.Common.{◌≡◌, ◌∙◌, Some, None, ap, sym}
 use Rattle.gql_ast.specs.ClauseColumns.{ColumnList}
 use Rattle.gql_eval.specs.Machinery.Places.{place_among}
-use Rattle.gql_change.proofs.EndpointLemmas.{kind_by, kind_of_place}
-use Rattle.gql_change.proofs.names.Names.kind_of.Goals as goal
+use Rattle.gql_eval.proofs.NotingLemmas.{kind_by, kind_of_place}
+use Rattle.gql_eval.proofs.heading.Heading.kind_of.Goals as goal
 
 pub returns-in-Some : goal.returns-in-Some
 returns-in-Some c =

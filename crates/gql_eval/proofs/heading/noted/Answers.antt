@@ -2,8 +2,8 @@ use Rattle.std.proofs.Common.{◌≡◌, ◌∙◌, ap, sym, true, false, is_som
 use Rattle.std.specs.HashMap.{get_by_text}
 use Rattle.std.specs.String.{string_bytes}
 use Rattle.std.proofs.lemmas.Map.Text.{hash_map_updates_text}
-use Rattle.gql_change.proofs.PlaceOfName.{known, learnt}
-use Rattle.gql_change.proofs.names.noted.Goals as goal
+use Rattle.gql_eval.proofs.NotingLemmas.{known, learnt}
+use Rattle.gql_eval.proofs.heading.noted.Goals as goal
 
 pub returns-then-contains_key : goal.returns-then-contains_key
 returns-then-contains_key c =

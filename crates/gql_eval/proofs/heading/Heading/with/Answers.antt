@@ -1,7 +1,7 @@
 use Rattle.std.proofs.Common.{refl}
 use Rattle.std.specs.HashMap.{get_by_text}
-use Rattle.gql_change.proofs.PlaceOfName.{placed_on}
-use Rattle.gql_change.proofs.names.Names.with.Goals as goal
+use Rattle.gql_eval.proofs.NotingLemmas.{placed_on}
+use Rattle.gql_eval.proofs.heading.Heading.with.Goals as goal
 
 pub invariant_of-result : goal.invariant_of-result
 invariant_of-result c =
