@@ -5,6 +5,7 @@ mod MemoryLemmas
 mod MergeLemmas
 mod ObjectLemmas
 mod PairLemmas
+mod ReadLemmas
 mod RefusalLemmas
 mod RunLemmas
 mod ScanLemmas

@@ -15,6 +15,10 @@ errs_as r e Cause is why = subst (λ r. IfErr r Cause) (sym is) why
 pub fails_as : {T : Type 0} (r : Result T Error) (e : Error) (Cause : Error → Type 0) → r ≡ Err e → ((e ≡ no_memory → ⊥) → Cause e) → FailsOnlyBy r Cause
 fails_as r e Cause is why = subst (λ r. FailsOnlyBy r Cause) (sym is) why
 
+pub fails_only : {T : Type 0} (r : Result T Error) (Cause : Error → Type 0) → IfErr r Cause → FailsOnlyBy r Cause
+fails_only (Ok x) Cause why = tt
+fails_only (Err e) Cause why = λ other. why
+
 -- for a cause of which something is known
 pub errs_where : {T P : Type 0} (r : Result T Error) (Cause Other : Error → Type 0) → (P → IfErr r Cause) → ((e : Error) → (P → Cause e) → Other e) → FailsOnlyBy r Other
 errs_where (Ok x) Cause Other why then = tt
@@ -30,7 +34,8 @@ pub failed_by : {T U : Type 0} (answer : Result T Error) (told : Result T KeepFa
     → ((told ≡ Err NoMemory → answer ≡ Err no_memory) × (answer ≡ Err no_memory → told ≡ Err NoMemory)) → (result ≡ Err Failed → told ≡ Err Failed) → FailsOnlyBy answer Cause → FailedBy result Cause
 failed_by (Ok x) told result Cause same memory tells why failed = absurd (let is = ap is_ok (tells failed) in cc)
 failed_by (Err e) told result Cause same memory tells why failed =
-    (e, why (λ is. let none = memory.1 (ap Err is) in let is = tells failed in absurd cc))
+    let other : e ≡ no_memory → ⊥ = (λ is. let none = memory.1 (ap Err is) in let is = tells failed in absurd cc) in
+    (e, other, why other)
 
 -- the keys differ, so that it was the other reason
 pub but_differ : {P : Type 0} (differ : Bool) → IsTrue differ → (differ ≡ false) ⊎ P → P

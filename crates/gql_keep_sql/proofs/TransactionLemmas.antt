@@ -24,10 +24,10 @@ ran_one g x a b count one = (b, count, one, refl)
 pub keeps_then : (a b c : State) → KeepsCommit a b → KeepsCommit b c → KeepsCommit a c
 keeps_then a b c one two = record { was_open = λ o. one.was_open (two.was_open o); committed = λ o. two.committed o ∙ one.committed (two.was_open o) }
 
-shows_keeps : (a b : State) → IsUnchanged a b → KeepsCommit a b
+pub shows_keeps : (a b : State) → IsUnchanged a b → KeepsCommit a b
 shows_keeps a b same = record { was_open = λ o. same.0.was_open; committed = λ o. same.0.committed_is }
 
-rolled_keeps : (a b : State) → IsRolledBack a b → KeepsCommit a b
+pub rolled_keeps : (a b : State) → IsRolledBack a b → KeepsCommit a b
 rolled_keeps a b back = record { was_open = back.was_open; committed = λ o. (back.undone o).1 }
 
 -- a statement inside a transaction commits nothing

@@ -9,7 +9,7 @@ use Rattle.gql_keep_sql.specs.declared.place.Place.{Place}
 use Rattle.gql_keep_sql.specs.declared.place.Place.TheVariants.{Nowhere, Memory, File}
 use Rattle.gql_keep_sql.specs.Written.{Transacts, Alters, Writes}
 
-survives_itself : (s : State) (P : Trees → Type 0) → Survives s s P
+pub survives_itself : (s : State) (P : Trees → Type 0) → Survives s s P
 survives_itself s P = record {
   clean = omega arith;
   shield = λ h. h;

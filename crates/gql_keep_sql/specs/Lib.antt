@@ -1,9 +1,12 @@
+pub mod Closing
 pub mod Established
 pub mod Fetched
 pub mod Keys
 pub mod Machinery
+pub mod OnlyRead
 pub mod Places
 pub mod Refusals
+pub mod Rests
 pub mod Told
 pub mod Transaction
 pub mod Written

@@ -1,6 +1,8 @@
 -- The place where the records of a store are.
 use Rattle.std.specs.Prelude.{◌≡◌, ℕ, List, Option, Some, None, ⊤}
 use Rattle.std.specs.String.{string_bytes}
+use Rattle.sqlite.specs.Files.{over_files}
+use Rattle.gql_keep_sql.specs.OnlyRead.{IsOnlyRead}
 use Rattle.gql_keep_sql.specs.declared.place.Place.{Place}
 use Rattle.gql_keep_sql.specs.declared.place.Place.TheVariants.{Nowhere, Memory, File}
 
@@ -15,9 +17,9 @@ abbrev pub IsFile : Place → Type 0
 IsFile (File name conn) = ⊤
 IsFile place = ⊥
 
--- the place stays: the file, or memory with its records
+-- the place stays: the file, of which records were only read, or memory with its records
 abbrev pub IsSamePlace : Place → Place → Type 0
 IsSamePlace Nowhere Nowhere = ⊤
 IsSamePlace (Memory old) (Memory new) = new ≡ old
-IsSamePlace (File name old) (File new_name new) = new_name ≡ name
+IsSamePlace (File name old) (File new_name new) = (new_name ≡ name) × IsOnlyRead over_files old new
 IsSamePlace _ _ = ⊥

@@ -19,6 +19,6 @@ SucceedsIff (Err e) test = e ≢ no_memory → test ≡ false
 abbrev pub FailsOnlyBy : {T : Type 0} → Result T Error → (Error → Type 0) → Type 0
 FailsOnlyBy result Cause = IfErr result (λ e. e ≢ no_memory → Cause e)
 
--- where a keeper answers that it failed, the error behind that is one of these
+-- where a keeper answers that it failed, the error behind that is one of these, and is no want of memory
 abbrev pub FailedBy : {T : Type 0} → Result T KeepFault → (Error → Type 0) → Type 0
-FailedBy result Cause = result ≡ Err Failed → (e : Error) × Cause e
+FailedBy result Cause = result ≡ Err Failed → (e : Error) × (e ≢ no_memory) × Cause e

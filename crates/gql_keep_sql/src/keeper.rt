@@ -10,6 +10,7 @@ ghost use Rattle.gql_keep_sql.specs.Told.{told_by};
 ghost use Rattle.gql_keep_sql.specs.Keys.{has_key, keys_of, stands_after};
 ghost use Rattle.gql_keep_sql.specs.declared.place.Place.TheVariants.{Nowhere};
 ghost use Rattle.gql_keep_sql.specs.Fetched.{Fetches, FailsToFetch, AreAllKeys};
+ghost use Rattle.gql_keep_sql.specs.Closing.{IsClosed, FailsToClose};
 ghost use Rattle.gql_keep_sql.specs.Places.{IsUnder, IsFile, IsSamePlace};
 ghost use Rattle.gql_keep_sql.specs.Refusals.{FailsOnlyBy, FailedBy};
 ghost use Rattle.gql_keep_sql.specs.Written.{Writes, FailsToWrite};
@@ -55,7 +56,9 @@ impl<'a> SqlKeeper<'a> {
     /// Copies SQLite's log into the file, which then stands alone. Without it the log stays beside the file, and the next
     /// opening reads both.
     pub fn close(self) -> Result<(), KeepFault>
-        ensures { OnErr result (IsFile self.entry.reader.place) }
+        ensures closed { OnOk result (IsClosed self.entry.reader.place) }
+        ensures memory { OnErr result (IsFile self.entry.reader.place) }
+        ensures refused { FailedBy result (FailsToClose self.entry.reader.place) }
     {
         let mut faults = self.faults;
         counted(&mut faults, self.reader.close())

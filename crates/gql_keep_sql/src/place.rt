@@ -1,11 +1,12 @@
 //! Where the records of a store are: in a file, in memory, or nowhere yet.
 
-ghost use Rattle.std.specs.Prelude.{◌≡◌, Some, None, IfOk, IfErr, OnErr, IsOk, IsTrue, is_ok};
+ghost use Rattle.std.specs.Prelude.{◌≡◌, Some, None, IfOk, IfErr, OnOk, OnErr, IsOk, IsTrue, is_ok};
 ghost use Rattle.std.specs.List.{list_all};
 ghost use Rattle.sqlite.specs.Held.{IsNew};
 ghost use Rattle.sqlite.specs.Opening.{is_open_error};
 ghost use Rattle.std.specs.Option.{option_copied};
 ghost use Rattle.gql_keep_sql.specs.Fetched.{AreAllRecords, IsRun, is_record, FailsToRead, held_at};
+ghost use Rattle.gql_keep_sql.specs.Closing.{IsClosed, FailsToClose};
 ghost use Rattle.gql_keep_sql.specs.Places.{IsUnder, IsFile, IsSamePlace};
 ghost use Rattle.gql_keep_sql.specs.Refusals.{FailsOnlyBy};
 ghost use Rattle.gql_keep_sql.specs.Written.{Writes, FailsToWrite};
@@ -95,12 +96,20 @@ impl Place {
 
     /// Copies SQLite's log into the file, which then stands alone.
     pub fn close(self) -> Result<(), Error>
-        ensures { OnErr result (IsFile self) }
+        ensures closed { OnOk result (IsClosed self) }
+        ensures memory { OnErr result (IsFile self) }
+        ensures refused { IfErr result (FailsToClose self) }
     {
         match self {
             Place::Nowhere => Ok(()),
             Place::Memory(_) => Ok(()),
-            Place::File(_, conn) => conn.close(),
+            Place::File(_, conn) => match conn.close_files() {
+                Ok(_) => Ok(()),
+                Err((error, store)) => {
+                    drop(store.close());
+                    Err(error)
+                }
+            },
         }
     }
 }

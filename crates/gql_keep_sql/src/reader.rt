@@ -1,9 +1,10 @@
 //! The place of a store, and a run of the records of a file that was read ahead: all of them behind an opening, 64 later on.
 
-ghost use Rattle.std.specs.Prelude.{◌≡◌, [], ◌∷◌, ◌++◌, List, None, Some, IfOk, IfSome, OnOk, OnErr, IsTrue, is_ok, reverse, Contains};
+ghost use Rattle.std.specs.Prelude.{◌≡◌, [], ◌∷◌, ◌++◌, List, None, Some, IfOk, IfErr, IfSome, OnOk, OnErr, IsTrue, is_ok, reverse, Contains};
 ghost use Rattle.std.specs.List.{list_all};
 ghost use Rattle.std.specs.Option.{option_copied};
 ghost use Rattle.gql_keep_sql.specs.Fetched.{AreReadAhead, IsRun, is_record, begin_with, FailsToRead, FailsToFetch, Fetches, AreAllKeys};
+ghost use Rattle.gql_keep_sql.specs.Closing.{IsClosed, FailsToClose};
 ghost use Rattle.gql_keep_sql.specs.Places.{IsUnder, IsFile, IsSamePlace};
 ghost use Rattle.gql_keep_sql.specs.Refusals.{FailsOnlyBy};
 ghost use Rattle.gql_keep_sql.specs.Written.{Writes, FailsToWrite};
@@ -102,7 +103,9 @@ impl Reader {
 
     /// Copies SQLite's log into the file, which then stands alone.
     pub fn close(self) -> Result<(), Error>
-        ensures { OnErr result (IsFile self.place) }
+        ensures closed { OnOk result (IsClosed self.place) }
+        ensures memory { OnErr result (IsFile self.place) }
+        ensures refused { IfErr result (FailsToClose self.place) }
     {
         let Reader { place, run: _ } = self;
         place.close()

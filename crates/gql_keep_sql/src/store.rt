@@ -4,13 +4,15 @@ ghost use Rattle.std.specs.Prelude.{◌≡◌, ℕ, [], Ok, Err, IfOk, IfErr, On
 ghost use Rattle.std.specs.List.{AllZip, list_all};
 ghost use Rattle.sqlite.specs.declared.types.Value.TheVariants.{Blob};
 ghost use Rattle.sqlite.specs.Order.{column};
-ghost use Rattle.sqlite.specs.State.{HasCleanDisk, Executes};
+ghost use Rattle.sqlite.specs.State.{HasCleanDisk, Survives, Executes};
 ghost use Rattle.sqlite.specs.Held.{state};
 ghost use Rattle.gql_values3.specs.Texts.{texts_differ};
 ghost use Rattle.gql_keep_sql.specs.Established.{table, is_text, Establishes, FailsToEstablish};
 ghost use Rattle.gql_keep_sql.specs.Fetched.{SelectsAll, SelectsRun, AreRead, HasRecord, is_blob, is_record, IsRefusedRun, FailsToSelect};
 ghost use Rattle.gql_keep_sql.specs.Keys.{keys_of};
+ghost use Rattle.gql_keep_sql.specs.OnlyRead.{CommitsRun, IsOnlyRead};
 ghost use Rattle.gql_keep_sql.specs.Refusals.{SucceedsIff, FailsOnlyBy};
+ghost use Rattle.gql_keep_sql.specs.Rests.{Rests};
 
 use crate::fault::{NO_MEMORY, NOT_A_STORE};
 use crate::keys::Keys;
@@ -107,6 +109,7 @@ pub fn select<S: Alter>(
 ) -> Result<Vec<Record>, Error>
     ensures read { IfOk result (λ records. AreRead S.Store records.items conn.new (λ rows. SelectsRun S.Store from.now rows conn.old conn.new)) }
     ensures refused { FailsOnlyBy result (FailsToSelect S.Store from.now (list_all is_record) conn.old conn.new) }
+    ensures only_read { IsOnlyRead S.Store conn.old conn.new }
 {
     let rows = select_rows(conn, from)?;
     records_of(alloc, rows.as_slice())
@@ -115,6 +118,8 @@ pub fn select<S: Alter>(
 fn select_rows<S: Alter>(conn: &mut Connection<S>, from: &Key) -> Result<Vec<Row>, Error>
     ensures answered { IfOk result (λ rows. HasCleanDisk (state S.Store conn.new) → SelectsRun S.Store from.now rows.items conn.old conn.new) }
     ensures refused { HasCleanDisk (state S.Store conn.new) → IfErr result (IsRefusedRun S.Store from.now conn.old conn.new) }
+    ensures rests { Rests conn.old conn.new }
+    ensures crash { Survives (state S.Store conn.old) (state S.Store conn.new) (CommitsRun S.Store from.now conn.old) }
 {
     Ok(conn.query_all(RUN, params![from.as_slice()])?)
 }

@@ -4,6 +4,7 @@ ghost use Rattle.std.specs.Prelude.{◌≡◌, map, IsTrue, IfErr, OnOk, OnErr};
 ghost use Rattle.sqlite.specs.Effect.{Database};
 ghost use Rattle.sqlite.specs.State.{HasCleanDisk, KeepsCommit, Survives};
 ghost use Rattle.sqlite.specs.Held.{state};
+ghost use Rattle.gql_keep_sql.specs.Rests.{Rests};
 ghost use Rattle.gql_keep_sql.specs.Transaction.{Step, put_step, drop_step, Ran, Refuses, RunsInside, Rewrote, FailsToRewrite};
 ghost use Rattle.gql_keep_sql.specs.Refusals.{FailsOnlyBy};
 
@@ -24,6 +25,7 @@ pub fn write<S: Alter>(
     ensures all { HasCleanDisk (state S.Store conn.new) → OnOk result (Rewrote S.Store puts.now drops.now conn.old (state S.Store conn.new).committed) }
     ensures nothing { HasCleanDisk (state S.Store conn.new) → IsTrue (state S.Store conn.new).is_open → OnErr result ((state S.Store conn.new).committed ≡ (state S.Store conn.old).committed) }
     ensures refused { FailsOnlyBy result (FailsToRewrite S.Store puts.now drops.now conn.old conn.new) }
+    ensures rests { Rests conn.old conn.new }
     ensures crash { Survives (state S.Store conn.old) (state S.Store conn.new) (λ trees. (db : Database) × Rewrote S.Store puts.now drops.now conn.old db × (trees ≡ db.trees)) }
 {
     if !conn.is_autocommit() {

@@ -4,7 +4,3 @@ use Rattle.std.specs.Prelude.{ℕ, ◌+◌, ◌-◌, ◌^◌, ◌≤◌, min}
 -- the count is greater by so much, or stands at its last value
 abbrev pub RoseBy : ℕ → ℕ → ℕ → Type 0
 RoseBy n before now = (min (before + n) (2 ^ 64 - 1) ≤ now) × (now ≤ before + n)
-
--- The same, or by one more: where memory runs out, the store may have failed in the last piece, and there was none to tell it.
-abbrev pub RoseByOrOneMore : ℕ → ℕ → ℕ → Type 0
-RoseByOrOneMore n before now = (min (before + n) (2 ^ 64 - 1) ≤ now) × (now ≤ before + n + 1)

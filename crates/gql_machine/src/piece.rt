@@ -1,5 +1,5 @@
 //! One piece of a session, from its bytes to its text.
-ghost use Rattle.std.specs.Prelude.{◌≡◌, ◌<◌, ◌≤◌, ◌+◌, ◌^◌, ℕ, List, Some, false, length, IfOk, MatchResult};
+ghost use Rattle.std.specs.Prelude.{◌≡◌, ◌<◌, ◌≤◌, ◌^◌, ℕ, List, Some, false, length, IfOk, OnErr, MatchResult};
 ghost use Rattle.gql_txn.specs.Keeps.{Keeps, IsSameStore};
 ghost use Rattle.gql_machine.specs.SessionState.{SessionState};
 ghost use Rattle.gql_machine.specs.PieceRun.{RanPiece};
@@ -33,11 +33,11 @@ pub fn run_piece<M: Matcher<Graph>, K: Keeper>(
     // The piece was one step of the machine, and its text is that of the step's outcome.
     ensures ran { IfOk result (λ refused. RanPiece (session_state session.old) piece.now refused text.new (K.faults keeper.old) (K.faults keeper.new) (session_state session.new)) }
 
-    // The store keeps what the machine keeps; where memory runs out, what was kept before the piece.
+    // The store keeps what the machine keeps; where memory runs out, what was kept before the piece, and it has not failed.
     ensures kept { Keeps (K.held keeper.old) session.old.txn.kept → MatchResult result (λ _. Keeps (K.held keeper.new) session.new.txn.kept) (λ _. Keeps (K.held keeper.new) session.old.txn.kept) }
     ensures same { IsSameStore (K.held keeper.old) (K.held keeper.new) }
     ensures later { K.faults keeper.old ≤ K.faults keeper.new }
-    ensures once { K.faults keeper.new ≤ K.faults keeper.old + 1 }
+    ensures unfailed { OnErr result (K.faults keeper.new ≡ K.faults keeper.old) }
 {
     clear(tools.alloc, text);
     match answer_piece(tools, session, piece)? {
@@ -58,7 +58,7 @@ fn finish<K: Keeper>(
     ensures kept { Keeps (K.held keeper.old) session.old.txn.kept → MatchResult result (λ _. Keeps (K.held keeper.new) session.new.txn.kept) (λ _. Keeps (K.held keeper.new) session.old.txn.kept) }
     ensures same { IsSameStore (K.held keeper.old) (K.held keeper.new) }
     ensures later { K.faults keeper.old ≤ K.faults keeper.new }
-    ensures once { K.faults keeper.new ≤ K.faults keeper.old + 1 }
+    ensures unfailed { OnErr result (K.faults keeper.new ≡ K.faults keeper.old) }
 {
     write_text(alloc, &end.outcome, text)?;
     if end.commits {

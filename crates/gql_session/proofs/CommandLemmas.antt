@@ -6,12 +6,15 @@ use Rattle.gql_ports.specs.Told.{Content}
 use Rattle.gql_ports.specs.Held.{Holding, same_name, held_after_opening}
 use Rattle.gql_ports.specs.declared.stored.Record.{Record}
 use Rattle.gql_txn.specs.Keeps.{IsSameStore}
-use Rattle.gql_session.specs.Words.{Command, command_of, store_of}
-use Rattle.gql_session.specs.RunEnds.{HoldsText, IsTextOf, SessionTells, StoreTells}
+use Rattle.gql_session.specs.Words.{Command, command_of, store_of, session_of}
+use Rattle.gql_session.specs.RunEnds.{HoldsText, IsTextOf, SessionTells, StoreTells, SourceTells}
 
 -- words are one command, or none
 pub not_both : {command : Option Command} {x : Command} → None ≡ command → command ≡ Some x → ⊥
 not_both p q = let r = p ∙ q in cc
+
+pub one_or_none : {command : Option Command} (x : Command) → Some x ≡ command → command ≡ None → ⊥
+one_or_none x p q = let r = p ∙ q in cc
 
 pub one_command : {command : Option Command} (x y : Command) → Some x ≡ command → command ≡ Some y → y ≡ x
 one_command x y p q = ap (λ o. unwrap_or o x) (sym (p ∙ q))
@@ -20,6 +23,9 @@ pub text_told : {words : List (List ℕ)} {source : Option Content} {text : List
 text_told {source = source} {text = text} x p t =
     let P : Command → Type 0 = λ c. IsTextOf c source text in
     subst P (one_command x t.command p t.is_command) t.text_is
+
+pub session_told : {words : List (List ℕ)} {source : Option Content} {c : Content} (x : Command) → Some x ≡ command_of words → SourceTells words source c → session_of x ≡ Some c.name
+session_told x p t = sym (ap session_of (one_command x t.command p t.is_command)) ∙ t.name_is
 
 -- what the source of a file's text tells
 abbrev pub content_of : {name : List ℕ} {source : Option Content} {text : List ℕ} → HoldsText name source text → Content
@@ -51,6 +57,10 @@ opened name records old new k p =
 pub same_again : (held : Option Holding) → IsSameStore held held
 same_again None = tt
 same_again (Some h) = refl
+
+-- what is held is the same
+pub same_as_held : (a b : Option Holding) → b ≡ a → IsSameStore a b
+same_as_held a b p = let P : Option Holding → Type 0 = λ h. IsSameStore a h in subst P (sym p) (same_again a)
 
 pub same_then : (a b c : Option Holding) → IsSameStore a b → IsSameStore b c → IsSameStore a c
 same_then None None None p q = tt

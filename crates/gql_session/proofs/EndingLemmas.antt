@@ -1,6 +1,8 @@
 -- How a run ends, from how the run of its text did.
-use Rattle.std.proofs.Common.{◌≡◌, ◌⊎◌, ℕ, ◌≤◌, ◌<◌, Bool, true, false, List, [], ◌∷◌, ◌++◌, length, Option, Some, None, Result, Ok, Err, refl, sym, ap, ◌∙◌, subst, inl, inr, IsTrue, arith}
+use Rattle.std.proofs.Common.{◌≡◌, ◌⊎◌, ℕ, ◌+◌, ◌-◌, ◌^◌, min, ◌≤◌, ◌<◌, Bool, true, false, List, [], ◌∷◌, ◌++◌, length, Option, Some, None, Result, Ok, Err, refl, sym, ap, ◌∙◌, subst, inl, inr, IsTrue, append-nil, arith}
 use Rattle.std.specs.Prelude.{unwrap_or}
+use Rattle.gql_ports.specs.Causes.{Rose}
+use Rattle.gql_ports.specs.Told.{Content}
 use Rattle.gql_ports.specs.Held.{Holding}
 use Rattle.gql_ports.specs.declared.stored.Record.{Record}
 use Rattle.gql_graph.specs.Catalog.{CatalogData}
@@ -10,12 +12,12 @@ use Rattle.gql_txn.specs.Keeps.{Keeps, IsSameStore}
 use Rattle.gql_txn.specs.declared.load.LoadFault.TheVariants as load
 use Rattle.gql_machine.specs.SessionState.{SessionState, starting}
 use Rattle.gql_session.specs.Endings.{FaultCounts}
-use Rattle.gql_session.specs.RunEnds.{most_bytes, EndsAs, HoldsCatalog, NothingRan, is_before_reading, is_before_running, is_complete}
+use Rattle.gql_session.specs.RunEnds.{most_bytes, EndsAs, HoldsCatalog, NothingRan, IsTaken, SourceEndsAs, is_before_reading, is_before_running, is_complete, source_count, sink_count, store_count}
 use Rattle.gql_session.specs.declared.run_pieces.RunFault.{RunFault}
 use Rattle.gql_session.specs.declared.run_pieces.RunFault.TheVariants as fault
 use Rattle.gql_session.specs.declared.status.Status.{Status}
 use Rattle.gql_session.specs.declared.status.Status.TheVariants as status
-use Rattle.gql_session.specs.Machinery.TextEndings.{TextEnding, status_of, LoadedEndsAs}
+use Rattle.gql_session.specs.Machinery.TextEndings.{TextEnding, status_of, after_running, LoadedEndsAs}
 use Rattle.gql_session.proofs.CommandLemmas.{holding}
 
 -- the text was read and run
@@ -54,7 +56,7 @@ ends_as records name d text before faults status.SourceFault after held held_aft
 ends_as records name d text before faults status.SinkFault after held held_after k stands same e =
     record { catalog = d; stands = stands; within = e.0; ran = e.1.0; kept = holds held held_after (holding name records) d _ k same stands e.1.1 }
 ends_as records name d text before faults status.StoreFault after held held_after k stands same e = absurd e
-ends_as records name d text before faults status.NoMemory after held held_after k stands same (inl e) = inl (nothing_ran records name before after held held_after k e.0 e.1)
+ends_as records name d text before faults status.NoMemory after held held_after k stands same (inl e) = inl (e.0, nothing_ran records name before after held held_after k e.1.0 e.1.1)
 ends_as records name d text before faults status.NoMemory after held held_after k stands same (inr e) =
     inr (record { catalog = d; stands = stands; within = e.0; ran = e.1.0; kept = holds held held_after (holding name records) d _ k same stands e.1.1 })
 ends_as records name d text before faults status.TooLong after held held_after k stands same e = (e.0, nothing_ran records name before after held held_after k e.1.0 e.1.1)
@@ -97,6 +99,51 @@ not_source_fault s h p = let q = ap is_before_running p in cc
 
 pub not_bad_store : (s : Status) (i : ℕ) → is_before_reading s ≡ false → ¬ (s ≡ status.BadStore i)
 not_bad_store s i h p = let q = ap is_before_reading p in cc
+
+-- The source, and the counts of faults
+
+-- the whole text was read before it was run
+pub source_ends : (c : Content) (r : Result Bool RunFault) (source : Option Content) → IsTaken c.name source → SourceEndsAs c (status_of r) source
+source_ends c (Ok false) source t = t
+source_ends c (Ok true) source t = t
+source_ends c (Err fault.Sink) source t = t
+source_ends c (Err fault.OutOfMemory) source t = inr (record { taken = c.left; rest = []; source_is = t; text_is = sym (append-nil c.left) })
+
+-- the run of a text is no fault of the source
+pub source_uncounted : (r : Result Bool RunFault) (n : ℕ) → source_count (status_of r) n ≡ n
+source_uncounted (Ok false) n = refl
+source_uncounted (Ok true) n = refl
+source_uncounted (Err fault.Sink) n = refl
+source_uncounted (Err fault.OutOfMemory) n = refl
+
+pub sink_counted : (r : Result Bool RunFault) (n : ℕ) → after_running r n ≡ sink_count (status_of r) n
+sink_counted (Ok false) n = refl
+sink_counted (Ok true) n = refl
+sink_counted (Err fault.Sink) n = refl
+sink_counted (Err fault.OutOfMemory) n = refl
+
+-- once a catalog is loaded no ending is the store's fault
+pub store_uncounted : (s : Status) (n : ℕ) → is_before_reading s ≡ false → store_count s n ≡ n
+store_uncounted status.Answered n h = refl
+store_uncounted status.Refused n h = refl
+store_uncounted status.Usage n h = refl
+store_uncounted status.SourceFault n h = refl
+store_uncounted status.SinkFault n h = refl
+store_uncounted status.StoreFault n h = absurd (let no : true ≡ false = h in cc)
+store_uncounted status.NoMemory n h = refl
+store_uncounted status.TooLong n h = refl
+store_uncounted (status.BadStore i) n h = refl
+
+-- at its ending a port's count rose
+pub source_rose : (s : Status) (old new : ℕ) → new ≡ source_count s old → s ≡ status.SourceFault → Rose old new
+source_rose s old new h p = let risen : new ≡ min (old + 1) (2 ^ 64 - 1) = h ∙ ap (λ x. source_count x old) p in omega (arith, risen)
+
+pub sink_rose : (s : Status) (old new : ℕ) → new ≡ sink_count s old → s ≡ status.SinkFault → Rose old new
+sink_rose s old new h p = let risen : new ≡ min (old + 1) (2 ^ 64 - 1) = h ∙ ap (λ x. sink_count x old) p in omega (arith, risen)
+
+pub store_rose : (s : Status) (old new : ℕ) → (is_before_running s ≡ true → new ≡ store_count s old) → s ≡ status.StoreFault → Rose old new
+store_rose s old new h p =
+    let risen : new ≡ min (old + 1) (2 ^ 64 - 1) = h (ap is_before_running p) ∙ ap (λ x. store_count x old) p in omega (arith, risen)
 
 -- where nothing fails, the text is within its limit and no record is at fault
 pub completed : (text : List ℕ) (s : Status) (A B C : Type 0) → length text ≤ most_bytes → ¬ (s ≡ status.Usage) → (s ≡ status.TooLong → most_bytes < length text)

@@ -1,8 +1,8 @@
 -- Counts of the store's faults over several pieces.
-use Rattle.std.proofs.Common.{◌≡◌, ℕ, suc, ◌+◌, ◌≤◌, Bool, true, false, List, [], ◌∷◌, ◌++◌, arith, subst, sym}
+use Rattle.std.proofs.Common.{◌≡◌, ℕ, suc, ◌+◌, Bool, true, false, List, [], ◌∷◌, ◌++◌, arith, subst, sym}
 use Rattle.std.specs.Prelude.{if◌then◌else◌}
 use Rattle.gql_ast.specs.declared.refusal.Outcome.{Outcome}
-use Rattle.gql_machine.specs.Causes.{RoseBy, RoseByOrOneMore}
+use Rattle.gql_machine.specs.Causes.{RoseBy}
 use Rattle.gql_machine.specs.Outcomes.{is_store_refusal, store_refusals}
 
 pub rose_none : (n : ℕ) → RoseBy 0 n n
@@ -12,12 +12,9 @@ rose_none n = (omega arith, omega arith)
 pub rose_both : (n m a b c : ℕ) → RoseBy n a b → RoseBy m b c → RoseBy (n + m) a c
 rose_both n m a b c p q = (omega (arith, p.0, q.0), omega (arith, p.1, q.1))
 
--- one fault later, of which nothing may be told
-pub rose_on : (n a b c : ℕ) → RoseBy n a b → b ≤ c → c ≤ b + 1 → RoseByOrOneMore n a c
-rose_on n a b c p q r = (omega (arith, p.0, q), omega (arith, p.1, r))
-
-pub rose_none_or_once : (n : ℕ) → RoseByOrOneMore 0 n n
-rose_none_or_once n = (omega arith, omega arith)
+-- no rise behind a first one
+pub rose_no_more : (n a b c : ℕ) → RoseBy n a b → c ≡ b → RoseBy n a c
+rose_no_more n a b c p q = (omega (arith, p.0, q), omega (arith, p.1, q))
 
 one_more : (b : Bool) (k n m : ℕ) → k ≡ n + m → (if b then suc k else k) ≡ (if b then suc n else n) + m
 one_more true k n m p = omega (arith, p)

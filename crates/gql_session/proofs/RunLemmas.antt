@@ -18,7 +18,7 @@ use Rattle.gql_session.specs.Endings.{FaultCounts}
 use Rattle.gql_session.specs.Machinery.TextEndings.{WrotePiece, PieceFault, EarlyEnd, WholeAndKept, FirstAndKept}
 use Rattle.gql_session.specs.declared.run_pieces.RunFault.{RunFault}
 use Rattle.gql_session.specs.declared.run_pieces.RunFault.TheVariants as fault
-use Rattle.gql_session.proofs.FaultLemmas.{rose_none, rose_none_or_once, rose_on, rose_behind}
+use Rattle.gql_session.proofs.FaultLemmas.{rose_none, rose_no_more, rose_behind}
 
 -- so many pieces were run, and the store keeps what the machine keeps
 pub record Ran (start : SessionState) (text before : List ℕ) (count : ℕ) (faults : FaultCounts) (held : Option Holding) (any_refused : Bool) (end : SessionState) (after : Option (List ℕ)) (held_after : Option Holding) : Type 0 where
@@ -150,7 +150,7 @@ early_end start text before i p a b c r middle end written after held held_middl
     end = middle;
     runs = ran.runs;
     written = unrun.written;
-    store = rose_on (store_refusals ran.outcomes) a b c ran.store unrun.later unrun.once;
+    store = rose_no_more (store_refusals ran.outcomes) a b c ran.store unrun.unfailed;
   },
   λ k. unrun.kept (ran.kept k),
 )
@@ -158,4 +158,4 @@ early_end start text before i p a b c r middle end written after held held_middl
 -- no memory for the pieces at all
 pub ran_nothing : (start : SessionState) (text before : List ℕ) (n : ℕ) (held : Option Holding) (after : Option (List ℕ)) → after ≡ Some before → FirstAndKept start text before (record { before = n; after = n }) held after held
 ran_nothing start text before n held after p =
-    (record { count = 0; outcomes = []; end = start; runs = no_pieces; written = p ∙ ap Some (sym (append-nil before)); store = rose_none_or_once n }, λ k. k)
+    (record { count = 0; outcomes = []; end = start; runs = no_pieces; written = p ∙ ap Some (sym (append-nil before)); store = rose_none n }, λ k. k)

@@ -3,7 +3,7 @@ use Rattle.std.specs.Prelude.{◌≡◌, ℕ, ◌⊎◌, Bool, true, List, [], �
 use Rattle.std.specs.List.{list_any}
 use Rattle.gql_ast.specs.declared.refusal.Outcome.{Outcome}
 use Rattle.gql_text.specs.OutcomeText.{outcome_text}
-use Rattle.gql_machine.specs.Causes.{RoseBy, RoseByOrOneMore}
+use Rattle.gql_machine.specs.Causes.{RoseBy}
 use Rattle.gql_machine.specs.Outcomes.{outcome_texts, is_refusal, store_refusals}
 use Rattle.gql_machine.specs.SessionState.{SessionState}
 use Rattle.gql_machine.specs.SessionRun.{RunsSession}
@@ -33,7 +33,7 @@ pub record RanFirst (start : SessionState) (text before : List ℕ) (faults : Fa
   pub end : SessionState
   pub runs : RunsSession start (take count (session_pieces text)) outcomes end
   pub written : after ≡ Some (before ++ outcome_texts outcomes)
-  pub store : RoseByOrOneMore (store_refusals outcomes) faults.before faults.after
+  pub store : RoseBy (store_refusals outcomes) faults.before faults.after
 
 -- The first pieces were run; of the last outcome's text only a first part may be written, and all of those before it.
 pub record RanAndFailed (start : SessionState) (text before : List ℕ) (faults : FaultCounts) (after : Option (List ℕ)) : Type 0 where

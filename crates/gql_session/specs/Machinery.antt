@@ -3,3 +3,4 @@
 pub mod Seen
 pub mod Listing
 pub mod TextEndings
+pub mod Reading

@@ -19,6 +19,11 @@ abbrev pub store_of : Command → Option (List ℕ)
 store_of (run session store workers) = store
 store_of (selftest n) = None
 
+-- the name of the session's file, where it is in one
+abbrev pub session_of : Command → Option (List ℕ)
+session_of (run session store workers) = Some session
+session_of (selftest n) = None
+
 -- ---- what clap is told
 
 -- a required argument of this name

@@ -2,6 +2,7 @@
 ghost use Rattle.std.specs.Prelude.{◌≡◌, ◌≤◌, ◌<◌, ℕ, length, true, Some, IfOk};
 ghost use Rattle.gql_ports.specs.Causes.{Rose};
 ghost use Rattle.gql_ports.specs.Told.{Content};
+ghost use Rattle.gql_session.specs.Machinery.Reading.{after_reading, ReadingLeaves};
 
 use gql_ports::Source;
 use gql_values3::Bytes;
@@ -28,8 +29,10 @@ pub fn read_named<S: Source>(alloc: Global, name: &str, source: &mut S) -> Resul
     ensures all { (c : Content) → S.told source.old ≡ Some c → c.name ≡ name.now → IfOk result (λ bytes. bytes ≡ c.left) }
     ensures within { IfOk result (λ bytes. length bytes ≤ LIMIT) }
     ensures too_long { (c : Content) → S.told source.old ≡ Some c → c.name ≡ name.now → result ≡ Err TextFault.TooLong → LIMIT < length c.left }
+    ensures leaves { (c : Content) → S.told source.old ≡ Some c → c.name ≡ name.now → ReadingLeaves c.name c.left result (S.told source.new) }
     ensures later { S.faults source.old ≤ S.faults source.new }
     ensures failed { result ≡ Err TextFault.Failed → Rose (S.faults source.old) (S.faults source.new) }
+    ensures risen { S.faults source.new ≡ after_reading result (S.faults source.old) }
 {
     match source.open(name) {
         Ok(()) => read_all(alloc, source),
@@ -42,8 +45,10 @@ fn read_all<S: Source>(alloc: Global, source: &mut S) -> Result<Bytes, TextFault
     ensures all { (c : Content) → S.told source.old ≡ Some c → c.ready ≡ true → IfOk result (λ bytes. bytes ≡ c.left) }
     ensures within { IfOk result (λ bytes. length bytes ≤ LIMIT) }
     ensures too_long { (c : Content) → S.told source.old ≡ Some c → c.ready ≡ true → result ≡ Err TextFault.TooLong → LIMIT < length c.left }
+    ensures leaves { (c : Content) → S.told source.old ≡ Some c → c.ready ≡ true → ReadingLeaves c.name c.left result (S.told source.new) }
     ensures later { S.faults source.old ≤ S.faults source.new }
     ensures failed { result ≡ Err TextFault.Failed → Rose (S.faults source.old) (S.faults source.new) }
+    ensures risen { S.faults source.new ≡ after_reading result (S.faults source.old) }
 {
     let mut bytes = Bytes::new(alloc);
     let mut part = [0u8; PART];

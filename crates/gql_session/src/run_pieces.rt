@@ -6,7 +6,7 @@ ghost use Rattle.gql_txn.specs.Keeps.{IsSameStore};
 ghost use Rattle.gql_machine.specs.SessionState.{starting};
 ghost use Rattle.gql_machine.specs.Machinery.Meaning.{session_state};
 ghost use Rattle.gql_session.specs.RunEnds.{most_bytes};
-ghost use Rattle.gql_session.specs.Machinery.TextEndings.{PieceEnding, TextEnding};
+ghost use Rattle.gql_session.specs.Machinery.TextEndings.{PieceEnding, TextEnding, after_running};
 
 use gql_graph::Graph;
 use gql_lexer::pieces;
@@ -39,6 +39,7 @@ pub fn run_pieces<M: Matcher<Graph>, W: Sink, K: Keeper>(
     ensures same { IsSameStore (K.held keeper.old) (K.held keeper.new) }
     ensures later { W.faults sink.old ≤ W.faults sink.new }
     ensures failed { result ≡ Err RunFault.Sink → Rose (W.faults sink.old) (W.faults sink.new) }
+    ensures risen { W.faults sink.new ≡ after_running result (W.faults sink.old) }
 {
     let Ok(all) = pieces(tools.alloc, text) else {
         return Err(RunFault::OutOfMemory);
@@ -85,6 +86,7 @@ fn write_piece<M: Matcher<Graph>, W: Sink, K: Keeper>(
     ensures same { IsSameStore (K.held keeper.old) (K.held keeper.new) }
     ensures later { W.faults sink.old ≤ W.faults sink.new }
     ensures failed { result ≡ Err RunFault.Sink → Rose (W.faults sink.old) (W.faults sink.new) }
+    ensures risen { W.faults sink.new ≡ after_running result (W.faults sink.old) }
 {
     match run_piece(tools, keeper, session, piece, buffer) {
         Err(_) => Err(RunFault::OutOfMemory),

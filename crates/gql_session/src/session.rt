@@ -1,7 +1,7 @@
 //! The run of a command: its store's catalog is loaded, its text is read, and its pieces are run.
 ghost use Rattle.std.specs.Prelude.{◌≡◌, ◌≢◌, ◌≤◌, ◌<◌, ℕ, List, Some, true, false, length};
 ghost use Rattle.std.specs.Option.{option_copied};
-ghost use Rattle.gql_ports.specs.Causes.{Rose};
+ghost use Rattle.gql_ports.specs.Told.{Content};
 ghost use Rattle.gql_ports.specs.declared.stored.Record.{Record as Stored};
 ghost use Rattle.gql_graph.specs.Catalog.{CatalogData};
 ghost use Rattle.gql_rowcode.specs.StandFor.{StandFor};
@@ -9,8 +9,8 @@ ghost use Rattle.gql_rowcode.specs.FirstBad.{FirstBad};
 ghost use Rattle.gql_txn.specs.TxnData.{settled};
 ghost use Rattle.gql_txn.specs.Keeps.{IsSameStore};
 ghost use Rattle.gql_machine.specs.SessionState.{starting};
-ghost use Rattle.gql_session.specs.Words.{selftest, store_of};
-ghost use Rattle.gql_session.specs.RunEnds.{IsTextOf, EndsAs, EndsAtFault, most_bytes, is_before_reading, is_before_running};
+ghost use Rattle.gql_session.specs.Words.{selftest, store_of, session_of};
+ghost use Rattle.gql_session.specs.RunEnds.{IsTextOf, EndsAs, EndsAtFault, SourceEndsAs, most_bytes, is_before_reading, is_before_running, source_count, sink_count, store_count};
 ghost use Rattle.gql_session.specs.Machinery.Seen.{seen};
 ghost use Rattle.gql_session.specs.Machinery.TextEndings.{status_of, LoadedEndsAs};
 
@@ -39,16 +39,18 @@ pub fn run_command<M: Matcher<Graph>, S: Source, W: Sink, K: Keeper>(
         → EndsAs records text before (record { before = K.faults keeper.old; after = K.faults keeper.new }) result (W.written sink.new) (K.held keeper.new) }
     ensures at_fault { (records : List Stored) (i : ℕ) → K.held keeper.old ≡ Some (record { name = store_of (seen command.now); records = records }) → FirstBad records i → EndsAtFault i result }
     ensures stays { (records : List Stored) → K.held keeper.old ≡ Some (record { name = store_of (seen command.now); records = records }) → is_before_running result ≡ true → K.held keeper.new ≡ K.held keeper.old }
+    ensures same { (records : List Stored) → K.held keeper.old ≡ Some (record { name = store_of (seen command.now); records = records }) → IsSameStore (K.held keeper.old) (K.held keeper.new) }
     ensures stands { (records : List Stored) (c : CatalogData) (i : ℕ) → K.held keeper.old ≡ Some (record { name = store_of (seen command.now); records = records }) → StandFor records c → ¬ (result ≡ Status.BadStore i) }
     ensures too_long { (text : List ℕ) → IsTextOf (seen command.now) (S.told source.old) text → result ≡ Status.TooLong → most_bytes < length text }
     ensures bad_store { (records : List Stored) (i : ℕ) → K.held keeper.old ≡ Some (record { name = store_of (seen command.now); records = records }) → result ≡ Status.BadStore i → FirstBad records i }
     ensures selftest { (n : ℕ) → seen command.now ≡ selftest n → (S.told source.new ≡ S.told source.old) × (S.faults source.new ≡ S.faults source.old) × (result ≢ Status.TooLong) × (result ≢ Status.SourceFault) }
+    ensures read { (c : Content) → session_of (seen command.now) ≡ Some c.name → S.told source.old ≡ Some c → SourceEndsAs c result (S.told source.new) }
     ensures untaken { is_before_reading result ≡ true → S.told source.new ≡ S.told source.old }
     ensures unwritten { is_before_running result ≡ true → W.written sink.new ≡ W.written sink.old }
     ensures is_command { ¬ (result ≡ Status.Usage) }
-    ensures source_fault { result ≡ Status.SourceFault → Rose (S.faults source.old) (S.faults source.new) }
-    ensures sink_fault { result ≡ Status.SinkFault → Rose (W.faults sink.old) (W.faults sink.new) }
-    ensures store_fault { result ≡ Status.StoreFault → Rose (K.faults keeper.old) (K.faults keeper.new) }
+    ensures source_fault { S.faults source.new ≡ source_count result (S.faults source.old) }
+    ensures sink_fault { W.faults sink.new ≡ sink_count result (W.faults sink.old) }
+    ensures store_fault { is_before_running result ≡ true → K.faults keeper.new ≡ store_count result (K.faults keeper.old) }
 {
     match load_store(tools.alloc, store_of(command), keeper) {
         Ok(txn) => run_loaded(tools, command, txn, source, sink, keeper),
@@ -83,11 +85,13 @@ fn run_loaded<M: Matcher<Graph>, S: Source, W: Sink, K: Keeper>(
     ensures same { IsSameStore (K.held keeper.old) (K.held keeper.new) }
     ensures loaded { is_before_reading result ≡ false }
     ensures stays { is_before_running result ≡ true → K.held keeper.new ≡ K.held keeper.old }
+    ensures unfailed { is_before_running result ≡ true → K.faults keeper.new ≡ K.faults keeper.old }
+    ensures read { (c : Content) → session_of (seen command.now) ≡ Some c.name → S.told source.old ≡ Some c → SourceEndsAs c result (S.told source.new) }
     ensures too_long { (text : List ℕ) → IsTextOf (seen command.now) (S.told source.old) text → result ≡ Status.TooLong → most_bytes < length text }
     ensures selftest { (n : ℕ) → seen command.now ≡ selftest n → (S.told source.new ≡ S.told source.old) × (S.faults source.new ≡ S.faults source.old) × (result ≢ Status.TooLong) × (result ≢ Status.SourceFault) }
     ensures unwritten { is_before_running result ≡ true → W.written sink.new ≡ W.written sink.old }
-    ensures source_fault { result ≡ Status.SourceFault → Rose (S.faults source.old) (S.faults source.new) }
-    ensures sink_fault { result ≡ Status.SinkFault → Rose (W.faults sink.old) (W.faults sink.new) }
+    ensures source_fault { S.faults source.new ≡ source_count result (S.faults source.old) }
+    ensures sink_fault { W.faults sink.new ≡ sink_count result (W.faults sink.old) }
 {
     match text_of(tools.alloc, command, source) {
         Ok(text) => status_of(run_pieces(tools, txn, text.as_slice(), sink, keeper)),

@@ -1,6 +1,6 @@
 //! A catalog under transactions.
 
-ghost use Rattle.std.specs.Prelude.{◌≡◌, ◌≢◌, ◌≤◌, ℕ, List, Err, Some, None, IfOk, IfErr, OnOk, OnErr, MatchResult, ◌⊎◌, IsTrue, is_some};
+ghost use Rattle.std.specs.Prelude.{◌≡◌, ◌≢◌, ◌≤◌, ℕ, List, Err, Some, None, true, IfOk, IfErr, OnOk, OnErr, MatchResult, ◌⊎◌, IsTrue, is_some};
 ghost use Rattle.std.specs.Option.{option_copied};
 ghost use Rattle.gql_graph.specs.Catalog.{CatalogData, held_in, type_in, with_graph, without_graph, with_type, without_type, replaced};
 ghost use Rattle.gql_ports.specs.Causes.{Rose};
@@ -90,6 +90,14 @@ impl Txn {
         ensures { result ≡ self.now.access }
     {
         self.access
+    }
+
+    /// Whether nothing was changed since the catalog was kept. It looks at nothing, so that it may say no although what was
+    /// changed was changed back.
+    pub fn is_unchanged(&self) -> bool
+        ensures { result ≡ true → self.now.catalog ≡ self.now.kept }
+    {
+        self.kept.is_none()
     }
 
     /// Opens a transaction.

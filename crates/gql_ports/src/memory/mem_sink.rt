@@ -1,7 +1,7 @@
 //! A sink in memory, which fails at the puts that it was told.
 
 ghost use Rattle.std.specs.Prelude.{◌≡◌, ◌+◌, ◌-◌, ◌^◌, min, Some, IsErr, OnOk, OnErr, Contains};
-ghost use Rattle.gql_ports.specs.Causes.{HasCause};
+ghost use Rattle.gql_ports.specs.Causes.{HasCause, faults_after};
 ghost use Rattle.gql_ports.specs.Told.{MatchTold, Appends, AppendsPrefix};
 ghost use Rattle.gql_ports.specs.Memory.{written_to};
 
@@ -31,6 +31,7 @@ impl Sink for MemSink {
         ensures all { OnOk result (MatchTold (written_to self.old) (written_to self.new) (Appends bytes.now)) }
         ensures part { OnErr result (MatchTold (written_to self.old) (written_to self.new) (AppendsPrefix bytes.now)) }
         ensures cause { HasCause self.old.faults self.new.faults result }
+        ensures risen { self.new.faults ≡ faults_after result self.old.faults }
         ensures honest { Contains self.old.fails self.new.calls → IsErr result }
         ensures whole { OnErr result (self.new.bytes ≡ self.old.bytes) }
         ensures counted { self.new.calls ≡ min (self.old.calls + 1) (2 ^ 64 - 1) }

@@ -1,7 +1,7 @@
 //! A source in memory, which gives its text in pieces and fails at the calls that it was told.
 
 ghost use Rattle.std.specs.Prelude.{◌≡◌, ◌≤◌, ◌<◌, ◌+◌, ◌-◌, ◌^◌, ◌↔◌, min, max, if◌then◌else◌, Some, length, take, drop, true, option_map, is_ok, IsErr, IfOk, OnErr, Contains};
-ghost use Rattle.gql_ports.specs.Causes.{HasCause};
+ghost use Rattle.gql_ports.specs.Causes.{HasCause, faults_after};
 ghost use Rattle.gql_ports.specs.Told.{after_opening, MatchTold, AfterReading};
 ghost use Rattle.gql_ports.specs.Memory.{told_of};
 
@@ -37,6 +37,7 @@ impl Source for MemSource {
     fn open(&mut self, name: &str) -> Result<(), Failed>
         ensures content { told_of self.new ≡ option_map (after_opening name.now (is_ok result)) (told_of self.old) }
         ensures cause { HasCause self.old.faults self.new.faults result }
+        ensures risen { self.new.faults ≡ faults_after result self.old.faults }
         ensures honest { IsErr result ↔ Contains self.old.fails self.new.calls }
         ensures counted { self.new.calls ≡ min (self.old.calls + 1) (2 ^ 64 - 1) }
         ensures settings { (self.new.fails ≡ self.old.fails) × (self.new.piece ≡ self.old.piece) }
@@ -55,6 +56,7 @@ impl Source for MemSource {
         ensures content { IfOk result (λ count. MatchTold (told_of self.old) (told_of self.new) (AfterReading into.new count)) }
         ensures unchanged { OnErr result (told_of self.new ≡ told_of self.old) }
         ensures cause { HasCause self.old.faults self.new.faults result }
+        ensures risen { self.new.faults ≡ faults_after result self.old.faults }
         ensures honest { IsErr result ↔ Contains self.old.fails self.new.calls }
         ensures counted { self.new.calls ≡ min (self.old.calls + 1) (2 ^ 64 - 1) }
         ensures settings { (self.new.fails ≡ self.old.fails) × (self.new.piece ≡ self.old.piece) }

@@ -1,5 +1,5 @@
 -- How the run of a piece and that of a text end, as the calls below `run` tell it.
-use Rattle.std.specs.Prelude.{◌≡◌, ℕ, ◌+◌, ◌≤◌, ◌<◌, ◌⊎◌, Bool, true, false, Result, Ok, Err, MatchResult, List, [], ◌∷◌, ◌++◌, length, take, Option, Some}
+use Rattle.std.specs.Prelude.{◌≡◌, ℕ, ◌+◌, ◌-◌, ◌^◌, ◌≤◌, ◌<◌, ◌⊎◌, min, Bool, true, false, Result, Ok, Err, MatchResult, List, [], ◌∷◌, ◌++◌, length, take, Option, Some}
 use Rattle.std.specs.List.{list_any}
 use Rattle.gql_ports.specs.Held.{Holding}
 use Rattle.gql_ast.specs.declared.refusal.Outcome.{Outcome}
@@ -34,11 +34,10 @@ pub record FailedPiece (start : SessionState) (piece before : List ℕ) (faults 
   pub store : RoseBy (store_refusals (last ∷ [])) faults.before faults.after
   pub kept : Keeps held start.kept → Keeps held_after end.kept
 
--- There was no memory for a piece: nothing was written, and the store keeps what was kept before it.
+-- There was no memory for a piece: nothing was written, the store has not failed, and it keeps what was kept before the piece.
 pub record UnrunPiece (start : SessionState) (before : List ℕ) (faults : FaultCounts) (held : Option Holding) (after : Option (List ℕ)) (held_after : Option Holding) : Type 0 where
   pub written : after ≡ Some before
-  pub later : faults.before ≤ faults.after
-  pub once : faults.after ≤ faults.before + 1
+  pub unfailed : faults.after ≡ faults.before
   pub kept : Keeps held start.kept → Keeps held_after start.kept
 
 -- where a piece's run ended early
@@ -77,6 +76,12 @@ status_of (Ok true) = status.Refused
 status_of (Err fault.Sink) = status.SinkFault
 status_of (Err fault.OutOfMemory) = status.NoMemory
 
+-- the count of the sink's faults behind the run of a text
+abbrev pub after_running : {T : Type 0} → Result T RunFault → ℕ → ℕ
+after_running (Ok value) count = count
+after_running (Err fault.Sink) count = min (count + 1) (2 ^ 64 - 1)
+after_running (Err fault.OutOfMemory) count = count
+
 -- nothing is written, and the store is as it was
 abbrev pub IsIdle : List ℕ → Option Holding → Option (List ℕ) → Option Holding → Type 0
 IsIdle before held after held_after = (after ≡ Some before) × (held_after ≡ held)
@@ -89,6 +94,6 @@ LoadedEndsAs start text before faults held status.Usage after held_after = ⊥
 LoadedEndsAs start text before faults held status.SourceFault after held_after = IsIdle before held after held_after
 LoadedEndsAs start text before faults held status.SinkFault after held_after = (length text ≤ most_bytes) × FailedAndKept start text before faults held after held_after
 LoadedEndsAs start text before faults held status.StoreFault after held_after = ⊥
-LoadedEndsAs start text before faults held status.NoMemory after held_after = IsIdle before held after held_after ⊎ ((length text ≤ most_bytes) × FirstAndKept start text before faults held after held_after)
+LoadedEndsAs start text before faults held status.NoMemory after held_after = ((faults.after ≡ faults.before) × IsIdle before held after held_after) ⊎ ((length text ≤ most_bytes) × FirstAndKept start text before faults held after held_after)
 LoadedEndsAs start text before faults held status.TooLong after held_after = (most_bytes < length text) × IsIdle before held after held_after
 LoadedEndsAs start text before faults held (status.BadStore i) after held_after = ⊥

@@ -1,8 +1,9 @@
-use Rattle.std.proofs.Common.{◌≡◌, ◌<◌, ◌∙◌, ◌++◌, length, get_or, ap, arith}
+use Rattle.std.proofs.Common.{◌≡◌, ◌<◌, ◌∙◌, ◌++◌, Bool, Err, length, get_or, refl, ap, arith}
 use Rattle.gql_lexer.specs.Pieces.{pieces_of}
 use Rattle.gql_machine.specs.Outcomes.{outcome_texts}
 use Rattle.gql_machine.specs.SessionState.{starting}
 use Rattle.gql_machine.specs.Machinery.Meaning.{session_state}
+use Rattle.gql_session.specs.Machinery.TextEndings.{after_running}
 use Rattle.gql_session.proofs.LengthLemmas.{piece-within}
 use Rattle.gql_session.proofs.CommandLemmas.{same_again, same_then}
 use Rattle.gql_session.proofs.RunLemmas.{ran_none, ran_nothing, ran_more, ran_all, ran_closed, early_end}
@@ -17,6 +18,7 @@ returns-in_default-new-clause-told g c = λ before h. ran_nothing (starting c.ar
 pub loop-piece-init : goal.loop-piece-init
 loop-piece-init g c = record {
   later = omega arith;
+  uncounted = refl;
   same = same_again _;
   told = λ before h. ran_none (starting c.args.txn.catalog) (session_state c.in-Ok-new.session) c.args.text.now before _ _ _ c.in-Ok-new.ensures h;
 }
@@ -47,9 +49,13 @@ returns-in-Err-clause-told g c = λ before h.
 pub returns-in-Err-clause-same : goal.returns-in-Err-clause-same
 returns-in-Err-clause-same g c = same_then _ _ _ c.loop-piece.invariant.same c.in-Err.ensures.same
 
+pub returns-in-Err-clause-risen : goal.returns-in-Err-clause-risen
+returns-in-Err-clause-risen g c = c.in-Err.ensures.risen ∙ ap (λ n. after_running {T = Bool} (Err c.in-Err.fault) n) c.loop-piece.invariant.uncounted
+
 pub loop-piece-preserved : goal.loop-piece-preserved
 loop-piece-preserved g c = record {
   later = omega (arith, c.in-Ok-write_piece.ensures.later, c.loop-piece.invariant.later);
+  uncounted = c.in-Ok-write_piece.ensures.risen ∙ c.loop-piece.invariant.uncounted;
   same = same_then _ _ _ c.loop-piece.invariant.same c.in-Ok-write_piece.ensures.same;
   told = λ before h.
       let at = c.loop-piece in

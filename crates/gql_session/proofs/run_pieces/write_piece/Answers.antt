@@ -4,7 +4,7 @@ use Rattle.gql_session.proofs.PieceLemmas.{wrote_nothing, wrote_all, wrote_part}
 use Rattle.gql_session.proofs.run_pieces.write_piece.Goals as goal
 
 pub returns-in-Err-clause-told : goal.returns-in-Err-clause-told
-returns-in-Err-clause-told g c = λ before h. record { written = h; later = c.in-Err.ensures.later; once = c.in-Err.ensures.once; kept = c.in-Err.ensures.kept }
+returns-in-Err-clause-told g c = λ before h. record { written = h; unfailed = c.in-Err.ensures.unfailed; kept = c.in-Err.ensures.kept }
 
 pub returns-then-is_empty-clause-told : goal.returns-then-is_empty-clause-told
 returns-then-is_empty-clause-told g c = λ before h.

@@ -1,6 +1,6 @@
-use Rattle.std.proofs.Common.{◌≡◌, false}
+use Rattle.std.proofs.Common.{◌≡◌, ◌∙◌, false, sym, inr}
 use Rattle.gql_machine.specs.SessionState.{starting}
-use Rattle.gql_session.proofs.EndingLemmas.{loaded_ends, is_later, not_before, not_too_long, not_source_fault}
+use Rattle.gql_session.proofs.EndingLemmas.{loaded_ends, is_later, not_before, not_too_long, not_source_fault, source_ends, source_uncounted, sink_counted}
 use Rattle.gql_session.proofs.session.run_loaded.Goals as goal
 
 pub returns-in-Ok-clause-ends : goal.returns-in-Ok-clause-ends
@@ -23,3 +23,32 @@ returns-in-Ok-clause-selftest g c = λ n e.
     let it = c.in-Ok.ensures.selftest n e in
     let later : _ ≡ false = is_later c.status_of.result c.run_pieces.result c.status_of.ensures in
     (it.0, it.1, not_too_long _ later, not_source_fault _ later)
+
+pub returns-in-Ok-clause-unfailed : goal.returns-in-Ok-clause-unfailed
+returns-in-Ok-clause-unfailed g c = λ e. not_before _ (is_later c.status_of.result c.run_pieces.result c.status_of.ensures) e
+
+-- What is left of the source, and the counts of faults
+
+pub returns-in-Ok-clause-read : goal.returns-in-Ok-clause-read
+returns-in-Ok-clause-read g c = λ d n h. rw c.status_of.ensures (source_ends d c.run_pieces.result _ (c.in-Ok.ensures.leaves d n h))
+
+pub returns-in-Err-Failed-clause-read : goal.returns-in-Err-Failed-clause-read
+returns-in-Err-Failed-clause-read g c = λ d n h. rw c.in-Err-Failed.field-0-is at (c.in-Err-Failed.ensures.leaves d n h)
+
+pub returns-in-Err-TooLong-clause-read : goal.returns-in-Err-TooLong-clause-read
+returns-in-Err-TooLong-clause-read g c = λ d n h. rw c.in-Err-TooLong.field-0-is at (c.in-Err-TooLong.ensures.leaves d n h)
+
+pub returns-clause-read : goal.returns-clause-read
+returns-clause-read g c = λ d n h. inr (rw c.in-Err-OutOfMemory.field-0-is at (c.in-Err-OutOfMemory.ensures.leaves d n h))
+
+pub returns-in-Ok-clause-source_fault : goal.returns-in-Ok-clause-source_fault
+returns-in-Ok-clause-source_fault g c = rw c.status_of.ensures (c.in-Ok.ensures.risen ∙ sym (source_uncounted c.run_pieces.result _))
+
+pub returns-in-Err-Failed-clause-source_fault : goal.returns-in-Err-Failed-clause-source_fault
+returns-in-Err-Failed-clause-source_fault g c = rw c.in-Err-Failed.field-0-is at c.in-Err-Failed.ensures.risen
+
+pub returns-in-Err-TooLong-clause-source_fault : goal.returns-in-Err-TooLong-clause-source_fault
+returns-in-Err-TooLong-clause-source_fault g c = rw c.in-Err-TooLong.field-0-is at c.in-Err-TooLong.ensures.risen
+
+pub returns-in-Ok-clause-sink_fault : goal.returns-in-Ok-clause-sink_fault
+returns-in-Ok-clause-sink_fault g c = rw c.status_of.ensures (c.run_pieces.ensures.risen ∙ sink_counted c.run_pieces.result _)

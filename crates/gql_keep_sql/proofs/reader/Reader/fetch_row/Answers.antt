@@ -1,10 +1,12 @@
 -- The record that is taken has the value, and letting the run go asks nothing of the place.
-use Rattle.std.proofs.Common.{◌≡◌, None, subst, reverse, rules}
+use Rattle.std.proofs.Common.{◌≡◌, None, sym, subst, reverse, rules}
 use Rattle.std.specs.List.{list_all}
 use Rattle.std.proofs.Math.Logic.{∥∥₁_map}
 use Rattle.std.proofs.lemmas.List.Sorted.{IsPermutation-sym, IsPermutation-reverse}
 use Rattle.gql_keep_sql.specs.Fetched.{IsRun, is_record, FailsToRead}
+use Rattle.gql_keep_sql.specs.Places.{IsSamePlace}
 use Rattle.gql_keep_sql.proofs.HeldLemmas.{found_fetches, held_found, run_found}
+use Rattle.gql_keep_sql.proofs.ReadLemmas.{same_place}
 use Rattle.gql_keep_sql.proofs.RefusalLemmas.{fails_as}
 use Rattle.gql_keep_sql.proofs.RunLemmas.{run_selected, fails_to_begin, untaken}
 use Rattle.gql_keep_sql.proofs.reader.Reader.fetch_row.Goals as goal
@@ -14,6 +16,9 @@ returns-in-Some-clause-value c =
     let place = c.args.self.now.place in
     let run = c.args.self.now.run.items in
     ∥∥₁_map c.args.self.now.held (λ held. found_fetches run c.in-Some.record place place c.take.new.self.place c.in-Some.ensures.record.0 c.in-Some.ensures.place (held_found run place held))
+
+pub returns-in-Some-clause-place : goal.returns-in-Some-clause-place
+returns-in-Some-clause-place c = subst (IsSamePlace c.args.self.now.place) (sym c.in-Some.ensures.place) (same_place c.args.self.now.place)
 
 pub returns-in-Some-take-clause-value : goal.returns-in-Some-take-clause-value
 returns-in-Some-take-clause-value c =
