@@ -1,7 +1,8 @@
 -- A number without the zeros that stand first.
-use Rattle.std.proofs.Common.{◌≡◌, ℕ, zero, suc, ◌+◌, ◌<◌, ◌≤◌, Bool, true, false, cond, not, ◌==◌, ◌&&◌, ◌-◌, ◌*◌, List, [], ◌∷◌, length, drop, get_or, Some, None, refl, ap, sym, ◌∙◌, one-add, add-one, nat_lt, ◌^◌, drop-cons, arith, rules}
+use Rattle.std.proofs.Common.{◌≡◌, ℕ, zero, suc, ◌+◌, ◌<◌, ◌≤◌, Bool, true, false, cond, not, ◌==◌, ◌-◌, ◌*◌, List, [], ◌∷◌, length, drop, get_or, Some, None, refl, ap, sym, ◌∙◌, one-add, add-one, nat_lt, ◌^◌, drop-cons, arith, rules}
 use Rattle.std.specs.List.{position, position_or_len}
 use Rattle.std.specs.Str.{IsUtf8, IsCharBoundary}
+use Rattle.std.proofs.lemmas.Bool.{and_parts}
 use Rattle.std.proofs.lemmas.Bool.Decides.{nat_tests}
 use Rattle.std.proofs.lemmas.List.{drop_all}
 use Rattle.std.proofs.lemmas.List.Quantifiers.{position-Some}
@@ -73,10 +74,6 @@ record Stays (xs : List ℕ) : Type 0 where
   some : 0 < length (number_text xs)
   front : get_or (number_text xs) 0 0 ≡ 48 → length (number_text xs) ≡ 1
 
-both : (a b : Bool) → a && b ≡ true → b ≡ true
-both true b h = h
-both false b h = absurd (cc)
-
 is_zero : (x : ℕ) → (x == 48) ≡ true → x ≡ 48
 is_zero x e = grind (arith, nat_tests)
 
@@ -89,7 +86,7 @@ weightless x n v p = let z : x - 48 ≡ 0 = omega arith in rw z (omega arith)
 stays_at : (x : ℕ) (xs : List ℕ) (b : Bool) → (x == 48) ≡ b → Stays xs → Stays (x ∷ xs)
 stays_at x xs true e h = record {
   value = rw e (h.value ∙ weightless x (10 ^ length xs) (value_of_digits xs) (is_zero x e));
-  digits = λ d. rw e (h.digits (both _ _ d));
+  digits = λ d. rw e (h.digits ((and_parts _ _ d).1));
   some = rw e h.some;
   front = rw e h.front;
 }

@@ -9,7 +9,7 @@ use Rattle.gql_ast.specs.Tree.{Tree}
 use Rattle.gql_ast.specs.Meaning.{tree_of}
 use Rattle.gql_ast.specs.Filler.{ConditionTree, FillerTree, properties, holds}
 use Rattle.gql_ast.specs.Pattern.{Pattern, patterns_of, items_of_patterns, node, edge, paren, repeated, optional, sequence, alternation, multiset_alternation}
-use Rattle.gql_ast.specs.PatternMeaning.{item_of, condition_of, filler_of, pattern_of}
+use Rattle.gql_ast.specs.PatternMeaning.{item_of, item_from, condition_of, condition_from, filler_of, filler_from, pattern_of, path_expr_of}
 use Rattle.gql_ast.specs.declared.filler.MapItem.{MapItem}
 use Rattle.gql_ast.specs.declared.filler.Condition.{Condition}
 use Rattle.gql_ast.specs.declared.filler.Condition.TheVariants as condition
@@ -25,26 +25,12 @@ map-back : {A B : Type 0} (f : A → B) (g : B → A) → ((x : A) → g (f x) �
 map-back f g back [] = refl
 map-back f g back (x ∷ xs) = λ i. back x i ∷ map-back f g back xs i
 
-abbrev pub item_from : List ℕ × Tree → MapItem
-item_from p = record { name = p.0; value = expr_of p.1 }
-
 item_from-item_of : (x : MapItem) → item_from (item_of x) ≡ x
 item_from-item_of x = λ i. record { name = x.name; value = expr_of-tree_of x.value i }
-
-abbrev pub condition_from : ConditionTree → Condition
-condition_from (properties ps) = condition.Map (map item_from ps)
-condition_from (holds e) = condition.Where (expr_of e)
 
 condition_from-condition_of : (x : Condition) → condition_from (condition_of x) ≡ x
 condition_from-condition_of (condition.Map is) = ap condition.Map (map-back item_of item_from item_from-item_of is)
 condition_from-condition_of (condition.Where e) = ap condition.Where (expr_of-tree_of e)
-
-abbrev pub filler_from : FillerTree → Filler
-filler_from f = record {
-  variable = f.variable;
-  labels = option_map label_expr_of f.labels;
-  condition = option_map condition_from f.condition;
-}
 
 filler_from-filler_of : (x : Filler) → filler_from (filler_of x) ≡ x
 filler_from-filler_of x = λ i. record {
@@ -56,17 +42,6 @@ filler_from-filler_of x = λ i. record {
 pub items_of_patterns-patterns_of : (xs : List Pattern) → items_of_patterns (patterns_of xs) ≡ xs
 items_of_patterns-patterns_of [] = refl
 items_of_patterns-patterns_of (x ∷ xs) = ap (λ ys. x ∷ ys) (items_of_patterns-patterns_of xs)
-
--- the path pattern that means a tree
-abbrev pub path_expr_of : Pattern → PathExpr
-path_expr_of (node f) = expr.Node (filler_from f)
-path_expr_of (edge d f) = expr.Edge d (filler_from f)
-path_expr_of (paren m x c) = expr.Paren m x (option_map expr_of c)
-path_expr_of (repeated x q) = expr.Repeat x q
-path_expr_of (optional x) = expr.Optional x
-path_expr_of (sequence x xs) = expr.Concat x (items_of_patterns xs)
-path_expr_of (alternation x xs) = expr.Union x (items_of_patterns xs)
-path_expr_of (multiset_alternation x xs) = expr.MultisetUnion x (items_of_patterns xs)
 
 pub path_expr_of-pattern_of : (x : PathExpr) → path_expr_of (pattern_of x) ≡ x
 path_expr_of-pattern_of (expr.Node f) = ap (λ z. expr.Node z) (filler_from-filler_of f)

@@ -38,26 +38,30 @@ abbrev pub summed : List Datum → Result Datum DataFault
 summed [] = Ok null
 summed (d ∷ ds) = each addend (d ∷ ds) >>= λ zs. fitted (total zs)
 
--- the lesser of two and the greater of two, by the total order; the first where they are equal
+-- the lesser of two by the total order; the first where they are equal
 abbrev pub lesser : Datum → Datum → Datum
 lesser d e = if is_lt (datum_cmp e d) then e else d
 
+-- the greater of two by the total order; the first where they are equal
 abbrev pub greater : Datum → Datum → Datum
 greater d e = if is_gt (datum_cmp e d) then e else d
 
--- the least and the greatest; NULL of nothing
+-- the least of a datum and those behind it
 abbrev pub least_of : Datum → List Datum → Datum
 least_of d [] = d
 least_of d (e ∷ es) = least_of (lesser d e) es
 
+-- the greatest of a datum and those behind it
 abbrev pub greatest_of : Datum → List Datum → Datum
 greatest_of d [] = d
 greatest_of d (e ∷ es) = greatest_of (greater d e) es
 
+-- the least, for MIN; NULL of nothing
 abbrev pub least : List Datum → Datum
 least [] = null
 least (d ∷ ds) = least_of d ds
 
+-- the greatest, for MAX; NULL of nothing
 abbrev pub greatest : List Datum → Datum
 greatest [] = null
 greatest (d ∷ ds) = greatest_of d ds

@@ -32,7 +32,7 @@ number_text (c ∷ cs) = if c == 48 then number_text cs else c ∷ cs
 abbrev pub in_parens : List ℕ → List ℕ
 in_parens t = 40 ∷ (t ++ 41 ∷ [])
 
--- the signs and words of operators as they print
+-- the sign of a comparison
 abbrev pub comparison_text : Comparison → List ℕ
 comparison_text comparison.Eq = codes "="
 comparison_text comparison.Ne = codes "<>"
@@ -41,6 +41,7 @@ comparison_text comparison.Gt = codes ">"
 comparison_text comparison.Le = codes "<="
 comparison_text comparison.Ge = codes ">="
 
+-- the word or the sign of an operator between two expressions
 abbrev pub operator_text : Operator → List ℕ
 operator_text operators.Or = codes "OR"
 operator_text operators.Xor = codes "XOR"
@@ -51,10 +52,12 @@ operator_text operators.Concatenate = codes "||"
 operator_text operators.Multiply = codes "*"
 operator_text operators.Divide = codes "/"
 
+-- the sign in front of an expression
 abbrev pub sign_text : Sign → List ℕ
 sign_text signs.Plus = codes "+"
 sign_text signs.Minus = codes "-"
 
+-- the word of an aggregate
 abbrev pub aggregate_text : Aggregate → List ℕ
 aggregate_text aggregates.Count = codes "COUNT"
 aggregate_text aggregates.Sum = codes "SUM"
@@ -75,11 +78,12 @@ function_text functions.Cardinality = codes "CARDINALITY"
 function_text functions.PathLength = codes "PATH_LENGTH"
 function_text functions.Elements = codes "ELEMENTS"
 
--- IS and IS NOT with the spaces around them, and the words that may stand behind
+-- IS and IS NOT with the spaces around them
 abbrev pub sense_text : Sense → List ℕ
 sense_text senses.Is = codes " IS "
 sense_text senses.IsNot = codes " IS NOT "
 
+-- the word behind IS or IS NOT
 abbrev pub quality_text : Quality → List ℕ
 quality_text qualities.Null = codes "NULL"
 quality_text qualities.True = codes "TRUE"
@@ -87,6 +91,7 @@ quality_text qualities.False = codes "FALSE"
 quality_text qualities.Unknown = codes "UNKNOWN"
 quality_text qualities.Directed = codes "DIRECTED"
 
+-- what stands between IS and the edge, for the test of an endpoint
 abbrev pub end_text : EdgeEnd → List ℕ
 end_text ends.Source = codes "SOURCE OF "
 end_text ends.Destination = codes "DESTINATION OF "

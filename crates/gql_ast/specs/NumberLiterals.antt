@@ -149,66 +149,79 @@ numbers_in_path p = within numbers_in_prefix p.prefix ++ numbers_in_pattern (pat
 abbrev pub numbers_in_graph_pattern : GraphPattern → Numerals
 numbers_in_graph_pattern g = flat_map numbers_in_path g.paths ++ within numbers_in_expr g.condition
 
--- those of ORDER BY, OFFSET and LIMIT
+-- those of a number of rows, for OFFSET or LIMIT
 abbrev pub numbers_in_count : RowCount → Numerals
 numbers_in_count (row_count.Number digits) = digits ∷ []
 numbers_in_count (row_count.Parameter p) = []
 
+-- those of a key of ORDER BY
 abbrev pub numbers_in_key : SortItem → Numerals
 numbers_in_key i = numbers_in_expr i.key
 
+-- those of ORDER BY
 abbrev pub numbers_in_order : List SortItem → Numerals
 numbers_in_order is = flat_map numbers_in_key is
 
+-- those of OFFSET, and then those of LIMIT
 abbrev pub numbers_in_range : Option RowCount → Option RowCount → Numerals
 numbers_in_range skip limit = within numbers_in_count skip ++ within numbers_in_count limit
 
+-- those of ORDER BY, OFFSET and LIMIT together
 abbrev pub numbers_in_page : Page → Numerals
 numbers_in_page (page.Order is skip limit) = numbers_in_order is ++ numbers_in_range skip limit
 numbers_in_page (page.Skip skip limit) = numbers_in_count skip ++ within numbers_in_count limit
 numbers_in_page (page.Limit limit) = numbers_in_count limit
 
--- those of a change
+-- those of the value of a map's entry
 abbrev pub numbers_in_entry : MapItem → Numerals
 numbers_in_entry i = numbers_in_expr i.value
 
+-- those of a map
 abbrev pub numbers_in_map : List MapItem → Numerals
 numbers_in_map is = flat_map numbers_in_entry is
 
+-- those of what fills a node or an edge of INSERT
 abbrev pub numbers_in_fill : Fill → Numerals
 numbers_in_fill f = within numbers_in_map f.map
 
+-- those of an edge of INSERT, and then those of the node behind it
 abbrev pub numbers_in_step : InsertStep → Numerals
 numbers_in_step s = numbers_in_fill s.edge ++ numbers_in_fill s.node
 
+-- those of a path of INSERT
 abbrev pub numbers_in_insert : InsertPath → Numerals
 numbers_in_insert p = numbers_in_fill p.start ++ flat_map numbers_in_step p.steps
 
+-- those of an item of SET
 abbrev pub numbers_in_set : SetItem → Numerals
 numbers_in_set (set_item.Property x p e) = numbers_in_expr e
 numbers_in_set (set_item.Label x l) = []
 
+-- those of a change
 abbrev pub numbers_in_change : ChangeClause → Numerals
 numbers_in_change (change.Insert ps) = flat_map numbers_in_insert ps
 numbers_in_change (change.Set is) = flat_map numbers_in_set is
 numbers_in_change (change.Remove is) = []
 numbers_in_change (change.Delete d xs) = []
 
--- those of RETURN
+-- those of a column of RETURN
 abbrev pub numbers_in_column : ReturnItem → Numerals
 numbers_in_column i = numbers_in_expr i.value
 
+-- those of the columns of RETURN
 abbrev pub numbers_in_columns : ReturnItems → Numerals
 numbers_in_columns return_items.All = []
 numbers_in_columns (return_items.Listed is) = flat_map numbers_in_column is
 
+-- those of RETURN: its columns, and then its order, OFFSET and LIMIT
 abbrev pub numbers_in_return : Return → Numerals
 numbers_in_return r = numbers_in_columns r.items ++ within numbers_in_order r.order ++ numbers_in_range r.skip r.limit
 
--- those of a clause
+-- those of the value that LET names
 abbrev pub numbers_in_let : LetItem → Numerals
 numbers_in_let i = numbers_in_expr i.value
 
+-- those of a clause
 abbrev pub numbers_in_clause : Clause → Numerals
 numbers_in_clause (clause.Match m) = numbers_in_graph_pattern m.pattern
 numbers_in_clause (clause.Let is) = flat_map numbers_in_let is

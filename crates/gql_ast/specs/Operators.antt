@@ -14,10 +14,11 @@ use Rattle.gql_ast.specs.declared.words.Sign.TheVariants as sign
 use Rattle.gql_ast.specs.declared.fault.DataFault.{DataFault}
 use Rattle.gql_ast.specs.declared.fault.DataFault.TheVariants as fault
 
--- the most bytes of a string that `||` makes, and the most items of a list that a literal, `||` or COLLECT_LIST makes
+-- the most bytes of a string that `||` makes
 abbrev pub most_text : ℕ
 most_text = 16777216
 
+-- the most items of a list that a literal, `||` or COLLECT_LIST makes
 abbrev pub most_items : ℕ
 most_items = 1048576
 

@@ -57,10 +57,11 @@ any_name_text x = if is_name x then x else ticked_text x
 abbrev pub header_text : List ℕ → List ℕ
 header_text x = flat_map in_header x
 
--- a node prints as its number in parentheses, an edge as its number in brackets
+-- a node prints as its number in parentheses
 abbrev pub node_text : ℕ → List ℕ
 node_text n = 40 ∷ (decimal n ++ 41 ∷ [])
 
+-- an edge prints as its number in brackets
 abbrev pub edge_text : ℕ → List ℕ
 edge_text e = 91 ∷ (decimal e ++ 93 ∷ [])
 

@@ -48,8 +48,7 @@ pub use statement::{
     AccessMode, CatalogStatement, GraphKind, SessionStatement, Statement, TransactionStatement,
 };
 pub use text::{
-    Setting, a_number_prints_in_decimal, expr_text, push_any_name, push_digits, push_edge,
-    push_escaped, push_header, push_integer, push_label, push_name, push_node, push_number,
-    push_parameter, push_property, push_value,
+    a_number_prints_in_decimal, expr_text, push_any_name, push_digits, push_edge, push_header,
+    push_integer, push_name, push_node, push_number, push_value,
 };
 pub use words::{Aggregate, EdgeEnd, Function, Operator, Quality, Sense, SetQuantifier, Sign};

@@ -1,10 +1,10 @@
 //! That trees are copied and printed with ample memory, and that want of memory is a fault of its own.
 
+use crate::text::{Setting, push_escaped, push_label, push_parameter, push_property};
 use crate::{
     Direction, Expr, Exprs, Filler, LabelExpr, LabelList, LabelSub, Operator, ParseFault, PathExpr,
-    PathList, PathSub, Setting, Step, Steps, Sub, expr_text, push_any_name, push_digits,
-    push_escaped, push_header, push_label, push_name, push_number, push_parameter, push_property,
-    push_value,
+    PathList, PathSub, Step, Steps, Sub, expr_text, push_any_name, push_digits, push_header,
+    push_name, push_number, push_value,
 };
 use gql_values3::{OutOfMemory, Text, Value};
 use std::alloc::Global;

@@ -17,6 +17,7 @@ use Rattle.gql_values3.specs.declared.element.Ends.TheVariants.{Directed, Undire
 use Rattle.gql_values3.specs.declared.records.NodeRecord.{NodeRecord}
 use Rattle.gql_values3.specs.declared.records.EdgeRecord.{EdgeRecord}
 use Rattle.gql_values3.specs.Datum.{Datum}
+use Rattle.gql_values3.proofs.BoolLemmas.{and_true}
 use Rattle.std.specs.Prelude.{nat_lt, nat_le, ◌^◌}
 use Rattle.gql_ast.specs.declared.change.Detachment.{Detachment}
 use Rattle.gql_ast.specs.declared.change.Detachment.TheVariants as detachment
@@ -26,7 +27,6 @@ use Rattle.gql_change.specs.Deletion.{is_named, end_is_named, edge_goes}
 use Rattle.gql_change.specs.Machinery.DeletionSteps.{has_number, node_there, edge_there, touching_numbers, deleted_nodes, deleted_edges}
 use Rattle.gql_change.proofs.RisingLemmas.{eqb_sym, eqb_same, same_numbers, rises_tail, rises_from_graph, rises-filter}
 use Rattle.gql_change.proofs.TakingOut.{node_numbers, edge_numbers, edge_records, has_edge_if}
-use Rattle.gql_change.proofs.EndpointLemmas.{and_true}
 
 -- tests of pairs of tests
 or_both : (a b t x y : Bool) → (((a || b) && t) || (x || y)) ≡ (((a && t) || x) || ((b && t) || y))

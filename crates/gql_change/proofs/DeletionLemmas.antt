@@ -17,6 +17,7 @@ use Rattle.gql_values3.specs.declared.element.Ends.TheVariants.{Directed, Undire
 use Rattle.gql_values3.specs.declared.records.NodeRecord.{NodeRecord}
 use Rattle.gql_values3.specs.declared.records.EdgeRecord.{EdgeRecord}
 use Rattle.gql_values3.specs.declared.table.ColumnKind.{ColumnKind}
+use Rattle.gql_values3.proofs.BoolLemmas.{and_true}
 use Rattle.gql_ast.specs.Scope.{row_scope, datum_of_name, datum_in, entry_of, holds_group}
 use Rattle.gql_ast.specs.ClauseColumns.{ColumnList}
 use Rattle.gql_ast.specs.declared.change.Detachment.{Detachment}
@@ -37,7 +38,6 @@ use Rattle.gql_change.proofs.RisingLemmas.{eqb_same, eqb_refl, not_among, rises_
 use Rattle.gql_change.proofs.TakingOut.{list_all_both, list_all_weaker, filter_where, without, ends_stay, node_numbers, edge_numbers, graph_of_edges, edges_out, nodes_out}
 use Rattle.gql_change.proofs.DeletedNumbers.{has_passing, node_found, edge_found, has_named_edge, nodes_rise, edges_rise}
 use Rattle.gql_change.specs.Machinery.Rising.{rises_above}
-use Rattle.gql_change.proofs.EndpointLemmas.{and_true}
 
 -- what a name stands for in a row stands at the place of its column
 shut : (cs : ColumnList) (x : List ℕ) → datum_of_name (row_scope cs []) x ≡ null

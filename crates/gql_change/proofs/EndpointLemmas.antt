@@ -59,10 +59,6 @@ endpoint_new cs kind.Edges x h = refl
 endpoint_new cs kind.Path x h = refl
 endpoint_new cs kind.Plain x h = refl
 
-pub and_true : (b c : Bool) → c ≡ true → b ≡ (b && c)
-and_true true c h = sym h
-and_true false c h = refl
-
 empty_append : (xs ys : List (List ℕ)) → is_empty (xs ++ ys) ≡ (is_empty xs && is_empty ys)
 empty_append [] ys = refl
 empty_append (x ∷ xs) ys = refl

@@ -86,11 +86,12 @@ pub record Making : Type 0 where
 abbrev pub is_used_up : ℕ → Bool
 is_used_up next = nat_le (pred (2 ^ 32)) next
 
--- the properties of the next spot, and those of the spots behind it
+-- the properties of the next spot
 abbrev pub first_values : List PropertyList → PropertyList
 first_values [] = []
 first_values (ps ∷ pss) = ps
 
+-- the properties of the spots behind it
 abbrev pub later_values : List PropertyList → List PropertyList
 later_values [] = []
 later_values (ps ∷ pss) = pss

@@ -6,7 +6,7 @@ use Rattle.gql_values3.specs.Texts.{same_text}
 use Rattle.gql_values3.proofs.WordLemmas.{same_is}
 use Rattle.gql_ast.specs.ClauseColumns.{ColumnList}
 use Rattle.gql_norm.specs.declared.degree.Degree.{Degree}
-use Rattle.gql_norm.specs.NormalPattern.{Part, Node, Edge, Concat, Union, Alt, Quant, Opt, Scope, Sides, NoSide, Side, NormalPath}
+use Rattle.gql_norm.specs.NormalPattern.{Part, Node, Edge, Concat, Union, Alt, Quant, Opt, ModeScope, Sides, NoSide, Side, NormalPath}
 use Rattle.gql_norm.specs.Places.{size, size_all}
 use Rattle.gql_norm.specs.Degree.{degree_of}
 use Rattle.gql_norm.specs.NewColumns.{degree_in_paths}
@@ -77,7 +77,7 @@ mutual
   named_within (Alt ss) a = within_inner a (a + 1) ((a + 1) + size_all ss) (a + (size_all ss + 1)) (named_in_sides ss (a + 1)) (omega arith) (omega arith) (sides_within ss (a + 1))
   named_within (Quant c l n) a = within_inner a (a + 2) ((a + 2) + size c) (a + (size c + 3)) (named_in c (a + 2)) (omega arith) (omega arith) (named_within c (a + 2))
   named_within (Opt c) a = within_inner a (a + 1) ((a + 1) + size c) (a + (size c + 2)) (named_in c (a + 1)) (omega arith) (omega arith) (named_within c (a + 1))
-  named_within (Scope m c w) a = within_inner a (a + 1) ((a + 1) + size c) (a + (size c + 2)) (named_in c (a + 1)) (omega arith) (omega arith) (named_within c (a + 1))
+  named_within (ModeScope m c w) a = within_inner a (a + 1) ((a + 1) + size c) (a + (size c + 2)) (named_in c (a + 1)) (omega arith) (omega arith) (named_within c (a + 1))
 
   sides_within : (ss : Sides) (b : ℕ) → Within b (b + size_all ss) (named_in_sides ss b)
   sides_within NoSide b = omega arith
@@ -161,7 +161,7 @@ module _ (f : Degree → Degree → Bool) (Q : Spot → Type 0) where
   each_row x d (Alt ss) a h = each_spot_in x d (Alt ss) a h
   each_row x d (Quant c l n) a h = each_spot_in x d (Quant c l n) a h
   each_row x d (Opt c) a h = each_spot_in x d (Opt c) a h
-  each_row x d (Scope m c w) a h = each_spot_in x d (Scope m c w) a h
+  each_row x d (ModeScope m c w) a h = each_spot_in x d (ModeScope m c w) a h
 
   each_later : (x : List ℕ) (d : Option Degree) (ps : List NormalPath) (a : ℕ) → Each Q (named_in_paths ps a) → Each Q (spots_in_later f x d ps a)
   each_later x d [] a h = tt
@@ -186,7 +186,7 @@ module _ (f : Degree → Degree → Bool) (Q : Spot → Type 0) where
     each_in (Alt ss) a h = each_in_sides ss (a + 1) h
     each_in (Quant c l n) a h = each_in c (a + 2) h
     each_in (Opt c) a h = each_in c (a + 1) h
-    each_in (Scope m c w) a h = each_in c (a + 1) h
+    each_in (ModeScope m c w) a h = each_in c (a + 1) h
 
     each_in_sides : (ss : Sides) (b : ℕ) → Each Q (named_in_sides ss b) → Each Q (spots_in_sides f ss b)
     each_in_sides NoSide b h = tt

@@ -9,7 +9,7 @@ use Rattle.gql_values3.specs.declared.table.ColumnKind.{ColumnKind}
 use Rattle.gql_values3.specs.declared.table.ColumnKind.TheVariants as kind
 use Rattle.gql_norm.specs.declared.degree.Degree.{Degree}
 use Rattle.gql_norm.specs.declared.degree.Degree.TheVariants.{Singleton, Group}
-use Rattle.gql_norm.specs.NormalPattern.{Part, Node, Edge, Concat, Union, Alt, Quant, Opt, Scope, Sides, NoSide, Side, NormalPath}
+use Rattle.gql_norm.specs.NormalPattern.{Part, Node, Edge, Concat, Union, Alt, Quant, Opt, ModeScope, Sides, NoSide, Side, NormalPath}
 use Rattle.gql_norm.specs.Places.{size, size_all}
 use Rattle.gql_norm.specs.Degree.{element_degree, beside_all, under_optional, degree_of, degrees_of}
 use Rattle.gql_norm.specs.Declaration.{Declared, visible, visible_sides, declaration, all_declared}
@@ -32,7 +32,7 @@ abbrev mutual
   named_in (Alt ss) a = named_in_sides ss (a + 1)
   named_in (Quant b l n) a = named_in b (a + 2)
   named_in (Opt b) a = named_in b (a + 1)
-  named_in (Scope m b c) a = named_in b (a + 1)
+  named_in (ModeScope m b c) a = named_in b (a + 1)
 
   pub named_in_sides : Sides → ℕ → List Spot
   named_in_sides NoSide b = []
@@ -63,7 +63,7 @@ mutual
   all_named (Alt ss) a qs x h = all_named_sides ss (a + 1) qs x (omega arith)
   all_named (Quant b l n) a qs x h = all_named b (a + 2) (a ∷ qs) x (omega arith)
   all_named (Opt b) a qs x h = all_named b (a + 1) qs x (omega arith)
-  all_named (Scope m b c) a qs x h = all_named b (a + 1) qs x (omega arith)
+  all_named (ModeScope m b c) a qs x h = all_named b (a + 1) qs x (omega arith)
 
   all_named_sides : (ss : Sides) (b : ℕ) (qs : List ℕ) (x : ℕ) → b + size_all ss ≤ x → map spot_of (visible_sides ss b qs x) ≡ named_in_sides ss b
   all_named_sides NoSide b qs x h = refl
@@ -123,7 +123,7 @@ mutual
   named_some x (Alt ss) a = named_some_sides x ss (a + 1)
   named_some x (Quant b l n) a = named_some x b (a + 2) ∙ some_group (degree_of b x)
   named_some x (Opt b) a = named_some x b (a + 1) ∙ some_optional (degree_of b x)
-  named_some x (Scope m b c) a = named_some x b (a + 1)
+  named_some x (ModeScope m b c) a = named_some x b (a + 1)
 
   named_some_sides : (x : List ℕ) (ss : Sides) (b : ℕ) → is_some (first_named x (named_in_sides ss b)) ≡ is_some (beside_all (degrees_of ss x))
   named_some_sides x NoSide b = refl

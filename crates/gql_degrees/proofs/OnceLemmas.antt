@@ -8,7 +8,7 @@ use Rattle.gql_values3.specs.declared.table.ColumnKind.{ColumnKind}
 use Rattle.gql_values3.proofs.WordLemmas.{same_is}
 use Rattle.gql_ast.specs.ClauseColumns.{ColumnList, is_column}
 use Rattle.gql_norm.specs.declared.degree.Degree.{Degree}
-use Rattle.gql_norm.specs.NormalPattern.{Part, Node, Edge, Concat, Union, Alt, Quant, Opt, Scope, Sides, NoSide, Side, NormalPath}
+use Rattle.gql_norm.specs.NormalPattern.{Part, Node, Edge, Concat, Union, Alt, Quant, Opt, ModeScope, Sides, NoSide, Side, NormalPath}
 use Rattle.gql_norm.specs.Places.{size}
 use Rattle.gql_norm.specs.Degree.{degree_of}
 use Rattle.gql_norm.specs.NewColumns.{degree_in_paths}
@@ -118,7 +118,7 @@ module _ (f : Degree → Degree → Bool) (x : List ℕ) where
   row_absent q (Alt ss) a h = ap (place_if (q (degree_of (Alt ss) x))) (absent x (named_in (Alt ss) a) h) ∙ place_if-none (q (degree_of (Alt ss) x))
   row_absent q (Quant c l n) a h = ap (place_if (q (degree_of (Quant c l n) x))) (absent x (named_in (Quant c l n) a) h) ∙ place_if-none (q (degree_of (Quant c l n) x))
   row_absent q (Opt c) a h = ap (place_if (q (degree_of (Opt c) x))) (absent x (named_in (Opt c) a) h) ∙ place_if-none (q (degree_of (Opt c) x))
-  row_absent q (Scope m c w) a h = ap (place_if (q (degree_of (Scope m c w) x))) (absent x (named_in (Scope m c w) a) h) ∙ place_if-none (q (degree_of (Scope m c w) x))
+  row_absent q (ModeScope m c w) a h = ap (place_if (q (degree_of (ModeScope m c w) x))) (absent x (named_in (ModeScope m c w) a) h) ∙ place_if-none (q (degree_of (ModeScope m c w) x))
 
   later_absent : (q : Option Degree → Bool) (ps : List NormalPath) (a : ℕ) → times x (named_in_paths ps a) ≡ 0 → later_by q x ps a ≡ None
   later_absent q [] a h = refl
@@ -161,7 +161,7 @@ module _ (f : Degree → Degree → Bool) (x : List ℕ) where
     once (Alt ss) a h = once_sides ss (a + 1) h
     once (Quant c l n) a h = once c (a + 2) h
     once (Opt c) a h = once c (a + 1) h
-    once (Scope m c w) a h = once c (a + 1) h
+    once (ModeScope m c w) a h = once c (a + 1) h
 
     once_sides : (ss : Sides) (b : ℕ) → times x (named_in_sides ss b) ≤ 1 → least_of x (spots_in_sides f ss b) ≡ None
     once_sides NoSide b h = refl

@@ -5,7 +5,7 @@ use Rattle.std.specs.Prelude.{if◌then◌else◌}
 use Rattle.gql_values3.specs.Texts.{same_text}
 use Rattle.gql_norm.specs.declared.degree.Degree.{Degree}
 use Rattle.gql_norm.specs.declared.degree.Degree.TheVariants.{Singleton, Conditional, Group}
-use Rattle.gql_norm.specs.NormalPattern.{Part, Node, Edge, Concat, Union, Alt, Quant, Opt, Scope, NormalPath}
+use Rattle.gql_norm.specs.NormalPattern.{Part, Node, Edge, Concat, Union, Alt, Quant, Opt, ModeScope, NormalPath}
 use Rattle.gql_norm.specs.Places.{size}
 use Rattle.gql_norm.specs.Degree.{degree_of}
 use Rattle.gql_norm.specs.Declaration.{Declared, all_declared}
@@ -37,7 +37,7 @@ row_never x (Union p r) a = refl
 row_never x (Alt ss) a = refl
 row_never x (Quant b l n) a = refl
 row_never x (Opt b) a = refl
-row_never x (Scope m b c) a = refl
+row_never x (ModeScope m b c) a = refl
 
 pub later_never : (x : List ℕ) (ps : List NormalPath) (a : ℕ) → later_by never x ps a ≡ None
 later_never x [] a = refl
@@ -62,7 +62,7 @@ module _ (q r : Option Degree → Bool) (x : List ℕ) where
   row_either (Alt ss) a = either_here (Alt ss) a
   row_either (Quant b l n) a = either_here (Quant b l n) a
   row_either (Opt b) a = either_here (Opt b) a
-  row_either (Scope m b c) a = either_here (Scope m b c) a
+  row_either (ModeScope m b c) a = either_here (ModeScope m b c) a
 
   pub later_either : (ps : List NormalPath) (a : ℕ) → later_by either x ps a ≡ sooner (later_by q x ps a) (later_by r x ps a)
   later_either [] a = refl
@@ -162,7 +162,7 @@ module _ (f : Degree → Degree → Bool) where
   row_place x d (Alt ss) a = spot_in_place x d (Alt ss) a
   row_place x d (Quant b l n) a = spot_in_place x d (Quant b l n) a
   row_place x d (Opt b) a = spot_in_place x d (Opt b) a
-  row_place x d (Scope m b c) a = spot_in_place x d (Scope m b c) a
+  row_place x d (ModeScope m b c) a = spot_in_place x d (ModeScope m b c) a
 
   row_other : (x y : List ℕ) → same_text x y ≡ false → (d : Option Degree) (p : Part) (a : ℕ) → least_of x (spots_in_row f y d p a) ≡ None
   row_other x y h d (Concat p r) a =
@@ -173,7 +173,7 @@ module _ (f : Degree → Degree → Bool) where
   row_other x y h d (Alt ss) a = spot_in_other x y h d (Alt ss) a
   row_other x y h d (Quant b l n) a = spot_in_other x y h d (Quant b l n) a
   row_other x y h d (Opt b) a = spot_in_other x y h d (Opt b) a
-  row_other x y h d (Scope m b c) a = spot_in_other x y h d (Scope m b c) a
+  row_other x y h d (ModeScope m b c) a = spot_in_other x y h d (ModeScope m b c) a
 
   later_place : (x : List ℕ) (d : Option Degree) (ps : List NormalPath) (a : ℕ) → least_of x (spots_in_later f x d ps a) ≡ later_by (are_both_faulty f d) x ps a
   later_place x d [] a = refl

@@ -10,7 +10,7 @@ use Rattle.gql_norm.specs.declared.degree.Degree.TheVariants.{Singleton, Group}
 use Rattle.gql_ast.specs.Tree.{Tree}
 use Rattle.gql_ast.specs.declared.mode.Mode.{Mode}
 use Rattle.gql_ast.specs.declared.pattern.Direction.{Direction}
-use Rattle.gql_norm.specs.NormalPattern.{ElementPattern, Part, Node, Edge, Concat, Union, Alt, Quant, Opt, Scope, Sides, NoSide, Side, NormalPath}
+use Rattle.gql_norm.specs.NormalPattern.{ElementPattern, Part, Node, Edge, Concat, Union, Alt, Quant, Opt, ModeScope, Sides, NoSide, Side, NormalPath}
 use Rattle.gql_norm.specs.Places.{size, size_all}
 use Rattle.gql_norm.specs.Degree.{element_degree, joint, beside, beside_all, under_optional, degree_of, degrees_of}
 use Rattle.gql_norm.specs.NewColumns.{degree_in_paths}
@@ -113,7 +113,7 @@ module _ (f : Degree → Degree → Bool) (x : List ℕ) where
   unfolding size
   behind_optional c a = omega arith
 
-  behind_scope : (m : Mode) (c : Part) (w : Option Tree) (a : ℕ) → ((a + 1) + size c) + 1 ≡ a + size (Scope m c w)
+  behind_scope : (m : Mode) (c : Part) (w : Option Tree) (a : ℕ) → ((a + 1) + size c) + 1 ≡ a + size (ModeScope m c w)
   unfolding size
   behind_scope m c w a = omega arith
 
@@ -184,7 +184,7 @@ module _ (f : Degree → Degree → Bool) (x : List ℕ) where
           fault = least_of x (spots_in f c (a + 1));
           behind = behind_optional c a i;
         }))
-    walked_told (Scope m c w) a b =
+    walked_told (ModeScope m c w) a b =
         let one = by_alone c (a + 1) (walked_told c (a + 1) none_before) in
         (λ i. against f b (closed (one i)))
         ∙ (λ i. against f b (record {

@@ -8,10 +8,11 @@ use Rattle.gql_norm.specs.NormalForm.{normal_form}
 use Rattle.gql_norm.specs.NormalPattern.{NormalPattern}
 use Rattle.gql_norm.specs.WrongKinds.{wrong_in_match}
 
--- a number as an integer; one above the largest integer, which is refused before, is told as that
+-- a number as it is told: one above the largest integer, which is refused before, is told as that
 abbrev pub at_most_largest : ℕ → ℕ
 at_most_largest n = min n 9223372036854775807
 
+-- the same as an integer
 abbrev pub told_number : ℕ → ℤ
 told_number n = pos (at_most_largest n)
 

@@ -6,6 +6,7 @@ use Rattle.std.specs.Prelude.{◌&&◌, filter}
 use Rattle.std.specs.Cmp.{IsStrictWeakOrder}
 use Rattle.std.specs.List.{AllByRecursion}
 use Rattle.std.specs.List.Sorted.{ties, IsSortedBy, IsStableBy}
+use Rattle.std.proofs.lemmas.Bool.{and_from, and_parts}
 use Rattle.std.proofs.lemmas.List.Sorted.{sorted_far}
 use Rattle.std.specs.List.{list_all}
 use Rattle.gql_eval.specs.StableSort.{inserted_in_order, stably_sorted}
@@ -159,26 +160,14 @@ module _ {X Y : Type 0} (f : Y → X) (lt : X → X → Bool) where
 
 -- what all have, all have in order
 module _ {X : Type 0} (before : X → X → Bool) (p : X → Bool) where
-  one_true : (b c : Bool) → b ≡ true → c ≡ true → (b && c) ≡ true
-  one_true true c h k = k
-  one_true false c h k = absurd (cc)
-
-  first_true : (b c : Bool) → (b && c) ≡ true → b ≡ true
-  first_true true c h = refl
-  first_true false c h = h
-
-  rest_true : (b c : Bool) → (b && c) ≡ true → c ≡ true
-  rest_true true c h = h
-  rest_true false c h = absurd (cc)
-
   inserted_case : (b : Bool) (x y : X) (ys rest : List X) → p x ≡ true → list_all p (y ∷ ys) ≡ true → list_all p rest ≡ true → list_all p (cond b (y ∷ rest) (x ∷ y ∷ ys)) ≡ true
-  inserted_case true x y ys rest here all more = one_true (p y) (list_all p rest) (first_true (p y) (list_all p ys) all) more
-  inserted_case false x y ys rest here all more = one_true (p x) (list_all p (y ∷ ys)) here all
+  inserted_case true x y ys rest here all more = and_from (p y) (list_all p rest) (and_parts (p y) (list_all p ys) all).0 more
+  inserted_case false x y ys rest here all more = and_from (p x) (list_all p (y ∷ ys)) here all
 
   inserted_all : (x : X) (ys : List X) → p x ≡ true → list_all p ys ≡ true → list_all p (inserted_in_order before x ys) ≡ true
-  inserted_all x [] here all = one_true (p x) true here refl
-  inserted_all x (y ∷ ys) here all = inserted_case (before y x) x y ys (inserted_in_order before x ys) here all (inserted_all x ys here (rest_true (p y) (list_all p ys) all))
+  inserted_all x [] here all = and_from (p x) true here refl
+  inserted_all x (y ∷ ys) here all = inserted_case (before y x) x y ys (inserted_in_order before x ys) here all (inserted_all x ys here (and_parts (p y) (list_all p ys) all).1)
 
   pub sorted_all : (xs : List X) → list_all p xs ≡ true → list_all p (stably_sorted before xs) ≡ true
   sorted_all [] all = refl
-  sorted_all (x ∷ xs) all = inserted_all x (stably_sorted before xs) (first_true (p x) (list_all p xs) all) (sorted_all xs (rest_true (p x) (list_all p xs) all))
+  sorted_all (x ∷ xs) all = inserted_all x (stably_sorted before xs) (and_parts (p x) (list_all p xs) all).0 (sorted_all xs (and_parts (p x) (list_all p xs) all).1)

@@ -44,7 +44,8 @@ pub fn number_within(digits: &Text) -> Result<Value, OutOfMemory>
     }
 }
 
-fn are_digits(bytes: &[u8]) -> bool
+/// Whether all bytes are ASCII digits (`0` to `9`), which is so of none at all.
+pub fn are_digits(bytes: &[u8]) -> bool
     ensures { result ≡ all_ascii_digits bytes.now }
 {
     for i in 0..bytes.len() {

@@ -48,7 +48,7 @@ impl NameList {
         self.set.len()
     }
 
-    /// Adds a copy of the name at the end, unless it is there.
+    /// Adds a copy of the name at the end, unless it is there; what an Err leaves is not promised.
     pub fn add(&mut self, alloc: Global, name: &Text) -> Result<(), OutOfMemory>
         ensures names { OnOk result (self.new ≡ with_name self.old name.now) }
         ensures among { OnOk result ((x : List ℕ) → is_among self.new x ≡ is_among (name.now ∷ self.old) x) }

@@ -21,28 +21,35 @@ use Rattle.gql_lexer.specs.SymbolPlaces as symbol
 use Rattle.gql_lexer.specs.WordPlaces as word
 use Rattle.gql_front.specs.Tables.{word_in, sign_in}
 
--- the operators of the chains
+-- the words between the sides of a disjunction, and the operator of each
 abbrev pub or_words : List (ℕ × Operator)
 or_words = (word.OR, operator.Or) ∷ (word.XOR, operator.Xor) ∷ []
 
+-- the operator with which a disjunction goes on
 abbrev pub or_op : Lexeme → Option Operator
 or_op t = word_in or_words t
 
+-- the words between the sides of a conjunction, and the operator of each
 abbrev pub and_words : List (ℕ × Operator)
 and_words = (word.AND, operator.And) ∷ []
 
+-- the operator with which a conjunction goes on
 abbrev pub and_op : Lexeme → Option Operator
 and_op t = word_in and_words t
 
+-- the symbols between the sides of a sum, and the operator of each; `||` binds as `+` does
 abbrev pub sum_signs : List (ℕ × Operator)
 sum_signs = (symbol.plus, operator.Add) ∷ (symbol.minus, operator.Subtract) ∷ (symbol.double_bar, operator.Concatenate) ∷ []
 
+-- the operator with which a sum goes on
 abbrev pub sum_op : Lexeme → Option Operator
 sum_op t = sign_in sum_signs t
 
+-- the symbols between the sides of a product, and the operator of each
 abbrev pub product_signs : List (ℕ × Operator)
 product_signs = (symbol.star, operator.Multiply) ∷ (symbol.slash, operator.Divide) ∷ []
 
+-- the operator with which a product goes on
 abbrev pub product_op : Lexeme → Option Operator
 product_op t = sign_in product_signs t
 
@@ -50,6 +57,7 @@ product_op t = sign_in product_signs t
 abbrev pub signs : List (ℕ × Sign)
 signs = (symbol.plus, sign.Plus) ∷ (symbol.minus, sign.Minus) ∷ []
 
+-- the sign that the lexeme is before an operand
 abbrev pub sign_op : Lexeme → Option Sign
 sign_op t = sign_in signs t
 
@@ -59,6 +67,7 @@ comparison_signs =
     (symbol.equal, comparison.Eq) ∷ (symbol.not_equal, comparison.Ne) ∷ (symbol.less, comparison.Lt) ∷ (symbol.greater, comparison.Gt)
     ∷ (symbol.less_or_equal, comparison.Le) ∷ (symbol.greater_or_equal, comparison.Ge) ∷ []
 
+-- the comparison that the lexeme asks for
 abbrev pub comparison_op : Lexeme → Option Comparison
 comparison_op t = sign_in comparison_signs t
 
@@ -72,6 +81,7 @@ atom_words =
     ∷ (word.CARDINALITY, atom.Call functions.Cardinality) ∷ (word.PATH_LENGTH, atom.Call functions.PathLength)
     ∷ (word.ELEMENTS, atom.Call functions.Elements) ∷ (word.MOD, atom.Mod) ∷ (word.COALESCE, atom.Coalesce) ∷ []
 
+-- what atom the lexeme begins by its word
 abbrev pub atom_word : Lexeme → Option AtomWord
 atom_word t = word_in atom_words t
 
@@ -79,6 +89,7 @@ atom_word t = word_in atom_words t
 abbrev pub quantifier_words : List (ℕ × SetQuantifier)
 quantifier_words = (word.DISTINCT, quantifier.Distinct) ∷ (word.ALL, quantifier.All) ∷ []
 
+-- whether an aggregate takes equal values once, by the word before what it aggregates
 abbrev pub quantifier_op : Lexeme → Option SetQuantifier
 quantifier_op t = word_in quantifier_words t
 
@@ -89,5 +100,6 @@ test_words =
     ∷ (word.UNKNOWN, test.Quality quality.Unknown) ∷ (word.DIRECTED, test.Quality quality.Directed) ∷ (word.LABELED, test.Labeled)
     ∷ (word.SOURCE, test.End ends.Source) ∷ (word.DESTINATION, test.End ends.Destination) ∷ []
 
+-- what the lexeme asks behind IS
 abbrev pub test_word : Lexeme → Option TestWord
 test_word t = word_in test_words t

@@ -38,31 +38,39 @@ use Rattle.gql_front.specs.Longest.{IsFrontOf}
 use Rattle.gql_exprs.specs.ExprWords.{or_op, and_op, sum_op, product_op, sign_op, comparison_op, atom_word, test_word}
 use Rattle.gql_exprs.specs.LabelGrammar.{IsLabel}
 
--- the levels, from what binds most
+-- the levels, from what binds most: an atom has no operator outside of brackets
 abbrev pub at_atom : ℕ
 at_atom = 0
 
+-- an atom behind a sign
 abbrev pub at_signed : ℕ
 at_signed = 1
 
+-- a chain of `*` and `/`
 abbrev pub at_product : ℕ
 at_product = 2
 
+-- a chain of `+`, `-` and `||`
 abbrev pub at_sum : ℕ
 at_sum = 3
 
+-- two sums compared, which is no chain
 abbrev pub at_comparison : ℕ
 at_comparison = 4
 
+-- a question behind IS or a colon
 abbrev pub at_test : ℕ
 at_test = 5
 
+-- NOT before a test
 abbrev pub at_not : ℕ
 at_not = 6
 
+-- a chain of AND
 abbrev pub at_and : ℕ
 at_and = 7
 
+-- a chain of OR and XOR; no expression binds less
 abbrev pub at_or : ℕ
 at_or = 8
 

@@ -11,16 +11,19 @@ use Rattle.gql_lexer.specs.SymbolPlaces.{opening, closing, percent, ampersand, b
 use Rattle.gql_front.specs.Reading.{any_name_in}
 use Rattle.gql_ast.specs.Label.{Label, Labels, name, wildcard, paren, negation, conjunction, disjunction, no_labels, more_labels}
 
--- the levels, from what binds most
+-- the levels, from what binds most: a label, `%`, or what stands in parentheses
 abbrev pub at_base : ℕ
 at_base = 0
 
+-- a base behind `!`
 abbrev pub at_factor : ℕ
 at_factor = 1
 
+-- a chain of `&`
 abbrev pub at_term : ℕ
 at_term = 2
 
+-- a chain of `|`; no label expression binds less
 abbrev pub at_expression : ℕ
 at_expression = 3
 

@@ -21,6 +21,4 @@ pub use labels::label_set_of;
 pub use misread::Misread;
 pub use properties::properties_of;
 pub use property_writing::put_properties;
-pub use value_writing::put_value;
-pub use values::value_of;
 pub use writing::{put_labels, put_text, put_u32, put_u64};

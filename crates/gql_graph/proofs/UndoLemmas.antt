@@ -1,6 +1,6 @@
 -- Each change of a graph is undone by another.
-use Rattle.std.proofs.Common.{◌≡◌, ℕ, suc, pred, ◌^◌, ◌<◌, eqb, nat_lt, Bool, true, not, ◌&&◌, List, map, Option, None, Some, refl, ap, arith, eq-eqb}
-use Rattle.std.proofs.lemmas.Bool.{and_parts}
+use Rattle.std.proofs.Common.{◌≡◌, ℕ, suc, pred, ◌^◌, ◌<◌, eqb, nat_lt, true, not, List, map, Option, None, Some, refl, ap, arith, eq-eqb}
+use Rattle.std.proofs.lemmas.Bool.{and_from, and_parts}
 use Rattle.std.specs.Prelude.{is_some}
 use Rattle.std.proofs.lemmas.Bool.Decides.{nat_tests}
 use Rattle.gql_values3.specs.PropertyGraph.{PropertyGraph, numbers_ascend, is_graph}
@@ -21,9 +21,6 @@ use Rattle.gql_graph.proofs.EditLemmas.{Up, none_above, found_key, found_below, 
 pub record Undone (g : PropertyGraph) (done undo : Change) : Type 0 where
   pub suits : suits undo (changed done g) ≡ true
   pub back : changed undo (changed done g) ≡ g
-
-both : {a b : Bool} → a ≡ true → b ≡ true → (a && b) ≡ true
-both p q = cc
 
 equal : (a b : ℕ) → eqb a b ≡ true → a ≡ b
 equal a b same = grind (arith, nat_tests)
@@ -61,7 +58,7 @@ module _ (g : PropertyGraph) (one : is_graph g ≡ true) where
       let next : r.number.0 ≡ g.next_node = equal _ _ (and_parts _ _ suit).0 in
       let none = none_above node_key r.number.0 g.nodes 0 g.next_node node_up (omega arith) in
       record {
-        suits = both (eq-eqb (suc r.number.0) (suc g.next_node) (ap suc next)) (there_at_end node_key r g.nodes);
+        suits = and_from _ _ (eq-eqb (suc r.number.0) (suc g.next_node) (ap suc next)) (there_at_end node_key r g.nodes);
         back = same_nodes g _ _ (off_end node_key r g.nodes none) refl;
       }
 
@@ -72,7 +69,7 @@ module _ (g : PropertyGraph) (one : is_graph g ≡ true) where
       let up : Up node_key 0 g.nodes (suc n.0) = rw next node_up in
       let fits : nat_lt (suc (pred g.next_node)) (2 ^ 32) ≡ true = rw (← next) (rw (← next) at next_node_fits) in
       record {
-        suits = both (eq-eqb r.number.0 (pred g.next_node) (rw (← next) number)) fits;
+        suits = and_from _ _ (eq-eqb r.number.0 (pred g.next_node) (rw (← next) number)) fits;
         back = same_nodes g _ _ (on_end node_key n.0 g.nodes 0 r up found) (rw (← next) refl);
       }
 
@@ -82,7 +79,7 @@ module _ (g : PropertyGraph) (one : is_graph g ≡ true) where
       let none : node_of (changed (change.OutNode n) g) r.number ≡ None = rw number (not_there node_key n.0 g.nodes) in
       let below = found_below node_key n.0 g.nodes 0 g.next_node r node_up found in
       record {
-        suits = both (ap (λ (o : Option NodeRecord). not (is_some o)) none) (lower _ _ (omega arith));
+        suits = and_from _ _ (ap (λ (o : Option NodeRecord). not (is_some o)) none) (lower _ _ (omega arith));
         back = same_nodes g _ _ (in_again node_key n.0 g.nodes 0 g.next_node r node_up found) refl;
       }
 
@@ -113,7 +110,7 @@ module _ (g : PropertyGraph) (one : is_graph g ≡ true) where
       let next : r.number.0 ≡ g.next_edge = equal _ _ (and_parts _ _ suit).0 in
       let none = none_above edge_key r.number.0 g.edges 0 g.next_edge edge_up (omega arith) in
       record {
-        suits = both (eq-eqb (suc r.number.0) (suc g.next_edge) (ap suc next)) (there_at_end edge_key r g.edges);
+        suits = and_from _ _ (eq-eqb (suc r.number.0) (suc g.next_edge) (ap suc next)) (there_at_end edge_key r g.edges);
         back = same_edges g _ _ (off_end edge_key r g.edges none) refl;
       }
 
@@ -124,7 +121,7 @@ module _ (g : PropertyGraph) (one : is_graph g ≡ true) where
       let up : Up edge_key 0 g.edges (suc n.0) = rw next edge_up in
       let fits : nat_lt (suc (pred g.next_edge)) (2 ^ 32) ≡ true = rw (← next) (rw (← next) at next_edge_fits) in
       record {
-        suits = both (eq-eqb r.number.0 (pred g.next_edge) (rw (← next) number)) fits;
+        suits = and_from _ _ (eq-eqb r.number.0 (pred g.next_edge) (rw (← next) number)) fits;
         back = same_edges g _ _ (on_end edge_key n.0 g.edges 0 r up found) (rw (← next) refl);
       }
 
@@ -134,7 +131,7 @@ module _ (g : PropertyGraph) (one : is_graph g ≡ true) where
       let none : edge_of (changed (change.OutEdge n) g) r.number ≡ None = rw number (not_there edge_key n.0 g.edges) in
       let below = found_below edge_key n.0 g.edges 0 g.next_edge r edge_up found in
       record {
-        suits = both (ap (λ (o : Option EdgeRecord). not (is_some o)) none) (lower _ _ (omega arith));
+        suits = and_from _ _ (ap (λ (o : Option EdgeRecord). not (is_some o)) none) (lower _ _ (omega arith));
         back = same_edges g _ _ (in_again edge_key n.0 g.edges 0 g.next_edge r edge_up found) refl;
       }
 

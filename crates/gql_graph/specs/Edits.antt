@@ -23,10 +23,11 @@ taken_out key n xs = filter (λ y. not (key y == n)) xs
 abbrev pub put_over : {X : Type 0} → (X → ℕ) → X → List X → List X
 put_over key x xs = map (λ y. if key y == key x then x else y) xs
 
--- nodes and edges are kept in order by number
+-- nodes are kept in order by number
 abbrev pub node_key : NodeRecord → ℕ
 node_key r = r.number.0
 
+-- edges are kept in order by number
 abbrev pub edge_key : EdgeRecord → ℕ
 edge_key r = r.number.0
 

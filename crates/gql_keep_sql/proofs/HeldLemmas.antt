@@ -119,5 +119,6 @@ all_keys records ordered keys place told same is =
       before = told.before;
       store = told.store;
       selected = selected_permuted told.rows there.0 told.before place told.selected there.1;
+      rests = told.rests;
       are = ap (map Blob) is ∙ first_columns there.0 ordered there.2;
     }

@@ -1,5 +1,5 @@
 -- A write that was not begun changes nothing.
-use Rattle.std.proofs.Common.{false, List, ℕ, inl, refl, arith}
+use Rattle.std.proofs.Common.{◌≡◌, Bool, false, List, ℕ, inl, refl, sym, subst, arith}
 use Rattle.sqlite.specs.Store.{Ghosts}
 use Rattle.sqlite.specs.Tree.{Trees}
 use Rattle.sqlite.specs.State.{State, Survives}
@@ -23,6 +23,7 @@ not_asked : {S : Type 0} (g : Ghosts S) (puts : List Record) (drops : List (List
 not_asked g puts drops h = record {
   all = λ clean done. absurd cc;
   nothing = λ clean is_open not_done. refl;
+  rests = λ none. none;
   crash = survives_itself (state g h) _;
 }
 
@@ -33,3 +34,7 @@ pub unwritten : (puts : List Record) (drops : List (List ℕ)) (place : Place) �
 unwritten puts drops Nowhere = refl
 unwritten puts drops (Memory h) = unaltered puts drops h.items
 unwritten puts drops (File name h) = (refl, not_asked _ puts drops h)
+
+-- so it is where the answer is no
+pub unwritten_if : (puts : List Record) (drops : List (List ℕ)) (done : Bool) (place : Place) → done ≡ false → Writes puts drops done place place
+unwritten_if puts drops done place is = subst (λ b. Writes puts drops b place place) (sym is) (unwritten puts drops place)

@@ -9,10 +9,11 @@ use Rattle.sqlite.specs.State.{HasCleanDisk, Shown, FailsToQuery, Executes}
 use Rattle.sqlite.specs.Held.{Held, state}
 use Rattle.gql_values3.specs.Texts.{same_text}
 
--- the text of a store's one table, and of the query for the texts of all objects
+-- the text of a store's one table
 abbrev pub table : List ℕ
 table = codes "CREATE TABLE record (key BLOB PRIMARY KEY, value BLOB NOT NULL) STRICT"
 
+-- the text of the query for the texts of all objects
 abbrev pub objects : List ℕ
 objects = codes "SELECT sql FROM sqlite_schema WHERE sql IS NOT NULL"
 

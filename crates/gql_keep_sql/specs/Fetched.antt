@@ -12,6 +12,7 @@ use Rattle.sqlite.specs.Files.{over_files}
 use Rattle.gql_values3.specs.Texts.{same_text}
 use Rattle.gql_ports.specs.declared.stored.Record.{Record}
 use Rattle.gql_keep_sql.specs.Established.{Establishes}
+use Rattle.gql_keep_sql.specs.Rests.{IsAtRest}
 use Rattle.gql_keep_sql.specs.declared.place.Place.{Place}
 use Rattle.gql_keep_sql.specs.declared.place.Place.TheVariants.{Nowhere, Memory, File}
 
@@ -140,18 +141,20 @@ abbrev pub IsStore : Place → Type 0
 IsStore (File name now) = (new : Held _) × IsNew new × (HasCleanDisk (state over_files now) → Establishes over_files new now)
 IsStore place = ⊤
 
--- these are all records of the place: those of the rows that the query for all of them was answered by, and since then nothing was asked of the place
+-- these are all records of the place, where no transaction is open: those of the rows that the query for all of them was answered by, and since then nothing was asked of the place
 pub record AreAllRecords (records : List Record) (place : Place) : Type 0 where
   pub rows : List (List Value)
   pub before : Place
   pub store : IsStore before
   pub selected : AreSelected rows before place
+  pub rests : IsAtRest place
   pub are : AllZip HasRecord rows records
 
--- these are the keys of all records of the place: of the rows that the query for all of them was answered by, and since then nothing was asked of the place
+-- these are the keys of all records of the place, where no transaction is open: of the rows that the query for all of them was answered by, and since then nothing was asked of the place
 pub record AreAllKeys (keys : List (List ℕ)) (place : Place) : Type 0 where
   pub rows : List (List Value)
   pub before : Place
   pub store : IsStore before
   pub selected : AreSelected rows before place
+  pub rests : IsAtRest place
   pub are : map Blob keys ≡ map first_column rows

@@ -15,13 +15,14 @@ pub record Step : Type 0 where
   pub sql : List ℕ
   pub params : List Value
 
--- the statement that puts a record, and the one that drops a key
+-- the statement that puts a record
 abbrev pub put_step : Record → Step
 put_step r = record {
   sql = codes "INSERT INTO record (key, value) VALUES (?1, ?2) ON CONFLICT (key) DO UPDATE SET value = excluded.value";
   params = Blob r.key ∷ Blob r.value ∷ [];
 }
 
+-- the statement that drops a key
 abbrev pub drop_step : List ℕ → Step
 drop_step key = record { sql = codes "DELETE FROM record WHERE key = ?1"; params = Blob key ∷ [] }
 

@@ -13,6 +13,7 @@ use Rattle.std.specs.List.Sorted.{IsSortedBy}
 use Rattle.std.specs.Ordering.{nat_cmp, is_lt}
 use Rattle.std.specs.Cmp.Lexicographic.{slice_cmp}
 use Rattle.gql_keep_sql.specs.Keys.{has_key, keys_of}
+use Rattle.gql_keep_sql.specs.Rests.{Rests}
 use Rattle.gql_keep_sql.specs.Transaction.{Rewrote, FailsToRewrite}
 use Rattle.gql_values3.specs.Texts.{texts_differ}
 use Rattle.sqlite.specs.declared.error.Error.{Error}
@@ -23,6 +24,8 @@ pub record Transacts {S : Type 0} (g : Ghosts S) (puts : List Record) (drops : L
   pub all : HasCleanDisk (state g new) → IsTrue done → Rewrote g puts drops old (state g new).committed
   -- nothing of it is committed
   pub nothing : HasCleanDisk (state g new) → IsTrue (state g new).is_open → done ≡ false → (state g new).committed ≡ (state g old).committed
+  -- no transaction is open where there was none
+  pub rests : Rests old new
   -- a crash leaves what it could leave before, or all of it
   pub crash : Survives (state g old) (state g new) (λ trees. (db : Database) × Rewrote g puts drops old db × (trees ≡ db.trees))
 

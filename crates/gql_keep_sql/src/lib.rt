@@ -16,7 +16,6 @@ mod store;
 mod transaction;
 
 pub use keeper::SqlKeeper;
-pub use keys::Keys;
 
 #[cfg(test)]
 mod tests;

@@ -11,7 +11,7 @@ ghost use Rattle.gql_keep_sql.specs.Places.{IsUnder, IsFile, IsSamePlace};
 ghost use Rattle.gql_keep_sql.specs.Refusals.{FailsOnlyBy};
 ghost use Rattle.gql_keep_sql.specs.Written.{Writes, FailsToWrite};
 
-use crate::fault::CLOSED;
+use crate::fault::{CLOSED, NOT_A_STORE};
 use crate::{memory, store, transaction};
 use gql_ports::{Key, Record};
 use sqlite::{Connection, Error, FileFrom, FileStore, Wary};
@@ -121,6 +121,9 @@ fn open_file(rt: &HostRuntime, alloc: Global, name: &str) -> Result<(Place, Vec<
     let own = String::from_str(alloc, name)?;
     let mut conn = connect(rt, name)?;
     store::establish(&mut conn)?;
+    if !conn.is_autocommit() {
+        return Err(NOT_A_STORE);
+    }
     let records = store::select_all(alloc, &mut conn)?;
     Ok((Place::File(own, conn), records))
 }

@@ -69,7 +69,8 @@ fn is_table(object: &Row) -> bool
 
 /// All records, in the order in which they lie. One row is read at a time, so that records alone stand in memory.
 pub fn select_all<S: Alter>(alloc: Global, conn: &mut Connection<S>) -> Result<Vec<Record>, Error>
-    ensures { IfOk result (λ records. AreRead S.Store records.items conn.new (λ rows. SelectsAll S.Store rows conn.old conn.new)) }
+    ensures read { IfOk result (λ records. AreRead S.Store records.items conn.new (λ rows. SelectsAll S.Store rows conn.old conn.new)) }
+    ensures rests { Rests conn.old conn.new }
 {
     let mut records = Vec::new(alloc);
     let mut rows = conn.query(ALL, &[])?;

@@ -6,7 +6,7 @@ use Rattle.std.specs.Prelude.{codes}
 use Rattle.std.specs.Option.{option_map, option_or, option_map_or}
 use Rattle.std.specs.List.{prefix_len, flat_map}
 use Rattle.std.specs.Char.{is_ascii_digit}
-use Rattle.std.proofs.lemmas.Bool.{ne_eqb, eqb-true}
+use Rattle.std.proofs.lemmas.Bool.{ne_eqb, eqb-true, and_parts}
 use Rattle.std.proofs.lemmas.Bool.Decides.{nat_tests}
 use Rattle.std.proofs.lemmas.List.{take-append-drop, take-append-le, drop-append-le, take_all, drop_all, append-nil}
 use Rattle.unicode_ident.specs.Ident.{is_xid_continue}
@@ -26,7 +26,7 @@ use Rattle.gql_lexer.specs.Lexemes.{lexeme_of, is_gap, with_lexeme, lexemes_of_s
 use Rattle.gql_lexer.specs.Pieces.{is_end, piece, with_bytes, pieces_of_spans, pieces_of}
 use Rattle.gql_lexer.specs.Laws.{with_end, spans_with_end, SpansOfPiecesJoin, lexemes_with_end, with_lexemes, lexemes_of_pieces, LexemesOfPiecesJoin, EachIsWhole, PiecesAreWhole, EachForm}
 use Rattle.gql_lexer.proofs.FormLemmas.{front-fits, by-fronts}
-use Rattle.gql_lexer.proofs.FrontLemmas.{and-both, no-name}
+use Rattle.gql_lexer.proofs.FrontLemmas.{no-name}
 use Rattle.gql_lexer.proofs.LengthLemmas.{ascii-fails, continue_length-stops}
 use Rattle.gql_lexer.proofs.LawLemmas.{each-more, end-bytes, none-longer, pieces-join}
 use Rattle.gql_lexer.proofs.SpanLemmas.{spans-step, pieces-of-step, with_bytes-twice}
@@ -117,8 +117,8 @@ is-false false e = refl
 
 begins-cut : (s xs ys : List ℕ) → has_no_end s ≡ true → begins s (xs ++ 59 ∷ ys) ≡ begins s xs
 begins-cut [] xs ys h = refl
-begins-cut (x ∷ s) [] ys h = let other = is-false (x == 59) (and-both (not (x == 59)) (has_no_end s) h).0 in rw other refl
-begins-cut (x ∷ s) (b ∷ xs) ys h = ap (λ t. (x == b) && t) (begins-cut s xs ys (and-both (not (x == 59)) (has_no_end s) h).1)
+begins-cut (x ∷ s) [] ys h = let other = is-false (x == 59) (and_parts (not (x == 59)) (has_no_end s) h).0 in rw other refl
+begins-cut (x ∷ s) (b ∷ xs) ys h = ap (λ t. (x == b) && t) (begins-cut s xs ys (and_parts (not (x == 59)) (has_no_end s) h).1)
 
 -- ---- lengths that may reach beyond the `;`
 
@@ -254,7 +254,7 @@ cons-is x y xs ys e f = ap (λ z. z ∷ xs) e ∙ ap (λ zs. y ∷ zs) f
 symbols-cut : (place : ℕ) (ss : List (List ℕ)) (b : ℕ) (xs ys : List ℕ) → end_first ss ≡ true → symbols_from place ss (b ∷ xs) ≡ symbols_from place ss (b ∷ (xs ++ 59 ∷ ys))
 symbols-cut place [] b xs ys h = refl
 symbols-cut place (s ∷ ss) b xs ys h =
-    let both = and-both (has_no_end (drop 1 s)) (end_first ss) h in
+    let both = and_parts (has_no_end (drop 1 s)) (end_first ss) h in
     cons-is _ _ _ _ (ap (λ t. cond t (Some (form (Symbol place) (length s))) None) (sym (begins-first s b xs ys both.0))) (symbols-cut (place + 1) ss b xs ys both.1)
 
 symbols-end_first : end_first symbols ≡ true

@@ -5,12 +5,12 @@ use Rattle.std.specs.Option.{option_map, option_or}
 use Rattle.std.specs.List.{prefix_len}
 use Rattle.std.specs.Char.{is_ascii_digit}
 use Rattle.std.specs.Str.{IsUtf8}
+use Rattle.std.proofs.lemmas.Bool.{and_parts}
 use Rattle.std.proofs.lemmas.Bool.Decides.{nat_tests}
 use Rattle.std.proofs.Common.{lit<}
 use Rattle.std.proofs.lemmas.Str.{IsUtf8-nil, IsUtf8-append, IsUtf8-from_ascii}
 use Rattle.std.proofs.lemmas.List.Sums.{prefix_len-le-length}
 use Rattle.gql_lexer.specs.SymbolPlaces as symbol
-use Rattle.gql_lexer.proofs.FrontLemmas.{and-both}
 use Rattle.gql_lexer.specs.declared.front.Front.{Front}
 use Rattle.gql_lexer.specs.declared.front.Shape.{Shape}
 use Rattle.gql_lexer.specs.declared.front.Shape.TheVariants.{Gap, Plain, Ticked, Quoted, Digits, Symbol, Bad}
@@ -52,11 +52,7 @@ fits-if bs false f h = tt
 begins-length : (xs bs : List ℕ) → begins xs bs ≡ true → length xs ≤ length bs
 begins-length [] bs h = omega arith
 begins-length (x ∷ xs) [] h = cc
-begins-length (x ∷ xs) (b ∷ bs) h = let more = begins-length xs bs (second (x == b) (begins xs bs) h) in omega (arith, more)
-  where
-    second : (p q : Bool) → (p && q) ≡ true → q ≡ true
-    second true q h = h
-    second false q h = cc
+begins-length (x ∷ xs) (b ∷ bs) h = let more = begins-length xs bs (and_parts (x == b) (begins xs bs) h).1 in omega (arith, more)
 
 closed-fits : (bs : List ℕ) (shape : Shape) (o : Option ℕ) → 1 ≤ length bs → IfSome o (λ n. (1 ≤ n) × (n ≤ length bs) × Tells shape (take n bs))
     → Fits bs (closed shape o bs)
@@ -237,7 +233,7 @@ take-begun : (s bs : List ℕ) → begins s bs ≡ true → take (length s) bs �
 take-begun [] bs h = refl
 take-begun (x ∷ xs) [] h = cc
 take-begun (x ∷ xs) (b ∷ bs) h =
-    let both = and-both (x == b) (begins xs bs) h in
+    let both = and_parts (x == b) (begins xs bs) h in
     let same : b ≡ x = grind (arith, nat_tests) in
     let more = take-begun xs bs both.1 in
     cc
@@ -254,8 +250,8 @@ not-or false q h e = cc
 symbols-fit : (place : ℕ) (ss : List (List ℕ)) (bs : List ℕ) → sound place ss ≡ true → EachFits bs (symbols_from place ss bs)
 symbols-fit place [] bs h = tt
 symbols-fit place (s ∷ ss) bs h =
-    let both = and-both (nat_lt 0 (length s) && (not (place == symbol.semicolon) || ((length s == 1) && (get_or s 0 0 == 59)))) (sound (place + 1) ss) h in
-    let here = and-both (nat_lt 0 (length s)) (not (place == symbol.semicolon) || ((length s == 1) && (get_or s 0 0 == 59))) both.0 in (
+    let both = and_parts (nat_lt 0 (length s) && (not (place == symbol.semicolon) || ((length s == 1) && (get_or s 0 0 == 59)))) (sound (place + 1) ss) h in
+    let here = and_parts (nat_lt 0 (length s)) (not (place == symbol.semicolon) || ((length s == 1) && (get_or s 0 0 == 59))) both.0 in (
       fits-if bs (begins s bs) (form (Symbol place) (length s)) (λ e. record {
         some = grind (arith, nat_tests);
         within = begins-length s bs e;

@@ -3,7 +3,7 @@ use Rattle.std.proofs.Common.{◌≡◌, ◌≢◌, ℕ, zero, suc, ◌+◌, ◌
 use Rattle.std.specs.Option.{option_map, option_or}
 use Rattle.std.specs.List.{prefix_len}
 use Rattle.std.specs.Char.{is_ascii_digit, is_ascii_alphabetic}
-use Rattle.std.proofs.lemmas.Bool.{ne_eqb}
+use Rattle.std.proofs.lemmas.Bool.{ne_eqb, and_parts}
 use Rattle.std.proofs.lemmas.List.{drop_more}
 use Rattle.std.proofs.lemmas.Bool.Decides.{nat_tests}
 use Rattle.unicode_ident.proofs.IdentLemmas.{is_xid_start-ascii}
@@ -16,10 +16,6 @@ use Rattle.gql_lexer.specs.Lengths.{line_length, block_length, quoted_length, fi
 use Rattle.gql_lexer.specs.Forms.{form, front, closed, is_blank, blank, plain, ticked, digits, with_dollar, symbols, symbols_from, longer, longest}
 use Rattle.gql_lexer.specs.Machinery.Firsts.{is_ascii_start, is_letter, none_begins}
 use Rattle.gql_lexer.proofs.LengthLemmas.{ascii-name}
-
-pub and-both : (a b : Bool) → (a && b) ≡ true → (a ≡ true) × (b ≡ true)
-and-both true b h = (refl, h)
-and-both false b h = cc
 
 -- a list by its first item
 pub first-of : (bs : List ℕ) → 0 < length bs → bs ≡ get_or bs 0 0 ∷ drop 1 bs
@@ -146,7 +142,7 @@ all_below (suc n) p = p n && all_below n p
 below : (n : ℕ) (p : ℕ → Bool) (k : ℕ) → all_below n p ≡ true → k < n → p k ≡ true
 below zero p k h l = absurd (omega arith)
 below (suc n) p k h l =
-    let both = and-both (p n) (all_below n p) h in
+    let both = and_parts (p n) (all_below n p) h in
     last (k == n) (λ e. let P : ℕ → Type 0 = λ m. p m ≡ true in subst P (sym (e_of e)) both.0) (λ e. below n p k both.1 (smaller e))
   where
     last : {A : Type 0} (b : Bool) → (b ≡ true → A) → (b ≡ false → A) → A
@@ -167,7 +163,7 @@ silent : (place b : ℕ) (ss : List (List ℕ)) (bs : List ℕ) (g : Front) → 
 silent place b [] bs g h = refl
 silent place b ([] ∷ ss) bs g h = cc
 silent place b ((x ∷ s) ∷ ss) bs g h =
-    let both = and-both (not (x == b)) (none_begins b ss) h in
+    let both = and_parts (not (x == b)) (none_begins b ss) h in
     let no_x = not-true (x == b) both.0 in
     rw no_x (silent (place + 1) b ss bs g both.1)
 
@@ -179,12 +175,12 @@ front-quiet : (b : ℕ) (bs : List ℕ) → is_quiet b ≡ true
     → front (b ∷ bs) ≡ longer (blank (b ∷ bs)) (longer (plain (b ∷ bs)) (longer (digits (b ∷ bs)) (form Bad 1)))
 unfolding front
 front-quiet b bs h =
-    let n47 = and-both (not (47 == b)) _ h in
-    let n45 = and-both (not (45 == b)) _ n47.1 in
-    let n96 = and-both (not (96 == b)) _ n45.1 in
-    let n39 = and-both (not (39 == b)) _ n96.1 in
-    let n34 = and-both (not (34 == b)) _ n39.1 in
-    let n36 = and-both (not (36 == b)) (none_begins b symbols) n34.1 in
+    let n47 = and_parts (not (47 == b)) _ h in
+    let n45 = and_parts (not (45 == b)) _ n47.1 in
+    let n96 = and_parts (not (96 == b)) _ n45.1 in
+    let n39 = and_parts (not (39 == b)) _ n96.1 in
+    let n34 = and_parts (not (34 == b)) _ n39.1 in
+    let n36 = and_parts (not (36 == b)) (none_begins b symbols) n34.1 in
     rw (not-true (47 == b) n47.0, not-true (45 == b) n45.0, not-true (96 == b) n96.0, not-true (39 == b) n39.0, not-true (34 == b) n34.0, not-true (36 == b) n36.0, silent 0 b symbols bs (form Bad 1) n36.1) refl
 
 quiet-letters : all_below 256 (λ b. not (is_letter b) || (is_quiet b && (not (is_blank b) && not (is_ascii_digit b)))) ≡ true
@@ -207,15 +203,15 @@ implied false q h e = cc
 front-letter : (b : ℕ) (bs : List ℕ) → b < 256 → is_letter b ≡ true → front (b ∷ bs) ≡ longer (plain (b ∷ bs)) (form Bad 1)
 front-letter b bs h l =
     let all = implied (is_letter b) _ (below 256 (λ b. not (is_letter b) || (is_quiet b && (not (is_blank b) && not (is_ascii_digit b)))) b quiet-letters h) l in
-    let quiet = and-both (is_quiet b) _ all in
-    let rest = and-both (not (is_blank b)) (not (is_ascii_digit b)) quiet.1 in
+    let quiet = and_parts (is_quiet b) _ all in
+    let rest = and_parts (not (is_blank b)) (not (is_ascii_digit b)) quiet.1 in
     front-quiet b bs quiet.0 ∙ rw (not-true (is_blank b) rest.0, not-true (is_ascii_digit b) rest.1) refl
 
 front-digit : (b : ℕ) (bs : List ℕ) → b < 256 → is_ascii_digit b ≡ true → front (b ∷ bs) ≡ form Digits (prefix_len is_ascii_digit (b ∷ bs))
 front-digit b bs h l =
     let all = implied (is_ascii_digit b) _ (below 256 (λ b. not (is_ascii_digit b) || (is_quiet b && (not (is_blank b) && not (is_letter b)))) b quiet-digits h) l in
-    let quiet = and-both (is_quiet b) _ all in
-    let rest = and-both (not (is_blank b)) (not (is_letter b)) quiet.1 in
+    let quiet = and_parts (is_quiet b) _ all in
+    let rest = and_parts (not (is_blank b)) (not (is_letter b)) quiet.1 in
     front-quiet b bs quiet.0 ∙ rw (not-true (is_blank b) rest.0, no-name b bs (not-true (is_letter b) rest.1), l) (digits-here (prefix_len is_ascii_digit bs))
   where
     digits-here : (n : ℕ) → longer (cond (nat_lt 0 (1 + n)) (Some (form Digits (1 + n))) None) (form Bad 1) ≡ form Digits (1 + n)
@@ -225,8 +221,8 @@ front-digit b bs h l =
 front-blank : (b : ℕ) (bs : List ℕ) → b < 256 → is_blank b ≡ true → front (b ∷ bs) ≡ form Gap 1
 front-blank b bs h l =
     let all = implied (is_blank b) _ (below 256 (λ b. not (is_blank b) || (is_quiet b && (not (is_ascii_digit b) && not (is_letter b)))) b quiet-blanks h) l in
-    let quiet = and-both (is_quiet b) _ all in
-    let rest = and-both (not (is_ascii_digit b)) (not (is_letter b)) quiet.1 in
+    let quiet = and_parts (is_quiet b) _ all in
+    let rest = and_parts (not (is_ascii_digit b)) (not (is_letter b)) quiet.1 in
     front-quiet b bs quiet.0 ∙ rw (l, no-name b bs (not-true (is_letter b) rest.1), not-true (is_ascii_digit b) rest.0) refl
 
 pub blank-here : (bs : List ℕ) → 0 < length bs → get_or bs 0 0 < 256 → is_blank (get_or bs 0 0) ≡ true → form Gap 1 ≡ front bs

@@ -4,10 +4,10 @@ use Rattle.std.specs.Option.{option_map, option_and_then}
 use Rattle.std.specs.List.{list_all}
 use Rattle.std.specs.Str.{chars, encode_utf8_all, IsUtf8, is_utf8}
 use Rattle.std.specs.Char.{encode_utf8}
+use Rattle.std.proofs.lemmas.Bool.{and_parts}
 use Rattle.std.proofs.lemmas.Str.{encodes-chars, is_utf8-from_IsUtf8, IsUtf8-from_is_utf8, length-encode, len_utf8_bounds, chars-nil}
 use Rattle.gql_lexer.specs.declared.quotes.Part.{Part}
 use Rattle.gql_lexer.specs.Quotes.{part, unescaped, text_between}
-use Rattle.gql_lexer.proofs.FrontLemmas.{and-both}
 
 -- 16 to a power
 abbrev pub bound : ℕ → ℕ
@@ -60,8 +60,8 @@ append-nil (x ∷ xs) = ap (λ ys. x ∷ ys) (append-nil xs)
 unescaped-plain : (quote : ℕ) (cs : List ℕ) → list_all (λ c. not (c == 92) && not (c == quote)) cs ≡ true → unescaped quote 0 cs ≡ Some cs
 unescaped-plain quote [] h = refl
 unescaped-plain quote (c ∷ cs) h =
-    let both = and-both (not (c == 92) && not (c == quote)) (list_all (λ c. not (c == 92) && not (c == quote)) cs) h in
-    let here = and-both (not (c == 92)) (not (c == quote)) both.0 in
+    let both = and_parts (not (c == 92) && not (c == quote)) (list_all (λ c. not (c == 92) && not (c == quote)) cs) h in
+    let here = and_parts (not (c == 92)) (not (c == quote)) both.0 in
     let one : Some (record { meant = c; size = 0 }) ≡ part quote c cs = rw (not-true (c == 92) here.0, not-true (c == quote) here.1) refl in
     unescaped-step quote c cs (record { meant = c; size = 0 }) one ∙ ap (option_map (λ t. c ∷ t)) (unescaped-plain quote cs both.1)
   where

@@ -47,10 +47,11 @@ between quote shape bs = if begins (quote ∷ []) bs
 abbrev pub ticked : List ℕ → Option Front
 ticked bs = between 96 Ticked bs
 
--- a string stands between two `'`, which are 39, or two `"`, which are 34
+-- a string stands between two `'`, which are 39
 abbrev pub single_quoted : List ℕ → Option Front
 single_quoted bs = between 39 Quoted bs
 
+-- a string stands between two `"` as well, which are 34
 abbrev pub double_quoted : List ℕ → Option Front
 double_quoted bs = between 34 Quoted bs
 

@@ -1,6 +1,7 @@
 -- WordPlaces: each reserved word's place among the reserved words.
 use Rattle.std.specs.Prelude.{ℕ}
 
+-- the words in the order of the alphabet, from place 0 on
 abbrev pub ABS : ℕ
 ABS = 0
 

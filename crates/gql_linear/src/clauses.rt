@@ -11,7 +11,7 @@ ghost use Rattle.gql_linear.specs.SoundQuery.{MatchIsSound, MatchesAreSound, col
 
 use crate::answer::RunFault;
 use crate::match_clause::match_table;
-use crate::setting::Setting;
+use crate::setting::QuerySetting;
 use gql_ast::{ChangeClause, Clause};
 use gql_change::{Planned, apply as make_changes, plan, reserve};
 use gql_graph::Edit;
@@ -23,7 +23,7 @@ use std::alloc::Global;
 /// The columns and rows behind all clauses of a query that reads, or its refusal. A query begins with one row without
 /// columns.
 pub fn table_behind<M: Matcher<V>, V: View>(
-    setting: &Setting<M>,
+    setting: &QuerySetting<M>,
     view: &V,
     clauses: &[Clause],
 ) -> Result<(Columns, Rows), RunFault>
@@ -41,7 +41,7 @@ pub fn table_behind<M: Matcher<V>, V: View>(
 
 /// The columns and rows behind all clauses of a query, or its refusal. The graph becomes the one behind them.
 pub fn run_clauses<M: Matcher<G>, G: Edit>(
-    setting: &Setting<M>,
+    setting: &QuerySetting<M>,
     graph: &mut G,
     clauses: &[Clause],
 ) -> Result<(Columns, Rows), RunFault>
@@ -67,7 +67,7 @@ fn one_row(alloc: Global) -> Result<Rows, OutOfMemory>
 
 /// What is behind one clause. A clause that reads leaves the graph.
 fn run_clause<M: Matcher<G>, G: Edit>(
-    setting: &Setting<M>,
+    setting: &QuerySetting<M>,
     graph: &mut G,
     table: (Columns, Rows),
     clause: &Clause,
@@ -89,7 +89,7 @@ fn run_clause<M: Matcher<G>, G: Edit>(
 
 /// What is behind a clause that changes data.
 fn change<M, G: Edit>(
-    setting: &Setting<M>,
+    setting: &QuerySetting<M>,
     graph: &mut G,
     table: (Columns, Rows),
     clause: &ChangeClause,
@@ -118,7 +118,7 @@ fn change<M, G: Edit>(
 
 /// The columns and rows behind one clause that reads, or its first fault.
 fn table_after<M: Matcher<V>, V: View>(
-    setting: &Setting<M>,
+    setting: &QuerySetting<M>,
     view: &V,
     table: (Columns, Rows),
     clause: &Clause,
@@ -144,7 +144,7 @@ fn table_after<M: Matcher<V>, V: View>(
 
 /// The columns and rows behind a clause over tables, or its first fault.
 fn over_table<M, V: View>(
-    setting: &Setting<M>,
+    setting: &QuerySetting<M>,
     view: &V,
     table: (Columns, Rows),
     clause: &Clause,

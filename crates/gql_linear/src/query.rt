@@ -8,7 +8,7 @@ ghost use Rattle.gql_linear.specs.SoundQuery.{MatchesAreSound};
 
 use crate::answer::{Answer, RunFault};
 use crate::clauses::{run_clauses, table_behind};
-use crate::setting::Setting;
+use crate::setting::QuerySetting;
 use gql_ast::{Query, ends_in_change, is_change};
 use gql_graph::Edit;
 use gql_starts::Matcher;
@@ -31,7 +31,7 @@ pub fn run_query<M: Matcher<G>, G: Edit>(
     requires { MatchesAreSound params.now [] query.now.clauses }
     ensures { Runs query.now result (G.View.graph graph.new) (QueryMayRun (G.View.graph graph.old) params.now query.now) }
 {
-    let setting = Setting {
+    let setting = QuerySetting {
         alloc,
         matcher,
         params,
@@ -52,7 +52,7 @@ pub fn run_reading_query<M: Matcher<V>, V: View>(
     requires sound { MatchesAreSound params.now [] query.now.clauses }
     ensures { Runs query.now result (V.graph view.now) (QueryMayRun (V.graph view.now) params.now query.now) }
 {
-    let setting = Setting {
+    let setting = QuerySetting {
         alloc,
         matcher,
         params,

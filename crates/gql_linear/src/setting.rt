@@ -5,7 +5,7 @@ use std::alloc::Global;
 
 /// The allocator, the matcher of path patterns, and the parameters.
 #[derive(Drop)]
-pub struct Setting<'a, M> {
+pub struct QuerySetting<'a, M> {
     pub alloc: Global,
     pub matcher: &'a M,
     pub params: &'a Params,

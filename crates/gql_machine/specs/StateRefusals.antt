@@ -26,10 +26,11 @@ abbrev pub missing_if : {X : Type 0} → List ℕ → Option X → Option Refusa
 missing_if name None = Some (refusal.NoSuch name)
 missing_if name (Some x) = None
 
--- the graph of this name, and the type
+-- the graph of this name
 abbrev pub missing_graph : CatalogData → List ℕ → Option Refusal
 missing_graph c name = missing_if name (held_in c name)
 
+-- the graph type of this name
 abbrev pub missing_type : CatalogData → List ℕ → Option Refusal
 missing_type c name = missing_if name (type_in c name)
 

@@ -7,7 +7,7 @@ use Rattle.std.proofs.lemmas.Bool.{le-leb}
 use Rattle.gql_values3.specs.declared.table.ColumnKind.{ColumnKind}
 use Rattle.gql_values3.specs.declared.table.ColumnKind.TheVariants as kind
 use Rattle.gql_ast.specs.ClauseColumns.{ColumnList, is_column}
-use Rattle.gql_norm.specs.NormalPattern.{Part, Node, Edge, Concat, Union, Alt, Quant, Opt, Scope, Sides, NoSide, Side, NormalPath, in_a_row, side_by_side, sides_of}
+use Rattle.gql_norm.specs.NormalPattern.{Part, Node, Edge, Concat, Union, Alt, Quant, Opt, ModeScope, Sides, NoSide, Side, NormalPath, in_a_row, side_by_side, sides_of}
 use Rattle.gql_norm.specs.NormalData.{path_data}
 use Rattle.gql_norm.specs.declared.path.NormalPath.{NormalPath as CodePath}
 use Rattle.gql_norm.specs.Places.{size, size_all}
@@ -71,7 +71,7 @@ mutual
   all_seen (Alt ss) a qs x h = all_seen_sides ss (a + 1) qs x (omega arith)
   all_seen (Quant b l n) a qs x h = all_seen b (a + 2) (a ∷ qs) x (omega arith)
   all_seen (Opt b) a qs x h = all_seen b (a + 1) qs x (omega arith)
-  all_seen (Scope m b c) a qs x h = all_seen b (a + 1) qs x (omega arith)
+  all_seen (ModeScope m b c) a qs x h = all_seen b (a + 1) qs x (omega arith)
 
   all_seen_sides : (ss : Sides) (b : ℕ) (qs : List ℕ) (x : ℕ) → b + size_all ss ≤ x → map without_place (visible_sides ss b qs x) ≡ declared_in_sides ss
   all_seen_sides NoSide b qs x h = refl

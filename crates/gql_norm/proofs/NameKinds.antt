@@ -7,7 +7,7 @@ use Rattle.gql_values3.specs.declared.table.ColumnKind.{ColumnKind}
 use Rattle.gql_values3.specs.declared.table.ColumnKind.TheVariants as kind
 use Rattle.gql_ast.specs.ClauseColumns.{ColumnList, is_column}
 use Rattle.gql_expr_checks.proofs.KnowingLemmas.{same_text-refl, same_text-sym}
-use Rattle.gql_norm.specs.NormalPattern.{Part, Node, Edge, Concat, Union, Alt, Quant, Opt, Scope, Sides, NoSide, Side, NormalPath}
+use Rattle.gql_norm.specs.NormalPattern.{Part, Node, Edge, Concat, Union, Alt, Quant, Opt, ModeScope, Sides, NoSide, Side, NormalPath}
 use Rattle.gql_norm.specs.Declaration.{Declared, declarations}
 use Rattle.gql_norm.specs.Selection.{Each, Among}
 use Rattle.gql_norm.specs.WrongKinds.{is_kind, clashes, wrong_among}
@@ -34,7 +34,7 @@ mutual
   are_elements (Alt ss) = sides_are_elements ss
   are_elements (Quant b l n) = are_elements b
   are_elements (Opt b) = are_elements b
-  are_elements (Scope m b c) = are_elements b
+  are_elements (ModeScope m b c) = are_elements b
 
   sides_are_elements : (ss : Sides) → Each IsOfElement (declared_in_sides ss)
   sides_are_elements NoSide = tt

@@ -5,7 +5,7 @@ use Rattle.std.proofs.lemmas.Bool.{le-leb, lt-leb}
 use Rattle.std.proofs.lemmas.Bool.Decides.{nat_tests}
 use Rattle.gql_values3.specs.declared.table.ColumnKind.{ColumnKind}
 use Rattle.gql_values3.specs.declared.table.ColumnKind.TheVariants as kind
-use Rattle.gql_norm.specs.NormalPattern.{Part, Node, Edge, Concat, Union, Alt, Quant, Opt, Scope, Sides, NoSide, Side}
+use Rattle.gql_norm.specs.NormalPattern.{Part, Node, Edge, Concat, Union, Alt, Quant, Opt, ModeScope, Sides, NoSide, Side}
 use Rattle.gql_norm.specs.Places.{size, size_all, is_inside}
 use Rattle.gql_norm.specs.Declaration.{Declared, declaration, visible, visible_sides}
 
@@ -38,7 +38,7 @@ mutual
   unseen (Alt ss) a qs x h = unseen_sides ss (a + 1) qs x (omega arith)
   unseen (Quant b l n) a qs x h = unseen b (a + 2) (a ∷ qs) x (omega arith)
   unseen (Opt b) a qs x h = unseen b (a + 1) qs x (omega arith)
-  unseen (Scope m b c) a qs x h = unseen b (a + 1) qs x (omega arith)
+  unseen (ModeScope m b c) a qs x h = unseen b (a + 1) qs x (omega arith)
 
   pub unseen_sides : (ss : Sides) (b : ℕ) (qs : List ℕ) (x : ℕ) → x < b → visible_sides ss b qs x ≡ []
   unseen_sides NoSide b qs x h = refl
@@ -66,7 +66,7 @@ mutual
   stable (Alt ss) a qs x y h k = stable_sides ss (a + 1) qs x y (omega arith) (omega arith)
   stable (Quant b l n) a qs x y h k = stable b (a + 2) (a ∷ qs) x y (omega arith) (omega arith)
   stable (Opt b) a qs x y h k = stable b (a + 1) qs x y (omega arith) (omega arith)
-  stable (Scope m b c) a qs x y h k = stable b (a + 1) qs x y (omega arith) (omega arith)
+  stable (ModeScope m b c) a qs x y h k = stable b (a + 1) qs x y (omega arith) (omega arith)
 
   stable_sides : (ss : Sides) (b : ℕ) (qs : List ℕ) (x y : ℕ) → b + size_all ss ≤ x → b + size_all ss ≤ y → visible_sides ss b qs x ≡ visible_sides ss b qs y
   stable_sides NoSide b qs x y h k = refl

@@ -3,7 +3,7 @@ use Rattle.std.specs.Prelude.{ℕ, Bool, true, false, List, [], ◌∷◌, Optio
 use Rattle.gql_values3.specs.Texts.{same_text}
 use Rattle.gql_norm.specs.declared.degree.Degree.{Degree}
 use Rattle.gql_norm.specs.declared.degree.Degree.TheVariants.{Singleton, Conditional, Group}
-use Rattle.gql_norm.specs.NormalPattern.{Part, Node, Edge, Concat, Union, Alt, Quant, Opt, Scope, Sides, NoSide, Side}
+use Rattle.gql_norm.specs.NormalPattern.{Part, Node, Edge, Concat, Union, Alt, Quant, Opt, ModeScope, Sides, NoSide, Side}
 
 -- of two declarations in a row the wider counts; none but singletons may stand so
 abbrev pub wider : Degree → Degree → Degree
@@ -52,17 +52,18 @@ abbrev mutual
   degree_of (Alt ss) x = beside_all (degrees_of ss x)
   degree_of (Quant b l n) x = option_map (λ (d : Degree). Group) (degree_of b x)
   degree_of (Opt b) x = option_map under_optional (degree_of b x)
-  degree_of (Scope m b c) x = degree_of b x
+  degree_of (ModeScope m b c) x = degree_of b x
 
   pub degrees_of : Sides → List ℕ → List (Option Degree)
   degrees_of NoSide x = []
   degrees_of (Side p ss) x = degree_of p x ∷ degrees_of ss x
 
--- the name is declared, and has this degree
+-- the name is declared, and a match has just one element under it
 abbrev pub is_singleton : Option Degree → Bool
 is_singleton (Some Singleton) = true
 is_singleton _ = false
 
+-- the name is declared, and a match has a list of elements under it
 abbrev pub is_group : Option Degree → Bool
 is_group (Some Group) = true
 is_group _ = false

@@ -8,7 +8,7 @@ use Rattle.gql_values3.specs.Texts.{same_text}
 use Rattle.gql_values3.specs.declared.table.ColumnKind.{ColumnKind}
 use Rattle.gql_ast.specs.Scope.{holds_group}
 use Rattle.gql_ast.specs.ClauseColumns.{ColumnList}
-use Rattle.gql_norm.specs.NormalPattern.{Part, Node, Edge, Concat, Union, Alt, Quant, Opt, Scope, Sides, NoSide, Side, NormalPath, NormalPattern}
+use Rattle.gql_norm.specs.NormalPattern.{Part, Node, Edge, Concat, Union, Alt, Quant, Opt, ModeScope, Sides, NoSide, Side, NormalPath, NormalPattern}
 use Rattle.gql_norm.specs.Places.{size}
 use Rattle.gql_norm.specs.Declaration.{Declared, all_declared}
 use Rattle.gql_norm.specs.declared.degree.Degree.{Degree}
@@ -16,12 +16,13 @@ use Rattle.gql_norm.specs.declared.degree.Degree.TheVariants.{Singleton, Group}
 use Rattle.gql_norm.specs.Degree.{degree_of}
 use Rattle.gql_norm.specs.NewColumns.{degree_in_paths}
 
--- of two degrees one is group; none is, and one is conditional
+-- of two degrees one is group, which E10 refuses
 abbrev pub has_group : Degree → Degree → Bool
 has_group Group b = true
 has_group a Group = true
 has_group a b = false
 
+-- none is group, and one is conditional, which E11 refuses
 abbrev pub has_conditional : Degree → Degree → Bool
 has_conditional Group b = false
 has_conditional a Group = false
@@ -76,7 +77,7 @@ module _ (faulty : Degree → Degree → Bool) where
     spots_in (Alt ss) a = spots_in_sides ss (a + 1)
     spots_in (Quant b l n) a = spots_in b (a + 2)
     spots_in (Opt b) a = spots_in b (a + 1)
-    spots_in (Scope m b c) a = spots_in b (a + 1)
+    spots_in (ModeScope m b c) a = spots_in b (a + 1)
 
     pub spots_in_sides : Sides → ℕ → List Spot
     spots_in_sides NoSide b = []
@@ -113,9 +114,10 @@ earliest (s ∷ ss) = Some (least s ss)
     least t [] = t
     least t (u ∷ us) = least (earlier t u) us
 
--- the name that E10 refuses, and the name that E11 refuses, of a MATCH over these columns
+-- the name that E10 refuses in a MATCH over these columns, if there is one
 abbrev pub joined_group : ColumnList → NormalPattern → Option (List ℕ)
 joined_group columns p = option_map (λ (s : Spot). s.1) (earliest (spots_in_paths has_group p.paths 0 ++ spots_at_columns has_group columns p.paths))
 
+-- the same of the name that E11 refuses
 abbrev pub joined_conditional : ColumnList → NormalPattern → Option (List ℕ)
 joined_conditional columns p = option_map (λ (s : Spot). s.1) (earliest (spots_in_paths has_conditional p.paths 0 ++ spots_at_columns has_conditional columns p.paths))

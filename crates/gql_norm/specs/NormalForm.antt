@@ -14,7 +14,7 @@ use Rattle.gql_ast.specs.declared.path.Prefix.{Prefix}
 use Rattle.gql_ast.specs.declared.path.Prefix.TheVariants as prefix
 use Rattle.gql_ast.specs.declared.pattern.Quantifier.{Quantifier}
 use Rattle.gql_ast.specs.declared.pattern.Quantifier.TheVariants as quantifier
-use Rattle.gql_norm.specs.NormalPattern.{Predicate, PropertyIs, Holds, ElementPattern, anonymous, Part, Node, Edge, Concat, Alt, Quant, Opt, Scope, sides_of, in_a_row, side_by_side, Side, Selector, Any, Shortest, Groups, NormalPath, NormalPattern}
+use Rattle.gql_norm.specs.NormalPattern.{Predicate, PropertyIs, Holds, ElementPattern, anonymous, Part, Node, Edge, Concat, Alt, Quant, Opt, ModeScope, sides_of, in_a_row, side_by_side, Side, Selector, Any, Shortest, Groups, NormalPath, NormalPattern}
 
 -- `{p: e}` asks that the element's p equals e
 abbrev pub predicates_of : Option ConditionTree → List Predicate
@@ -26,7 +26,7 @@ predicates_of (Some (holds e)) = Holds e ∷ []
 abbrev pub element_pattern : FillerTree → ElementPattern
 element_pattern f = record { variable = f.variable; labels = f.labels; predicates = predicates_of f.condition }
 
--- how often a quantified part stands: `*` any number of times, `+` once and more
+-- how often a quantified part stands at least: `*` any number of times, `+` once and more
 abbrev pub fewest_copies : Quantifier → ℕ
 fewest_copies quantifier.Star = 0
 fewest_copies quantifier.Plus = 1
@@ -34,6 +34,7 @@ fewest_copies (quantifier.Exactly n) = value_of_digits n
 fewest_copies (quantifier.Between None n) = 0
 fewest_copies (quantifier.Between (Some m) n) = value_of_digits m
 
+-- how often it stands at most; None where there is no upper bound
 abbrev pub most_copies : Quantifier → Option ℕ
 most_copies quantifier.Star = None
 most_copies quantifier.Plus = None
@@ -50,7 +51,7 @@ abbrev mutual
   pub part_of : Pattern → Part
   part_of (node f) = Node (element_pattern f)
   part_of (edge d f) = Edge d (element_pattern f)
-  part_of (paren m p c) = Scope (unwrap_or m mode.Walk) (part_of p) c
+  part_of (paren m p c) = ModeScope (unwrap_or m mode.Walk) (part_of p) c
   part_of (repeated p q) = Quant (quantified p (part_of p)) (fewest_copies q) (most_copies q)
   part_of (optional p) = Opt (part_of p)
   part_of (sequence p ps) = in_a_row (part_of p) (parts_of ps)
@@ -61,11 +62,12 @@ abbrev mutual
   parts_of no_patterns = []
   parts_of (more_patterns p ps) = part_of p ∷ parts_of ps
 
--- ANY is ANY 1, ANY SHORTEST is SHORTEST 1, ALL SHORTEST is SHORTEST 1 GROUP, and ALL alone is no selector
+-- the number of a selector, which is 1 where none is written
 abbrev pub number_or_one : Option (List ℕ) → ℕ
 number_or_one None = 1
 number_or_one (Some n) = value_of_digits n
 
+-- ANY is ANY 1, ANY SHORTEST is SHORTEST 1, ALL SHORTEST is SHORTEST 1 GROUP, and ALL alone is no selector
 abbrev pub selector_of : Prefix → Option Selector
 selector_of (prefix.Mode m) = None
 selector_of (prefix.All m) = None
@@ -93,7 +95,7 @@ from_prefix f (Some p) = f p
 -- the mode of a prefix binds the whole path pattern
 abbrev pub under_mode : Option Mode → Part → Part
 under_mode None p = p
-under_mode (Some m) p = Scope m p None
+under_mode (Some m) p = ModeScope m p None
 
 -- a path pattern, whose prefix becomes a selector and a scope
 abbrev pub normal_path : PathPattern → NormalPath

@@ -38,9 +38,10 @@ module _ (columns : ColumnList) where
   abbrev pub misused_in_match : NormalPattern → Bool
   misused_in_match p = list_any misused_in_path p.paths || list_any (misused (columns_after columns p) elsewhere) (trees_in p.condition)
 
--- properties that a map names twice, and parameters that aren't set, in the order of the text
+-- properties that a map names twice, in the order of the text
 abbrev pub repeated_properties : NormalPattern → List (List ℕ)
 repeated_properties p = flat_map (λ (q : PredicateSpot). repeated [] q.properties) (flat_map predicates_of_path p.paths)
 
+-- parameters that aren't set, in the order of the text, those of the final WHERE last
 abbrev pub unset_parameters : List (List ℕ × Datum) → NormalPattern → List (List ℕ)
 unset_parameters params p = unset params (flat_map parameters_in (flat_map (λ (q : PredicateSpot). q.trees) (flat_map predicates_of_path p.paths) ++ trees_in p.condition))

@@ -4,7 +4,7 @@ use Rattle.std.specs.Prelude.{ℕ, ◌+◌, List, [], ◌∷◌, ◌++◌, map, 
 use Rattle.std.specs.List.{flat_map}
 use Rattle.gql_ast.specs.Tree.{Tree}
 use Rattle.gql_ast.specs.Scope.{names_in}
-use Rattle.gql_norm.specs.NormalPattern.{Predicate, PropertyIs, Holds, ElementPattern, Part, Node, Edge, Concat, Union, Alt, Quant, Opt, Scope, Sides, NoSide, Side}
+use Rattle.gql_norm.specs.NormalPattern.{Predicate, PropertyIs, Holds, ElementPattern, Part, Node, Edge, Concat, Union, Alt, Quant, Opt, ModeScope, Sides, NoSide, Side}
 use Rattle.gql_norm.specs.Places.{size}
 
 -- the place where predicates act, the quantifiers around it, the innermost first, the properties that a map names, and the
@@ -30,10 +30,11 @@ abbrev pub trees_in : Option Tree → List Tree
 trees_in None = []
 trees_in (Some e) = e ∷ []
 
--- what acts at place a under these quantifiers: the predicates of an element, or the condition of a scope that closes
+-- what acts at place a under these quantifiers: the predicates of an element
 abbrev pub predicates_of_element : ℕ → List ℕ → ElementPattern → PredicateSpot
 predicates_of_element a qs w = record { place = a; quants = qs; properties = flat_map property_in w.predicates; trees = map tree_in w.predicates }
 
+-- the same of a scope that closes: its condition, if it has one
 abbrev pub predicates_of_scope : ℕ → List ℕ → Option Tree → PredicateSpot
 predicates_of_scope a qs c = record { place = a; quants = qs; properties = []; trees = trees_in c }
 
@@ -51,7 +52,7 @@ unfoldable mutual
   predicates_in (Alt ss) a qs = predicates_in_sides ss (a + 1) qs
   predicates_in (Quant b l n) a qs = predicates_in b (a + 2) (a ∷ qs)
   predicates_in (Opt b) a qs = predicates_in b (a + 1) qs
-  predicates_in (Scope m b c) a qs = predicates_in b (a + 1) qs ++ predicates_of_scope (a + size b + 1) qs c ∷ []
+  predicates_in (ModeScope m b c) a qs = predicates_in b (a + 1) qs ++ predicates_of_scope (a + size b + 1) qs c ∷ []
 
   pub predicates_in_sides : Sides → ℕ → List ℕ → List PredicateSpot
   predicates_in_sides NoSide b qs = []

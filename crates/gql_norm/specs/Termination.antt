@@ -4,7 +4,7 @@ use Rattle.std.specs.Prelude.{ℕ, ◌+◌, ◌*◌, min, Bool, true, false, ◌
 use Rattle.std.specs.List.{list_any, flat_map}
 use Rattle.gql_ast.specs.declared.mode.Mode.{Mode}
 use Rattle.gql_ast.specs.declared.mode.Mode.TheVariants as mode
-use Rattle.gql_norm.specs.NormalPattern.{Part, Node, Edge, Concat, Union, Alt, Quant, Opt, Scope, Sides, NoSide, Side, NormalPath, NormalPattern}
+use Rattle.gql_norm.specs.NormalPattern.{Part, Node, Edge, Concat, Union, Alt, Quant, Opt, ModeScope, Sides, NoSide, Side, NormalPath, NormalPattern}
 use Rattle.gql_norm.specs.Places.{size}
 use Rattle.gql_norm.specs.PathMode.{is_number_among}
 use Rattle.gql_norm.specs.Reference.{crossed}
@@ -20,7 +20,7 @@ unfoldable mutual
   least_length (Alt ss) = least_length_of_sides ss
   least_length (Quant b l n) = l * least_length b
   least_length (Opt b) = 0
-  least_length (Scope m b c) = least_length b
+  least_length (ModeScope m b c) = least_length b
 
   -- of one side or more
   pub least_length_of_sides : Sides → ℕ
@@ -41,7 +41,7 @@ unfoldable mutual
   has_empty_loop (Alt ss) = has_empty_loop_beside ss
   has_empty_loop (Quant b l n) = (least_length b == 0) || has_empty_loop b
   has_empty_loop (Opt b) = has_empty_loop b
-  has_empty_loop (Scope m b c) = has_empty_loop b
+  has_empty_loop (ModeScope m b c) = has_empty_loop b
 
   pub has_empty_loop_beside : Sides → Bool
   has_empty_loop_beside NoSide = false
@@ -67,7 +67,7 @@ unfoldable mutual
   unprotected (Alt ss) a safe = unprotected_beside ss (a + 1) safe
   unprotected (Quant b l n) a safe = if_open safe n a ++ unprotected b (a + 2) safe
   unprotected (Opt b) a safe = unprotected b (a + 1) safe
-  unprotected (Scope m b c) a safe = unprotected b (a + 1) (safe || protects m)
+  unprotected (ModeScope m b c) a safe = unprotected b (a + 1) (safe || protects m)
 
   pub unprotected_beside : Sides → ℕ → Bool → List ℕ
   unprotected_beside NoSide b safe = []
@@ -86,12 +86,14 @@ is_unprotected p = is_some_number (unprotected p.body 0 false) && is_none p.sele
 abbrev pub open_references : Part → List (List ℕ)
 open_references body = flat_map (λ (q : PredicateSpot). filter (λ x. list_any (is_number_among (unprotected body 0 false)) (crossed body q.quants q.place x)) (names_of q)) (predicates_in body 0 [])
 
--- of all path patterns of a MATCH: what E12 refuses, what E13 refuses, and the names at fault of E14
+-- E12 of a MATCH: some path pattern has a quantifier whose part may pass no edge
 abbrev pub empty_loop : NormalPattern → Bool
 empty_loop p = list_any (λ (q : NormalPath). has_empty_loop q.body) p.paths
 
+-- E13 of a MATCH: some path pattern has an unprotected quantifier and no selector
 abbrev pub unbounded : NormalPattern → Bool
 unbounded p = list_any is_unprotected p.paths
 
+-- the names that E14 refuses in a MATCH, in the order of the text
 abbrev pub group_references : NormalPattern → List (List ℕ)
 group_references p = flat_map (λ (q : NormalPath). open_references q.body) p.paths

@@ -1,11 +1,11 @@
 //! The numbers of quantifiers and selectors, which a tree keeps by their digits.
 
 ghost use Rattle.std.specs.Prelude.{◌≡◌, pos, IfOk};
-ghost use Rattle.std.specs.Str.{all_ascii_digits};
 ghost use Rattle.gql_values3.specs.Integers.{value_of_digits};
 ghost use Rattle.gql_norm.specs.NormalForm.{fewest_copies, most_copies, number_or_one};
 
 use gql_ast::Quantifier;
+use gql_eval::are_digits;
 use gql_values3::{OutOfMemory, Text, int_of};
 
 /// The number that digits write. A statement with one beyond 32 bits is refused before; here it is answered as want of
@@ -30,17 +30,6 @@ fn in_32_bits(number: i64) -> Result<u32, OutOfMemory>
         Ok(number) => Ok(number),
         Err(_) => Err(OutOfMemory),
     }
-}
-
-fn are_digits(bytes: &[u8]) -> bool
-    ensures { result ≡ all_ascii_digits bytes.now }
-{
-    for i in 0..bytes.len() {
-        if !bytes[i].is_ascii_digit() {
-            return false;
-        }
-    }
-    true
 }
 
 /// A number that may be missing and then is 1.

@@ -2,6 +2,7 @@
 
 ghost use Rattle.gql_front.specs.Reads.{Reads, MayRead, GoesPast};
 ghost use Rattle.gql_parts.specs.PartWords.{is_colon};
+ghost use Rattle.gql_parts.specs.Machinery.PartReaders.{led};
 ghost use Rattle.gql_parts.specs.Machinery.FillerReaders.{where_of, condition_of, variable_of, filler_labels_of, filler_of};
 
 use crate::braces::list_to_brace;
@@ -82,8 +83,18 @@ pub fn variable<'a>(alloc: Global, rest: &'a [Lexeme]) -> ParseResult<'a, Option
 fn filler_labels<'a>(alloc: Global, rest: &'a [Lexeme]) -> ParseResult<'a, Option<LabelExpr>>
     ensures { MayRead result rest.now filler_labels_of }
 {
+    item_behind_colon::<Parts, LabelExpr>(alloc, rest)
+}
+
+/// The item behind a colon or IS; where neither stands, or no item behind it, nothing, and all of `rest`.
+pub fn item_behind_colon<'a, By, T: Item<By>>(
+    alloc: Global,
+    rest: &'a [Lexeme],
+) -> ParseResult<'a, Option<T>>
+    ensures { MayRead result rest.now (led is_colon T.reader) }
+{
     match after_colon(rest) {
-        Ok(behind) => item_or_nothing::<Parts, LabelExpr>(alloc, rest, behind),
+        Ok(behind) => item_or_nothing::<By, T>(alloc, rest, behind),
         Err(NoFront) => Ok((None, rest)),
     }
 }

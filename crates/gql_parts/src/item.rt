@@ -2,7 +2,7 @@
 
 ghost use Rattle.std.specs.Prelude.{◌≤◌, List, Option, Some, length};
 ghost use Rattle.gql_lexer.specs.declared.lexeme.Lexeme.{Lexeme as Token};
-ghost use Rattle.gql_front.specs.Reading.{is_word, opted};
+ghost use Rattle.gql_front.specs.Reading.{is_sign, is_word, opted};
 ghost use Rattle.gql_front.specs.Reads.{Reads, MayRead};
 ghost use Rattle.gql_parts.specs.Machinery.PartReaders.{led, listed};
 
@@ -73,6 +73,20 @@ pub fn item_behind_word<'a, By, T: Item<By>>(
 {
     match after_word(word, rest) {
         Ok(behind) => item_or_nothing::<By, T>(alloc, rest, behind),
+        Err(NoFront) => Ok((None, rest)),
+    }
+}
+
+/// The item behind the symbol of this place; where that symbol or the item is missing, nothing, and all of `rest`.
+pub fn item_behind_sign<'a, By, T: Item<By>>(
+    alloc: Global,
+    sign: u32,
+    rest: &'a [Lexeme],
+) -> ParseResult<'a, Option<T>>
+    ensures { MayRead result rest.now (led (is_sign sign) T.reader) }
+{
+    match after_sign(sign, rest) {
+        Ok(found) => item_or_nothing::<By, T>(alloc, rest, found),
         Err(NoFront) => Ok((None, rest)),
     }
 }

@@ -13,8 +13,8 @@ mod repeated;
 mod values;
 
 pub use braces::list_to_brace;
-pub use fillers::{after_colon, filler, variable, where_value};
-pub use item::{Item, item_behind_word, item_or_nothing, list};
+pub use fillers::{after_colon, filler, item_behind_colon, variable, where_value};
+pub use item::{Item, item_behind_sign, item_behind_word, item_or_nothing, list};
 pub use laws::the_longest_part_is_read;
 pub use repeated::many;
 pub use values::{Parts, named_value, value};

@@ -4,7 +4,7 @@ use Rattle.std.proofs.Math.Bool.{or-false}
 use Rattle.std.specs.Prelude.{if◌then◌else◌}
 use Rattle.std.proofs.lemmas.List.Folds.{list_any-append}
 use Rattle.gql_values3.specs.Texts.{same_text}
-use Rattle.gql_norm.specs.NormalPattern.{Part, Node, Edge, Concat, Union, Alt, Quant, Opt, Scope, Sides, NoSide, Side, NormalPath}
+use Rattle.gql_norm.specs.NormalPattern.{Part, Node, Edge, Concat, Union, Alt, Quant, Opt, ModeScope, Sides, NoSide, Side, NormalPath}
 use Rattle.gql_norm.specs.declared.degree.Degree.{Degree}
 use Rattle.gql_norm.specs.declared.degree.Degree.TheVariants.{Singleton, Group}
 use Rattle.gql_norm.specs.Degree.{degree_of, degrees_of, element_degree, beside_all, under_optional, is_group}
@@ -53,7 +53,7 @@ mutual
   all_groups (Alt ss) x = all_groups_in_sides ss x
   all_groups (Quant b l n) x = all_groups b x
   all_groups (Opt b) x = all_groups b x
-  all_groups (Scope m b c) x = all_groups b x
+  all_groups (ModeScope m b c) x = all_groups b x
 
   all_groups_in_sides : (ss : Sides) (x : List ℕ) → has_group (entries_of_sides true ss) x ≡ has (entries_of_sides true ss) x
   all_groups_in_sides NoSide x = refl
@@ -68,7 +68,7 @@ mutual
   declares g (Alt ss) x = side_declares g ss x
   declares g (Quant b l n) x = mapped_known (λ (d : Degree). Group) (degree_of b x) ∙ declares true b x
   declares g (Opt b) x = mapped_known under_optional (degree_of b x) ∙ declares g b x
-  declares g (Scope m b c) x = declares g b x
+  declares g (ModeScope m b c) x = declares g b x
 
   side_declares : (g : Bool) (ss : Sides) (x : List ℕ) → is_some (beside_all (degrees_of ss x)) ≡ has (entries_of_sides g ss) x
   side_declares g NoSide x = refl
@@ -86,7 +86,7 @@ mutual
   groups (Alt ss) x = side_groups ss x
   groups (Quant b l n) x = repeated_group (degree_of b x) ∙ declares true b x ∙ sym (all_groups b x)
   groups (Opt b) x = optional_group (degree_of b x) ∙ groups b x
-  groups (Scope m b c) x = groups b x
+  groups (ModeScope m b c) x = groups b x
 
   side_groups : (ss : Sides) (x : List ℕ) → is_group (beside_all (degrees_of ss x)) ≡ has_group (entries_of_sides false ss) x
   side_groups NoSide x = refl

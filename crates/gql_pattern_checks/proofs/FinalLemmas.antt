@@ -15,7 +15,7 @@ use Rattle.gql_expr_checks.specs.ExprMisuses.{is_group_column}
 use Rattle.gql_expr_checks.specs.Machinery.Knowing.{first_kind}
 use Rattle.gql_expr_checks.specs.Repeated.{is_among}
 use Rattle.gql_expr_checks.proofs.KnowingLemmas.{is_some-first_kind, knows_old}
-use Rattle.gql_norm.specs.NormalPattern.{Part, Node, Edge, Concat, Union, Alt, Quant, Opt, Scope, Sides, NoSide, Side, NormalPath, NormalPattern}
+use Rattle.gql_norm.specs.NormalPattern.{Part, Node, Edge, Concat, Union, Alt, Quant, Opt, ModeScope, Sides, NoSide, Side, NormalPath, NormalPattern}
 use Rattle.gql_norm.specs.declared.degree.Degree.{Degree}
 use Rattle.gql_norm.specs.declared.degree.Degree.TheVariants.{Singleton, Conditional, Group}
 use Rattle.gql_norm.specs.Degree.{is_group}
@@ -164,7 +164,7 @@ module _ (paths : List NormalPath) where
     looks_part cs g s (Alt ss) l = looks_sides cs g s ss l
     looks_part cs g s (Quant b n m) l = looks_part cs true s b l
     looks_part cs g s (Opt b) l = looks_part cs g s b l
-    looks_part cs g s (Scope m b c) l = looks_part cs g s b l
+    looks_part cs g s (ModeScope m b c) l = looks_part cs g s b l
 
     looks_sides : (cs : ColumnList) (g : Bool) (s : Names) (ss : Sides) → Looks grouped cs s → Looks grouped (cs ++ by_degrees paths (declared_in_sides ss)) (with_sides g s ss)
     looks_sides cs g s NoSide l = subst (λ ds. Looks grouped ds s) (sym (append-nil cs)) l

@@ -9,7 +9,7 @@ use Rattle.std.proofs.lemmas.Slice.Eq.{bytes_eq-Decides}
 use Rattle.std.proofs.lemmas.List.{append-nil}
 use Rattle.gql_values3.specs.Texts.{same_text}
 use Rattle.gql_expr_checks.specs.Repeated.{is_among}
-use Rattle.gql_norm.specs.NormalPattern.{Part, Node, Edge, Concat, Union, Alt, Quant, Opt, Scope, Sides, NoSide, Side}
+use Rattle.gql_norm.specs.NormalPattern.{Part, Node, Edge, Concat, Union, Alt, Quant, Opt, ModeScope, Sides, NoSide, Side}
 use Rattle.gql_expr_checks.specs.Machinery.NameList.{with_name}
 use Rattle.gql_pattern_checks.specs.Machinery.Scopes.{no_names, with_variable_of, with_part, with_sides}
 use Rattle.gql_pattern_checks.specs.declared.scope.Names.{Names}
@@ -81,7 +81,7 @@ mutual
   holds_part g ps s es (Alt ss) h = holds_sides g ps s es ss h
   holds_part g ps s es (Quant b l n) h = holds_part true ps s es b h
   holds_part g ps s es (Opt b) h = holds_part g ps s es b h
-  holds_part g ps s es (Scope m b c) h = holds_part g ps s es b h
+  holds_part g ps s es (ModeScope m b c) h = holds_part g ps s es b h
 
   pub holds_sides : (g : Bool) (ps : List (List ℕ)) (s : Names) (es : Entries) (ss : Sides) → Holds ps s es → Holds ps (with_sides g s ss) (es ++ entries_of_sides g ss)
   holds_sides g ps s es NoSide h = subst (λ ds. Holds ps s ds) (sym (append-nil es)) h

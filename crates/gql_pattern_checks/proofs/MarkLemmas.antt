@@ -3,7 +3,7 @@ use Rattle.std.proofs.Common.{◌≡◌, ℕ, Bool, true, false, List, [], ◌�
 use Rattle.std.proofs.lemmas.List.{append-nil}
 use Rattle.std.specs.Prelude.{if◌then◌else◌}
 use Rattle.gql_expr_checks.specs.Repeated.{is_among}
-use Rattle.gql_norm.specs.NormalPattern.{Part, Node, Edge, Concat, Union, Alt, Quant, Opt, Scope, Sides, NoSide, Side}
+use Rattle.gql_norm.specs.NormalPattern.{Part, Node, Edge, Concat, Union, Alt, Quant, Opt, ModeScope, Sides, NoSide, Side}
 use Rattle.gql_pattern_checks.specs.Machinery.Marks.{marks_of, cut_to}
 use Rattle.gql_expr_checks.specs.Machinery.NameList.{with_name}
 use Rattle.gql_pattern_checks.specs.Machinery.Scopes.{with_variable_of, with_part, with_sides, with_parts}
@@ -60,7 +60,7 @@ mutual
   grows_by_part g s (Alt ss) = grows_by_sides g s ss
   grows_by_part g s (Quant b l n) = grows_by_part true s b
   grows_by_part g s (Opt b) = grows_by_part g s b
-  grows_by_part g s (Scope m b c) = grows_by_part g s b
+  grows_by_part g s (ModeScope m b c) = grows_by_part g s b
 
   grows_by_sides : (g : Bool) (s : Names) (ss : Sides) → Grows s (with_sides g s ss)
   grows_by_sides g s NoSide = grows_not s

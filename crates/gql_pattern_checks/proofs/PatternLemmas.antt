@@ -20,7 +20,7 @@ use Rattle.gql_expr_checks.specs.ExprNames.{unknown_in}
 use Rattle.gql_expr_checks.specs.Refusals.{refusal_of_first, misuse_if}
 use Rattle.gql_expr_checks.specs.Repeated.{is_among}
 use Rattle.gql_expr_checks.proofs.RefusalLemmas.{first_of_in_two, misuse_in_two}
-use Rattle.gql_norm.specs.NormalPattern.{Part, Node, Edge, Concat, Union, Alt, Quant, Opt, Scope, Sides, NoSide, Side}
+use Rattle.gql_norm.specs.NormalPattern.{Part, Node, Edge, Concat, Union, Alt, Quant, Opt, ModeScope, Sides, NoSide, Side}
 use Rattle.gql_norm.specs.PathMode.{is_number_among}
 use Rattle.gql_norm.specs.Places.{size, size_all, is_inside}
 use Rattle.gql_norm.specs.Declaration.{Declared, declaration, visible, visible_sides, may_name}
@@ -144,7 +144,7 @@ mutual
   elements (Alt ss) a qs x = elements_of_sides ss (a + 1) qs x
   elements (Quant b l n) a qs x = elements b (a + 2) (a ∷ qs) x
   elements (Opt b) a qs x = elements b (a + 1) qs x
-  elements (Scope m b c) a qs x = elements b (a + 1) qs x
+  elements (ModeScope m b c) a qs x = elements b (a + 1) qs x
 
   elements_of_sides : (ss : Sides) (b : ℕ) (qs : List ℕ) (x : ℕ) → AreElements (visible_sides ss b qs x)
   elements_of_sides NoSide b qs x = tt

@@ -10,7 +10,7 @@ use Rattle.std.proofs.lemmas.List.{map-append}
 use Rattle.std.proofs.lemmas.Bool.{le-leb, leb-true, leb-false, or_right, or_left}
 use Rattle.gql_values3.specs.declared.table.ColumnKind.{ColumnKind}
 use Rattle.gql_values3.specs.declared.table.ColumnKind.TheVariants as kind
-use Rattle.gql_norm.specs.NormalPattern.{Part, Node, Edge, Concat, Union, Alt, Quant, Opt, Scope, Sides, NoSide, Side}
+use Rattle.gql_norm.specs.NormalPattern.{Part, Node, Edge, Concat, Union, Alt, Quant, Opt, ModeScope, Sides, NoSide, Side}
 use Rattle.gql_norm.specs.PathMode.{is_number_among}
 use Rattle.gql_norm.specs.Places.{size, size_all}
 use Rattle.gql_norm.specs.Declaration.{Declared, declaration, visible, visible_sides}
@@ -34,7 +34,7 @@ abbrev mutual
   entries_of g (Alt ss) = entries_of_sides g ss
   entries_of g (Quant b l n) = entries_of true b
   entries_of g (Opt b) = entries_of g b
-  entries_of g (Scope m b c) = entries_of g b
+  entries_of g (ModeScope m b c) = entries_of g b
 
   pub entries_of_sides : Bool → Sides → Entries
   entries_of_sides g NoSide = []
@@ -96,7 +96,7 @@ mutual
       all_seen_by true b (a + 2) (a ∷ qs) x around (omega arith) (o a (omega arith) (omega arith)) (opens_more around qs a (a + 2) (a + 2 + size b) (o a (omega arith) (omega arith)))
   all_seen_by g (Opt b) a qs x around h k o =
       all_seen_by g b (a + 1) qs x around (omega arith) k (opens_within around qs a (a + (size b + 2)) (a + 1) (a + 1 + size b) o (omega arith) (omega arith))
-  all_seen_by g (Scope m b c) a qs x around h k o =
+  all_seen_by g (ModeScope m b c) a qs x around h k o =
       all_seen_by g b (a + 1) qs x around (omega arith) k (opens_within around qs a (a + (size b + 2)) (a + 1) (a + 1 + size b) o (omega arith) (omega arith))
 
   pub all_seen_by_sides : (g : Bool) (ss : Sides) (b : ℕ) (qs : List ℕ) (x : ℕ) (around : List ℕ) → b + size_all ss ≤ x → is_crossed around qs ≡ g → Opens around qs b (b + size_all ss)

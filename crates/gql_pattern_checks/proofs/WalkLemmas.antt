@@ -3,7 +3,7 @@ use Rattle.std.proofs.Common.{◌≡◌, ℕ, ◌+◌, List, [], ◌∷◌, ◌+
 use Rattle.std.specs.Option.{option_or}
 use Rattle.gql_ast.specs.Tree.{Tree}
 use Rattle.gql_ast.specs.declared.refusal.Refusal.{Refusal}
-use Rattle.gql_norm.specs.NormalPattern.{ElementPattern, Part, Node, Edge, Concat, Union, Alt, Quant, Opt, Scope, Sides, NoSide, Side, NormalPath, in_a_row, side_by_side, sides_of}
+use Rattle.gql_norm.specs.NormalPattern.{ElementPattern, Part, Node, Edge, Concat, Union, Alt, Quant, Opt, ModeScope, Sides, NoSide, Side, NormalPath, in_a_row, side_by_side, sides_of}
 use Rattle.gql_norm.specs.Places.{size}
 use Rattle.gql_norm.specs.PredicateSpot.{PredicateSpot, predicates_of_element, predicates_of_scope, predicates_in, predicates_in_sides}
 use Rattle.gql_norm.specs.OtherDefects.{predicates_of_path}
@@ -53,7 +53,7 @@ mutual
   walked said element condition f (Alt ss) a qs = walked_sides said element condition f ss (a + 1) qs
   walked said element condition f (Quant b l n) a qs = walked said element condition f b (a + 2) (a ∷ qs)
   walked said element condition f (Opt b) a qs = walked said element condition f b (a + 1) qs
-  walked said element condition f (Scope m b c) a qs =
+  walked said element condition f (ModeScope m b c) a qs =
       f.both (predicates_in b (a + 1) qs) (predicates_of_scope (a + size b + 1) qs c ∷ [])
       ∙ (λ i. option_or (walked said element condition f b (a + 1) qs i) (f.at_condition (a + size b + 1) qs c i))
 

@@ -6,7 +6,7 @@ use Rattle.std.proofs.lemmas.List.{append-nil}
 use Rattle.gql_values3.specs.declared.table.ColumnKind.TheVariants as kind
 use Rattle.gql_ast.specs.ClauseColumns.{ColumnList}
 use Rattle.gql_ast.specs.declared.refusal.Refusal.{Refusal}
-use Rattle.gql_norm.specs.NormalPattern.{Part, Node, Edge, Concat, Union, Alt, Quant, Opt, Scope, Sides, NoSide, Side}
+use Rattle.gql_norm.specs.NormalPattern.{Part, Node, Edge, Concat, Union, Alt, Quant, Opt, ModeScope, Sides, NoSide, Side}
 use Rattle.gql_norm.specs.Places.{size, size_all}
 use Rattle.gql_norm.specs.Declaration.{Declared, visible, visible_sides}
 use Rattle.gql_norm.specs.PredicateSpot.{PredicateSpot, predicates_in, predicates_in_sides, predicates_of_element, predicates_of_scope}
@@ -105,7 +105,7 @@ module _ (q : ScopeQuestion) (columns : ColumnList) (seen : ℕ → List Declare
     asked_at (Opt b) a qs s es bl h v =
         asked_at b (a + 1) qs s es (below_on qs a (a + 1) (omega arith) bl) h
         (λ x around l k ag. v x around (omega (arith, l)) (omega (arith, k)) (agree_below around qs a (a + 1) (omega arith) ag))
-    asked_at (Scope m b c) a qs s es bl h v =
+    asked_at (ModeScope m b c) a qs s es bl h v =
         f.both (predicates_in b (a + 1) qs) (predicates_of_scope (a + size b + 1) qs c ∷ [])
         ∙ (λ i. option_or
         (asked_at b (a + 1) qs s es (below_on qs a (a + 1) (omega arith) bl) h (λ x around l k ag. v x around (omega (arith, l)) (omega (arith, k)) (agree_below around qs a (a + 1) (omega arith) ag)) i)

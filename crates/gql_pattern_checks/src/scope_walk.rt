@@ -48,7 +48,7 @@ pub fn check_part(walk: &Walk, names: &mut Names, part: &Part) -> Result<(), Sco
         Part::Alt(sides) => check_sides(walk, names, sides.as_slice()),
         Part::Quant(part, _, _) => check_part(walk, names, part.part()),
         Part::Opt(part) => check_part(walk, names, part.part()),
-        Part::Scope(_, part, condition) => check_parens(walk, names, part.part(), condition),
+        Part::ModeScope(_, part, condition) => check_parens(walk, names, part.part(), condition),
     }
 }
 

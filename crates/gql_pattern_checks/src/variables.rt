@@ -60,7 +60,7 @@ pub fn add_part(
         Part::Alt(sides) => add_parts(alloc, is_group, sides.as_slice(), names),
         Part::Quant(part, _, _) => add_part(alloc, true, part.part(), names),
         Part::Opt(part) => add_part(alloc, is_group, part.part(), names),
-        Part::Scope(_, part, _) => add_part(alloc, is_group, part.part(), names),
+        Part::ModeScope(_, part, _) => add_part(alloc, is_group, part.part(), names),
     }
 }
 

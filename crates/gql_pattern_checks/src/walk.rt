@@ -88,7 +88,7 @@ fn ask_part<Q: Question>(question: &Q, alloc: Global, part: &Part) -> Result<(),
         Part::Alt(sides) => ask_parts(question, alloc, sides.as_slice()),
         Part::Quant(part, _, _) => ask_part(question, alloc, part.part()),
         Part::Opt(part) => ask_part(question, alloc, part.part()),
-        Part::Scope(_, part, condition) => ask_scope(question, alloc, part.part(), condition),
+        Part::ModeScope(_, part, condition) => ask_scope(question, alloc, part.part(), condition),
     }
 }
 

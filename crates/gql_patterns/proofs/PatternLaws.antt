@@ -5,8 +5,8 @@ use Rattle.gql_lexer.specs.declared.lexeme.Lexeme.TheVariants as lex
 use Rattle.gql_lexer.specs.SymbolPlaces.{equal}
 use Rattle.gql_lexer.specs.WordPlaces.{SHORTEST}
 use Rattle.gql_ast.specs.Pattern.{Pattern, items_of_patterns, node, edge, paren, repeated, optional, sequence, alternation, multiset_alternation}
-use Rattle.gql_ast.specs.PatternMeaning.{pattern_of}
-use Rattle.gql_ast.proofs.PatternLemmas.{path_expr_of, path_expr_of-pattern_of}
+use Rattle.gql_ast.specs.PatternMeaning.{pattern_of, path_expr_of}
+use Rattle.gql_ast.proofs.PatternLemmas.{path_expr_of-pattern_of}
 use Rattle.gql_ast.specs.declared.pattern.PathExpr.{PathExpr}
 use Rattle.gql_ast.specs.declared.pattern.PathExpr.TheVariants as path
 use Rattle.gql_ast.specs.declared.path.PathPattern.{PathPattern}

@@ -18,16 +18,19 @@ use Rattle.gql_patterns.specs.EdgeGrammar.{Means, IsFilling, IsEdge}
 use Rattle.gql_patterns.specs.QuantifierGrammar.{IsQuantifier}
 use Rattle.gql_patterns.specs.PrefixGrammar.{IsMode}
 
--- the levels, from what binds most
+-- the levels, from what binds most: a node, an edge, or what stands in parentheses
 abbrev pub at_primary : ℕ
 at_primary = 0
 
+-- a primary with a quantifier or a question mark
 abbrev pub at_factor : ℕ
 at_factor = 1
 
+-- factors behind one another
 abbrev pub at_term : ℕ
 at_term = 2
 
+-- sides beside each other, between `|` or between `|+|`; no path pattern binds less
 abbrev pub at_expression : ℕ
 at_expression = 3
 

@@ -22,6 +22,7 @@ number_in _ = None
 abbrev pub mode_words : List (ℕ × Mode)
 mode_words = (word.WALK, mode.Walk) ∷ (word.TRAIL, mode.Trail) ∷ (word.ACYCLIC, mode.Acyclic) ∷ (word.SIMPLE, mode.Simple) ∷ []
 
+-- the path mode that the lexeme says
 abbrev pub mode_word : Lexeme → Option Mode
 mode_word t = word_in mode_words t
 
@@ -39,11 +40,11 @@ prefix_words =
     (word.ALL, says.All) ∷ (word.ANY, says.Any) ∷ (word.SHORTEST, says.Shortest) ∷ (word.WALK, says.Mode mode.Walk)
     ∷ (word.TRAIL, says.Mode mode.Trail) ∷ (word.ACYCLIC, says.Mode mode.Acyclic) ∷ (word.SIMPLE, says.Mode mode.Simple) ∷ []
 
+-- what the lexeme says as the first word of a prefix
 abbrev pub prefix_word : Lexeme → Option PrefixWord
 prefix_word t = word_in prefix_words t
 
--- The symbols of an edge: before its opening bracket, behind its closing bracket, and those of the short form
-
+-- the symbol of an edge before its opening bracket
 abbrev pub symbol_before : Direction → ℕ
 symbol_before direction.Left = symbol.left_arrow
 symbol_before direction.Undirected = symbol.tilde
@@ -53,6 +54,7 @@ symbol_before direction.UndirectedOrRight = symbol.tilde
 symbol_before direction.LeftOrRight = symbol.left_arrow
 symbol_before direction.Any = symbol.minus
 
+-- the symbol of an edge behind its closing bracket
 abbrev pub symbol_behind : Direction → ℕ
 symbol_behind direction.Left = symbol.minus
 symbol_behind direction.Undirected = symbol.tilde
@@ -62,6 +64,7 @@ symbol_behind direction.UndirectedOrRight = symbol.right_tilde
 symbol_behind direction.LeftOrRight = symbol.right_arrow
 symbol_behind direction.Any = symbol.minus
 
+-- the one symbol of an edge that has no brackets
 abbrev pub short_symbol : Direction → ℕ
 short_symbol direction.Left = symbol.left_arrow
 short_symbol direction.Undirected = symbol.tilde

@@ -7,7 +7,7 @@ use Rattle.gql_values3.specs.Texts.{same_text}
 use Rattle.gql_values3.specs.declared.table.ColumnKind.{ColumnKind}
 use Rattle.gql_values3.specs.declared.table.ColumnKind.TheVariants as kind
 use Rattle.gql_ast.specs.ClauseColumns.{ColumnList, is_column}
-use Rattle.gql_norm.specs.NormalPattern.{Part, Node, Edge, Concat, Union, Alt, Quant, Opt, Scope, Sides, NoSide, Side, in_a_row, side_by_side, sides_of, NormalPath}
+use Rattle.gql_norm.specs.NormalPattern.{Part, Node, Edge, Concat, Union, Alt, Quant, Opt, ModeScope, Sides, NoSide, Side, in_a_row, side_by_side, sides_of, NormalPath}
 use Rattle.gql_norm.specs.declared.degree.Degree.{Degree}
 use Rattle.gql_norm.specs.declared.degree.Degree.TheVariants.{Singleton, Conditional, Group}
 use Rattle.gql_norm.specs.Degree.{beside_all, element_degree, degree_of, degrees_of, is_group}
@@ -44,7 +44,7 @@ abbrev mutual
   grouped around (Alt ss) = grouped_sides around ss
   grouped around (Quant b l n) = grouped true b
   grouped around (Opt b) = grouped around b
-  grouped around (Scope m b c) = grouped around b
+  grouped around (ModeScope m b c) = grouped around b
 
   grouped_sides : Bool → Sides → ColumnList
   grouped_sides around NoSide = []
@@ -59,7 +59,7 @@ mutual
   grouped_all (Alt ss) = grouped_all_sides ss
   grouped_all (Quant b l n) = grouped_all b
   grouped_all (Opt b) = grouped_all b
-  grouped_all (Scope m b c) = grouped_all b
+  grouped_all (ModeScope m b c) = grouped_all b
 
   grouped_all_sides : (ss : Sides) → grouped_sides true ss ≡ declared_in_sides ss
   grouped_all_sides NoSide = refl
@@ -104,7 +104,7 @@ mutual
   part_added around (Alt ss) g = sides_added around ss g
   part_added around (Quant b l n) g = part_added true b g
   part_added around (Opt b) g = part_added around b g
-  part_added around (Scope m b c) g = part_added around b g
+  part_added around (ModeScope m b c) g = part_added around b g
 
   sides_added : (around : Bool) (ss : Sides) (g : Gathered) → with_sides around g ss ≡ added g (declared_in_sides ss) (grouped_sides around ss)
   sides_added around NoSide g = added_none g
@@ -158,7 +158,7 @@ mutual
   group_known (Alt ss) x = groups_known ss x
   group_known (Quant b l n) x = repeated_group (degree_of b x) ∙ degree_known b x ∙ ap (λ cs. is_column cs x) (sym (grouped_all b))
   group_known (Opt b) x = optional_group (degree_of b x) ∙ group_known b x
-  group_known (Scope m b c) x = group_known b x
+  group_known (ModeScope m b c) x = group_known b x
 
   groups_known : (ss : Sides) (x : List ℕ) → is_group (beside_all (degrees_of ss x)) ≡ is_column (grouped_sides false ss) x
   groups_known NoSide x = refl

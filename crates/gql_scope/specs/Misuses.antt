@@ -34,6 +34,7 @@ misused_let columns (i ∷ is) = misused_expr columns elsewhere i.value || misus
 abbrev pub misused_keys : ColumnList → List SortItem → Bool
 misused_keys columns is = list_any (λ (i : SortItem). misused_expr columns elsewhere i.key) is
 
+-- in an ORDER BY, where there is one
 abbrev pub misused_order : ColumnList → Option (List SortItem) → Bool
 misused_order columns None = false
 misused_order columns (Some is) = misused_keys columns is

@@ -56,6 +56,7 @@ unknown_in_for columns f =
 abbrev pub unknown_in_keys : ColumnList → List SortItem → List (List ℕ)
 unknown_in_keys columns is = flat_map (λ (i : SortItem). unknown_in_expr columns i.key) is
 
+-- in an ORDER BY, where there is one
 abbrev pub unknown_in_order : ColumnList → Option (List SortItem) → List (List ℕ)
 unknown_in_order columns None = []
 unknown_in_order columns (Some is) = unknown_in_keys columns is

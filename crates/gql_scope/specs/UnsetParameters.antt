@@ -27,6 +27,7 @@ use Rattle.gql_expr_checks.specs.ExprParameters.{parameters_of}
 abbrev pub parameters_of_keys : List SortItem → List (List ℕ)
 parameters_of_keys is = flat_map (λ (i : SortItem). parameters_of i.key) is
 
+-- in an ORDER BY, where there is one
 abbrev pub parameters_of_order : Option (List SortItem) → List (List ℕ)
 parameters_of_order None = []
 parameters_of_order (Some is) = parameters_of_keys is
@@ -36,6 +37,7 @@ abbrev pub parameters_of_count : RowCount → List (List ℕ)
 parameters_of_count (rows.Number digits) = []
 parameters_of_count (rows.Parameter p) = p ∷ []
 
+-- of OFFSET or LIMIT, where it stands there
 abbrev pub parameters_of_count_if : Option RowCount → List (List ℕ)
 parameters_of_count_if None = []
 parameters_of_count_if (Some c) = parameters_of_count c

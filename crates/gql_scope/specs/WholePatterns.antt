@@ -48,10 +48,11 @@ abbrev pub over_clauses : {A : Type 0} → (ColumnList → Clause → List A) �
 over_clauses faults columns [] = []
 over_clauses faults columns (c ∷ cs) = faults columns c ++ over_clauses faults (columns_past columns c) cs
 
--- E08 and E09
+-- E08: the variables of a clause that aren't in scope, or that it may not declare
 abbrev pub unknown_names : ColumnList → Clause → List (List ℕ)
 unknown_names columns c = by_form (unknown_in_match columns) (unknown_in_clause columns) c
 
+-- E09: the names of a clause that stand for another kind than is needed
 abbrev pub wrong_kinds : ColumnList → Clause → List (List ℕ)
 wrong_kinds columns c = by_form (wrong_in_match columns) (wrong_in_clause columns) c
 
@@ -60,9 +61,11 @@ abbrev pub at_most_one : Option (List ℕ) → List (List ℕ)
 at_most_one None = []
 at_most_one (Some x) = x ∷ []
 
+-- E10: the name that stands in two parts of a pattern, or as a column too, and is a group in one
 abbrev pub joined_groups : ColumnList → Clause → List (List ℕ)
 joined_groups columns c = by_form (λ p. at_most_one (joined_group columns p)) (λ d. []) c
 
+-- E11: the same without a group, where one of them is conditional
 abbrev pub joined_conditionals : ColumnList → Clause → List (List ℕ)
 joined_conditionals columns c = by_form (λ p. at_most_one (joined_conditional columns p)) (λ d. []) c
 
@@ -70,6 +73,7 @@ joined_conditionals columns c = by_form (λ p. at_most_one (joined_conditional c
 abbrev pub of_pattern : (NormalPattern → Bool) → Clause → Bool
 of_pattern asks c = by_form asks (λ d. false) c
 
+-- E14: the groups over endless repetition that conditions inside a pattern name
 abbrev pub open_references : Clause → List (List ℕ)
 open_references c = by_form group_references (λ d. []) c
 

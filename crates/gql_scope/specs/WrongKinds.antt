@@ -27,11 +27,12 @@ is_element _ = false
 abbrev pub wrong_target : ColumnList → List ℕ → List (List ℕ)
 wrong_target columns x = if is_column columns x && not (is_element (kind_of_name columns x)) then x ∷ [] else []
 
--- the target of an item of SET, and of one of REMOVE
+-- the target of an item of SET
 abbrev pub set_target : SetItem → List ℕ
 set_target (set_item.Property x p e) = x
 set_target (set_item.Label x l) = x
 
+-- the target of an item of REMOVE
 abbrev pub remove_target : RemoveItem → List ℕ
 remove_target (remove_item.Property x p) = x
 remove_target (remove_item.Label x l) = x

@@ -162,7 +162,7 @@ fn add_part(
         }
         Part::Alt(sides) => add_parts(alloc, sides.as_slice(), is_repeated, found),
         Part::Quant(part, _, _) => add_part(alloc, part.part(), true, found),
-        Part::Opt(part) | Part::Scope(_, part, _) => {
+        Part::Opt(part) | Part::ModeScope(_, part, _) => {
             add_part(alloc, part.part(), is_repeated, found)
         }
     }

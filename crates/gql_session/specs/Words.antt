@@ -1,7 +1,7 @@
 -- The command line: which words are a command, and which one. The first word is the program's name, whatever it is; the second tells
 -- the command; what stands behind is read as the crate `clap` reads a simple command, help and version switched off.
 use Rattle.std.specs.Prelude.{ℕ, ◌&&◌, Bool, true, false, nat_le, List, [], ◌∷◌, length, Option, Some, None, codes, if◌then◌else◌}
-use Rattle.std.specs.List.{list_all}
+use Rattle.std.specs.Str.{all_ascii_digits}
 use Rattle.clap.specs.Words.{App, Kinds, Row, Rule, first_of, fault_of, matches_of, new_app, new_rule, with_rule}
 use Rattle.clap.specs.declared.builder.ArgAction.TheVariants.{Set}
 use Rattle.gql_values3.specs.Integers.{value_of_digits}
@@ -59,14 +59,10 @@ rows_of app words = if has_none (fault_of app words) then Some (matches_of app w
 
 -- ---- which command
 
--- a decimal digit, by its byte
-abbrev pub is_digit : ℕ → Bool
-is_digit c = nat_le 48 c && nat_le c 57
-
 -- a number of one to five decimal digits, from 1 to a limit
 abbrev pub number_up_to : ℕ → List ℕ → Option ℕ
 number_up_to most digits =
-    if nat_le 1 (length digits) && nat_le (length digits) 5 && list_all is_digit digits && nat_le 1 (value_of_digits digits) && nat_le (value_of_digits digits) most
+    if nat_le 1 (length digits) && nat_le (length digits) 5 && all_ascii_digits digits && nat_le 1 (value_of_digits digits) && nat_le (value_of_digits digits) most
     then Some (value_of_digits digits) else None
 
 -- 1 to 64 workers, and one where the option isn't there

@@ -1,9 +1,9 @@
 //! Numbers that stand among the words.
 ghost use Rattle.std.specs.Prelude.{◌≡◌};
-ghost use Rattle.std.specs.List.{list_all};
-ghost use Rattle.gql_session.specs.Words.{is_digit, number_up_to};
+ghost use Rattle.gql_session.specs.Words.{number_up_to};
 ghost use Rattle.gql_session.specs.Machinery.Seen.{is_short};
 
+use gql_eval::are_digits;
 use gql_values3::number_within;
 
 /// The number that one to five digits write, where it is from 1 to the limit.
@@ -25,21 +25,4 @@ fn is_short(digits: &str) -> bool
 {
     let size = digits.len();
     (1 <= size) & (size <= 5) & are_digits(digits.as_bytes())
-}
-
-fn are_digits(bytes: &[u8]) -> bool
-    ensures { result ≡ list_all is_digit bytes.now }
-{
-    for i in 0..bytes.len() {
-        if !is_digit(bytes[i]) {
-            return false;
-        }
-    }
-    true
-}
-
-fn is_digit(byte: u8) -> bool
-    ensures { result ≡ is_digit byte }
-{
-    (b'0' <= byte) & (byte <= b'9')
 }

@@ -35,8 +35,9 @@ pub fn run<M: Matcher<Graph>, S: Source, W: Sink, K: Keeper>(
     ensures ends { (text before : List ℕ) (records : List Stored) → PortsTell (map string_bytes words.now.items) (S.told source.old) (W.written sink.old) (K.held keeper.old) text before records
         → EndsAs records text before (record { before = K.faults keeper.old; after = K.faults keeper.new }) result (W.written sink.new) (K.held keeper.new) }
 
-    // Usage is the answer to words that are no command, of which nothing is done; each other ending has its cause. A port's
-    // count of faults rises where the ending names it, and nowhere else; the store's also by each E22 that was told.
+    // Usage is the answer to words that are no command, of which nothing is done; each other ending has its cause. The
+    // counts of faults of the source and of the sink rise where the ending names them, and nowhere else; so does the
+    // store's where no statement was run. Behind a run `ends` tells the store's, of ports that tell: by each E22 too.
     ensures usage { result ≡ Status.Usage → command_of (map string_bytes words.now.items) ≡ None }
     ensures no_command { command_of (map string_bytes words.now.items) ≡ None → (result ≡ Status.Usage) ⊎ (result ≡ Status.NoMemory) }
     ensures idle { command_of (map string_bytes words.now.items) ≡ None → (S.told source.new ≡ S.told source.old) × (W.written sink.new ≡ W.written sink.old) × (K.held keeper.new ≡ K.held keeper.old) × (K.faults keeper.new ≡ K.faults keeper.old) }

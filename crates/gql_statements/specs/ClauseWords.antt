@@ -17,5 +17,6 @@ clause_words =
     ∷ (word.DELETE, begins.Change changes.Delete) ∷ (word.DETACH, begins.Change (changes.Detaching detachment.Detach))
     ∷ (word.NODETACH, begins.Change (changes.Detaching detachment.NoDetach)) ∷ []
 
+-- which clause the lexeme begins
 abbrev pub clause_word : Lexeme → Option ClauseWord
 clause_word t = word_in clause_words t

@@ -18,6 +18,7 @@ use Rattle.gql_front.specs.Reading.{is_word}
 abbrev pub counting_words : List (ℕ × Counting)
 counting_words = (word.ORDINALITY, counting.Ordinality) ∷ (word.OFFSET, counting.Offset) ∷ []
 
+-- from where FOR counts, as the lexeme says it
 abbrev pub counting_word : Lexeme → Option Counting
 counting_word t = word_in counting_words t
 
@@ -27,6 +28,7 @@ direction_words =
     (word.ASC, direction.Ascending) ∷ (word.ASCENDING, direction.Ascending)
     ∷ (word.DESC, direction.Descending) ∷ (word.DESCENDING, direction.Descending) ∷ []
 
+-- the direction of a sort key, as the lexeme says it
 abbrev pub direction_word : Lexeme → Option SortDirection
 direction_word t = word_in direction_words t
 
@@ -34,6 +36,7 @@ direction_word t = word_in direction_words t
 abbrev pub null_words : List (ℕ × NullOrder)
 null_words = (word.FIRST, nulls.First) ∷ (word.LAST, nulls.Last) ∷ []
 
+-- where nulls come among the rows, as the lexeme says it behind NULLS
 abbrev pub null_word : Lexeme → Option NullOrder
 null_word t = word_in null_words t
 

@@ -10,5 +10,6 @@ use Rattle.gql_statements.specs.declared.session_word.SessionWord.TheVariants as
 abbrev pub session_words : List (ℕ × SessionWord)
 session_words = (word.SET, says.Set) ∷ (word.RESET, says.Reset) ∷ (word.CLOSE, says.Close) ∷ []
 
+-- what the lexeme says behind SESSION
 abbrev pub session_word : Lexeme → Option SessionWord
 session_word t = word_in session_words t

@@ -12,5 +12,6 @@ statement_words =
     (word.SESSION, begins.Session) ∷ (word.START, begins.Start) ∷ (word.COMMIT, begins.Commit) ∷ (word.ROLLBACK, begins.Rollback)
     ∷ (word.CREATE, begins.Create) ∷ (word.DROP, begins.Drop) ∷ []
 
+-- which statement other than a query the lexeme begins
 abbrev pub statement_word : Lexeme → Option StatementWord
 statement_word t = word_in statement_words t

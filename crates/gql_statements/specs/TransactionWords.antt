@@ -10,5 +10,6 @@ use Rattle.gql_front.specs.Tables.{word_in}
 abbrev pub access_words : List (ℕ × AccessMode)
 access_words = (word.ONLY, access.ReadOnly) ∷ (word.WRITE, access.ReadWrite) ∷ []
 
+-- the access mode of a transaction, as the lexeme says it behind READ
 abbrev pub access_word : Lexeme → Option AccessMode
 access_word t = word_in access_words t

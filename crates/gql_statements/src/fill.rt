@@ -4,10 +4,10 @@ ghost use Rattle.gql_front.specs.Reads.{MayRead};
 ghost use Rattle.gql_statements.specs.Machinery.ChangeReaders.{fill_map_of, fill_of};
 
 use gql_ast::{Fill, Map};
-use gql_front::{NoFront, ParseResult, after_sign};
+use gql_front::ParseResult;
 use gql_lexer::Lexeme;
 use gql_lexer::symbols::OPENING_BRACE;
-use gql_parts::{Parts, item_or_nothing, variable};
+use gql_parts::{Parts, item_behind_sign, variable};
 use gql_type::optional_labels;
 use std::alloc::Global;
 
@@ -34,8 +34,5 @@ pub fn fill<'a>(alloc: Global, rest: &'a [Lexeme]) -> ParseResult<'a, Fill>
 fn fill_map<'a>(alloc: Global, rest: &'a [Lexeme]) -> ParseResult<'a, Option<Map>>
     ensures { MayRead result rest.now fill_map_of }
 {
-    match after_sign(OPENING_BRACE, rest) {
-        Ok(behind) => item_or_nothing::<Parts, Map>(alloc, rest, behind),
-        Err(NoFront) => Ok((None, rest)),
-    }
+    item_behind_sign::<Parts, Map>(alloc, OPENING_BRACE, rest)
 }

@@ -19,7 +19,7 @@ use Rattle.gql_eval.specs.RowLists.{RowList}
 use Rattle.gql_table.specs.Sorting.{first_key, later_keys}
 use Rattle.gql_table.specs.Grouping.{results}
 use Rattle.gql_table.specs.Machinery.GroupPlan.{PreparedPlan, results_behind}
-use Rattle.gql_table.specs.Machinery.Running.{Standing, counting, summing, lowest, highest, listing, begun_as, begun, sum_past, is_lower, is_higher, lower_of, higher_of, onward, past, finished, row_past, begun_all}
+use Rattle.gql_table.specs.Machinery.Running.{Standing, counting, summing, lowest, highest, listing, at_start_by, at_start, sum_past, is_lower, is_higher, lower_of, higher_of, onward, past, finished, row_past, all_at_start}
 use Rattle.gql_table.specs.declared.sums.SumSoFar.TheVariants as sum
 use Rattle.gql_eval.proofs.AggregateLemmas.{total_from, total_from_zero, total_from_step, summed_whole}
 use Rattle.gql_eval.proofs.EachSteps.{each_cons, next_ok}
@@ -150,7 +150,7 @@ present_again (d ∷ ds) = again_case (is_null d) d ds refl (present_again ds)
 listed_is : (makes : Aggregate) (over : SetQuantifier) (ds : List Datum) → finished (after onward (listing makes over []) (present ds)) ≡ aggregated makes (considered over ds)
 listed_is makes over ds = ap finished (listed_after makes over [] (present ds)) ∙ ap (aggregated makes) (considered_same over (present ds) ds (present_again ds))
 
-of_present : (over : SetQuantifier) (makes : Aggregate) (ds : List Datum) → finished (after onward (begun_as over makes) (present ds)) ≡ aggregated makes (considered over ds)
+of_present : (over : SetQuantifier) (makes : Aggregate) (ds : List Datum) → finished (after onward (at_start_by over makes) (present ds)) ≡ aggregated makes (considered over ds)
 of_present quantifier.All aggregate.Count ds = count_is (present ds)
 of_present quantifier.All aggregate.Sum ds = sum_is (present ds)
 of_present quantifier.All aggregate.Min ds = least_is (present ds)
@@ -159,8 +159,8 @@ of_present quantifier.All aggregate.CollectList ds = listed_is aggregate.Collect
 of_present quantifier.Distinct makes ds = listed_is makes quantifier.Distinct ds
 
 -- every aggregate
-pub finished_is : (a : RowAggregate) (ds : List Datum) → finished (after past (begun a) ds) ≡ aggregated a.makes (considered a.quantifier ds)
-finished_is a ds = ap finished (past_present (begun a) ds) ∙ of_present a.quantifier a.makes ds
+pub finished_is : (a : RowAggregate) (ds : List Datum) → finished (after past (at_start a) ds) ≡ aggregated a.makes (considered a.quantifier ds)
+finished_is a ds = ap finished (past_present (at_start a) ds) ∙ of_present a.quantifier a.makes ds
 
 -- the aggregates of a group, each by the arguments of its place
 abbrev by_places : ℕ → List Standing → RowList → List Standing
@@ -189,33 +189,33 @@ by_places_is ss (r ∷ rows) = by_places_is (row_past ss r) rows ∙ sym (places
 
 -- the results of the aggregates of an item, and then those of the items behind it
 item_case : (ps : List PreparedPlan) (rows : RowList) (done : List Datum) (made : List RowAggregate) (r : Result Datum DataFault)
-    → ((d : Datum) → next (each finished (by_places (length (done ++ d ∷ [])) (map begun made ++ begun_all ps) rows)) (λ ds. Ok ((done ++ d ∷ []) ++ ds))
+    → ((d : Datum) → next (each finished (by_places (length (done ++ d ∷ [])) (map at_start made ++ all_at_start ps) rows)) (λ ds. Ok ((done ++ d ∷ []) ++ ds))
     ≡ next (results (length (done ++ d ∷ [])) made rows) (λ ds. results_behind ((done ++ d ∷ []) ++ ds) ps rows))
-    → next (next r (λ d. next (each finished (by_places (suc (length done)) (map begun made ++ begun_all ps) rows)) (λ ds. Ok (d ∷ ds)))) (λ ds. Ok (done ++ ds))
+    → next (next r (λ d. next (each finished (by_places (suc (length done)) (map at_start made ++ all_at_start ps) rows)) (λ ds. Ok (d ∷ ds)))) (λ ds. Ok (done ++ ds))
     ≡ next (next r (λ d. next (results (suc (length done)) made rows) (λ ds. Ok (d ∷ ds)))) (λ ds. results_behind (done ++ ds) ps rows)
 item_case ps rows done made (Err f) more = refl
 item_case ps rows done made (Ok d) more =
     let long : length (done ++ d ∷ []) ≡ suc (length done) = omega (arith, length-append done (d ∷ [])) in
-    each_cons (λ (x : Datum). Ok x) (each finished (by_places (suc (length done)) (map begun made ++ begun_all ps) rows)) done d
-    ∙ ap (λ n. next (each finished (by_places n (map begun made ++ begun_all ps) rows)) (λ ds. Ok ((done ++ d ∷ []) ++ ds))) (sym long)
+    each_cons (λ (x : Datum). Ok x) (each finished (by_places (suc (length done)) (map at_start made ++ all_at_start ps) rows)) done d
+    ∙ ap (λ n. next (each finished (by_places n (map at_start made ++ all_at_start ps) rows)) (λ ds. Ok ((done ++ d ∷ []) ++ ds))) (sym long)
     ∙ more d
     ∙ (λ i. next (results (long i) made rows) (λ ds. results_behind (append_assoc done (d ∷ []) ds i) ps rows))
     ∙ sym (next_next (results (suc (length done)) made rows) (λ ds. d ∷ ds) (λ ds. results_behind (done ++ ds) ps rows))
 
 item_is : (ps : List PreparedPlan) (rows : RowList)
-    → ((d : List Datum) → next (each finished (by_places (length d) (begun_all ps) rows)) (λ ds. Ok (d ++ ds)) ≡ results_behind d ps rows)
+    → ((d : List Datum) → next (each finished (by_places (length d) (all_at_start ps) rows)) (λ ds. Ok (d ++ ds)) ≡ results_behind d ps rows)
     → (done : List Datum) (made : List RowAggregate)
-    → next (each finished (by_places (length done) (map begun made ++ begun_all ps) rows)) (λ ds. Ok (done ++ ds)) ≡ next (results (length done) made rows) (λ ds. results_behind (done ++ ds) ps rows)
+    → next (each finished (by_places (length done) (map at_start made ++ all_at_start ps) rows)) (λ ds. Ok (done ++ ds)) ≡ next (results (length done) made rows) (λ ds. results_behind (done ++ ds) ps rows)
 item_is ps rows more done [] = more done ∙ ap (λ l. results_behind l ps rows) (sym (append-nil done))
 item_is ps rows more done (a ∷ made) =
-    ap (λ (r : Result Datum DataFault). next (next r (λ d. next (each finished (by_places (suc (length done)) (map begun made ++ begun_all ps) rows)) (λ ds. Ok (d ∷ ds)))) (λ ds. Ok (done ++ ds)))
+    ap (λ (r : Result Datum DataFault). next (next r (λ d. next (each finished (by_places (suc (length done)) (map at_start made ++ all_at_start ps) rows)) (λ ds. Ok (d ∷ ds)))) (λ ds. Ok (done ++ ds)))
     (finished_is a (map (λ (r : List Datum). slice_index_or r (length done) null) rows))
     ∙ item_case ps rows done made (aggregated a.makes (considered a.quantifier (map (λ (r : List Datum). slice_index_or r (length done) null) rows))) (λ d. item_is ps rows more (done ++ d ∷ []) made)
 
-behind_done : (ps : List PreparedPlan) (rows : RowList) (done : List Datum) → next (each finished (by_places (length done) (begun_all ps) rows)) (λ ds. Ok (done ++ ds)) ≡ results_behind done ps rows
+behind_done : (ps : List PreparedPlan) (rows : RowList) (done : List Datum) → next (each finished (by_places (length done) (all_at_start ps) rows)) (λ ds. Ok (done ++ ds)) ≡ results_behind done ps rows
 behind_done [] rows done = ap Ok (append-nil done)
 behind_done (p ∷ ps) rows done = item_is ps rows (λ d. behind_done ps rows d) done p.aggregates
 
 -- the results of all items
-pub finished_behind : (ps : List PreparedPlan) (rows : RowList) → each finished (after row_past (begun_all ps) rows) ≡ results_behind [] ps rows
-finished_behind ps rows = ap (each finished) (by_places_is (begun_all ps) rows) ∙ sym (next_ok (each finished (by_places 0 (begun_all ps) rows))) ∙ behind_done ps rows []
+pub finished_behind : (ps : List PreparedPlan) (rows : RowList) → each finished (after row_past (all_at_start ps) rows) ≡ results_behind [] ps rows
+finished_behind ps rows = ap (each finished) (by_places_is (all_at_start ps) rows) ∙ sym (next_ok (each finished (by_places 0 (all_at_start ps) rows))) ∙ behind_done ps rows []

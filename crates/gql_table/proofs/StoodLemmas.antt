@@ -14,7 +14,7 @@ use Rattle.gql_table.specs.Distinct.{same_row}
 use Rattle.gql_table.specs.Sorting.{first_key, later_keys}
 use Rattle.gql_table.specs.Machinery.Places.{among, place}
 use Rattle.gql_table.specs.Machinery.GroupPlan.{PreparedPlan, Kept, Gathered, joined_group, gathered_rows, all_groups, has_key, kept_with, note_in, kept_behind, rows_kept_behind, values_in_group, row_of_group, rows_with_plan, result_count}
-use Rattle.gql_table.specs.Machinery.Running.{Standing, Stood, begun, begun_all, past, row_past, stood_keys, with_stood, joined_stood, first_stood, stood_behind, row_of_stood, Wide}
+use Rattle.gql_table.specs.Machinery.Running.{Standing, Stood, at_start, all_at_start, past, row_past, stood_keys, with_stood, joined_stood, first_stood, stood_behind, row_of_stood, Wide}
 use Rattle.gql_eval.proofs.EachSteps.{drop_here}
 use Rattle.gql_table.proofs.RowOrder.{same_row_itself}
 use Rattle.gql_table.proofs.KeyLemmas.{later_drop}
@@ -63,49 +63,49 @@ module _ (g : PropertyGraph) where
     -- with a key, the groups of the rows so far
     keyed_case : (keys made rows : RowList) (r : Result Kept DataFault) → length keys ≡ length made
         → ((ks ms : RowList) → length ks ≡ length ms
-        → stood_behind g (map (run (begun_all plan)) (gathered_rows [] ks ms)) plan rows ≡ next (rows_kept_behind g ks ms plan rows) (λ kept. Ok (map (run (begun_all plan)) (gathered_rows [] kept.0 kept.1))))
-        → next r (λ kept. stood_behind g (joined_stood (begun_all plan) (map (run (begun_all plan)) (gathered_rows [] keys made)) kept.0 kept.1) plan rows)
-        ≡ next (next r (λ kept. rows_kept_behind g (keys ++ kept.0 ∷ []) (made ++ kept.1 ∷ []) plan rows)) (λ kept. Ok (map (run (begun_all plan)) (gathered_rows [] kept.0 kept.1)))
+        → stood_behind g (map (run (all_at_start plan)) (gathered_rows [] ks ms)) plan rows ≡ next (rows_kept_behind g ks ms plan rows) (λ kept. Ok (map (run (all_at_start plan)) (gathered_rows [] kept.0 kept.1))))
+        → next r (λ kept. stood_behind g (joined_stood (all_at_start plan) (map (run (all_at_start plan)) (gathered_rows [] keys made)) kept.0 kept.1) plan rows)
+        ≡ next (next r (λ kept. rows_kept_behind g (keys ++ kept.0 ∷ []) (made ++ kept.1 ∷ []) plan rows)) (λ kept. Ok (map (run (all_at_start plan)) (gathered_rows [] kept.0 kept.1)))
     keyed_case keys made rows (Err f) long more = refl
     keyed_case keys made rows (Ok kept) long more =
         let longer : length (keys ++ kept.0 ∷ []) ≡ length (made ++ kept.1 ∷ []) = omega (arith, long, length-append keys (kept.0 ∷ []), length-append made (kept.1 ∷ [])) in
-        ap (λ gs. stood_behind g gs plan rows) (sym (run_joined (begun_all plan) (gathered_rows [] keys made) kept.0 kept.1) ∙ ap (map (run (begun_all plan))) (sym (gathered_last [] keys made kept.0 kept.1 long)))
+        ap (λ gs. stood_behind g gs plan rows) (sym (run_joined (all_at_start plan) (gathered_rows [] keys made) kept.0 kept.1) ∙ ap (map (run (all_at_start plan))) (sym (gathered_last [] keys made kept.0 kept.1 long)))
         ∙ more (keys ++ kept.0 ∷ []) (made ++ kept.1 ∷ []) longer
 
     keyed : (keys made rows : RowList) → length keys ≡ length made
-        → stood_behind g (map (run (begun_all plan)) (gathered_rows [] keys made)) plan rows ≡ next (rows_kept_behind g keys made plan rows) (λ kept. Ok (map (run (begun_all plan)) (gathered_rows [] kept.0 kept.1)))
+        → stood_behind g (map (run (all_at_start plan)) (gathered_rows [] keys made)) plan rows ≡ next (rows_kept_behind g keys made plan rows) (λ kept. Ok (map (run (all_at_start plan)) (gathered_rows [] kept.0 kept.1)))
     keyed keys made [] long = refl
     keyed keys made (row ∷ rows) long = keyed_case keys made rows (kept_behind g ([], []) plan row) long (λ ks ms l. keyed ks ms rows l)
 
     -- without one, the one group
     one_case : (keys made rows : RowList) (row : List Datum) (r : Result Kept DataFault) → has_key plan ≡ false → kept_behind g ([], []) plan row ≡ r
-        → ((ks ms : RowList) → stood_behind g (([], after row_past (begun_all plan) ms) ∷ []) plan rows ≡ next (rows_kept_behind g ks ms plan rows) (λ kept. Ok (([], after row_past (begun_all plan) kept.1) ∷ [])))
-        → next r (λ kept. stood_behind g (joined_stood (begun_all plan) (([], after row_past (begun_all plan) made) ∷ []) kept.0 kept.1) plan rows)
-        ≡ next (next r (λ kept. rows_kept_behind g (keys ++ kept.0 ∷ []) (made ++ kept.1 ∷ []) plan rows)) (λ kept. Ok (([], after row_past (begun_all plan) kept.1) ∷ []))
+        → ((ks ms : RowList) → stood_behind g (([], after row_past (all_at_start plan) ms) ∷ []) plan rows ≡ next (rows_kept_behind g ks ms plan rows) (λ kept. Ok (([], after row_past (all_at_start plan) kept.1) ∷ [])))
+        → next r (λ kept. stood_behind g (joined_stood (all_at_start plan) (([], after row_past (all_at_start plan) made) ∷ []) kept.0 kept.1) plan rows)
+        ≡ next (next r (λ kept. rows_kept_behind g (keys ++ kept.0 ∷ []) (made ++ kept.1 ∷ []) plan rows)) (λ kept. Ok (([], after row_past (all_at_start plan) kept.1) ∷ []))
     one_case keys made rows row (Err f) none q more = refl
     one_case keys made rows row (Ok kept) none q more =
-        ap (λ k. stood_behind g (joined_stood (begun_all plan) (([], after row_past (begun_all plan) made) ∷ []) k kept.1) plan rows) (no_key plan ([], []) kept row none q)
-        ∙ ap (λ ss. stood_behind g (([], ss) ∷ []) plan rows) (sym (after_last row_past (begun_all plan) made kept.1))
+        ap (λ k. stood_behind g (joined_stood (all_at_start plan) (([], after row_past (all_at_start plan) made) ∷ []) k kept.1) plan rows) (no_key plan ([], []) kept row none q)
+        ∙ ap (λ ss. stood_behind g (([], ss) ∷ []) plan rows) (sym (after_last row_past (all_at_start plan) made kept.1))
         ∙ more (keys ++ kept.0 ∷ []) (made ++ kept.1 ∷ [])
 
     one : (keys made rows : RowList) → has_key plan ≡ false
-        → stood_behind g (([], after row_past (begun_all plan) made) ∷ []) plan rows ≡ next (rows_kept_behind g keys made plan rows) (λ kept. Ok (([], after row_past (begun_all plan) kept.1) ∷ []))
+        → stood_behind g (([], after row_past (all_at_start plan) made) ∷ []) plan rows ≡ next (rows_kept_behind g keys made plan rows) (λ kept. Ok (([], after row_past (all_at_start plan) kept.1) ∷ []))
     one keys made [] none = refl
     one keys made (row ∷ rows) none = one_case keys made rows row (kept_behind g ([], []) plan row) none refl (λ ks ms. one ks ms rows none)
 
     stood_case : (b : Bool) (rows : RowList) → has_key plan ≡ b
-        → stood_behind g (cond b [] (([], begun_all plan) ∷ [])) plan rows ≡ next (rows_kept_behind g [] [] plan rows) (λ kept. Ok (map (run (begun_all plan)) (all_groups b kept.0 kept.1)))
+        → stood_behind g (cond b [] (([], all_at_start plan) ∷ [])) plan rows ≡ next (rows_kept_behind g [] [] plan rows) (λ kept. Ok (map (run (all_at_start plan)) (all_groups b kept.0 kept.1)))
     stood_case true rows p = keyed [] [] rows refl
     stood_case false rows p = one [] [] rows p
 
     stood_is : (rows : RowList)
-        → stood_behind g (first_stood plan) plan rows ≡ next (rows_kept_behind g [] [] plan rows) (λ kept. Ok (map (run (begun_all plan)) (all_groups (has_key plan) kept.0 kept.1)))
+        → stood_behind g (first_stood plan) plan rows ≡ next (rows_kept_behind g [] [] plan rows) (λ kept. Ok (map (run (all_at_start plan)) (all_groups (has_key plan) kept.0 kept.1)))
     stood_is rows = stood_case (has_key plan) rows refl
 
-    row_is : (s : Gathered) → row_of_stood g plan (run (begun_all plan) s) ≡ row_of_group g plan s
+    row_is : (s : Gathered) → row_of_stood g plan (run (all_at_start plan) s) ≡ row_of_group g plan s
     row_is s = ap (λ (r : Result (List Datum) DataFault). next r (λ done. values_in_group g plan s.0 done)) (finished_behind plan s.1)
 
-    rows_are : (gs : List Gathered) → each (row_of_stood g plan) (map (run (begun_all plan)) gs) ≡ each (row_of_group g plan) gs
+    rows_are : (gs : List Gathered) → each (row_of_stood g plan) (map (run (all_at_start plan)) gs) ≡ each (row_of_group g plan) gs
     rows_are [] = refl
     rows_are (s ∷ gs) = λ i. next (row_is s i) (λ y. next (rows_are gs i) (λ ys. Ok (y ∷ ys)))
 
@@ -113,20 +113,20 @@ module _ (g : PropertyGraph) where
     pub stood_rows : (rows : RowList) → next (stood_behind g (first_stood plan) plan rows) (each (row_of_stood g plan)) ≡ rows_with_plan g plan rows
     stood_rows rows =
         ap (λ (r : Result (List Stood) DataFault). next r (each (row_of_stood g plan))) (stood_is rows)
-        ∙ next_next (rows_kept_behind g [] [] plan rows) (λ kept. map (run (begun_all plan)) (all_groups (has_key plan) kept.0 kept.1)) (each (row_of_stood g plan))
+        ∙ next_next (rows_kept_behind g [] [] plan rows) (λ kept. map (run (all_at_start plan)) (all_groups (has_key plan) kept.0 kept.1)) (each (row_of_stood g plan))
         ∙ (λ i. next (rows_kept_behind g [] [] plan rows) (λ kept. rows_are (all_groups (has_key plan) kept.0 kept.1) i))
 
 module _ (g : PropertyGraph) (plan : List PreparedPlan) where
   -- one row more
   pub stood_step : (gs : List Stood) (left rest : RowList) (row k a : List Datum) → left ≡ row ∷ rest → kept_behind g ([], []) plan row ≡ Ok (k, a)
-      → stood_behind g gs plan left ≡ stood_behind g (joined_stood (begun_all plan) gs k a) plan rest
+      → stood_behind g gs plan left ≡ stood_behind g (joined_stood (all_at_start plan) gs k a) plan rest
   stood_step gs left rest row k a q given =
-      ap (stood_behind g gs plan) q ∙ ap (λ (r : Result Kept DataFault). next r (λ kept. stood_behind g (joined_stood (begun_all plan) gs kept.0 kept.1) plan rest)) given
+      ap (stood_behind g gs plan) q ∙ ap (λ (r : Result Kept DataFault). next r (λ kept. stood_behind g (joined_stood (all_at_start plan) gs kept.0 kept.1) plan rest)) given
 
 -- each group has as many aggregates as all items
-begun_long : (plan : List PreparedPlan) → length (begun_all plan) ≡ result_count plan
-begun_long [] = refl
-begun_long (p ∷ ps) = omega (arith, length-append (map begun p.aggregates) (begun_all ps), map_long begun p.aggregates, begun_long ps)
+all_at_start_long : (plan : List PreparedPlan) → length (all_at_start plan) ≡ result_count plan
+all_at_start_long [] = refl
+all_at_start_long (p ∷ ps) = omega (arith, length-append (map at_start p.aggregates) (all_at_start ps), map_long at_start p.aggregates, all_at_start_long ps)
 
 past_long : (ss : List Standing) (row : List Datum) → length (row_past ss row) ≡ length ss
 past_long [] row = refl
@@ -137,24 +137,24 @@ wide_case : (plan : List PreparedPlan) (b : Bool) (s : Stood) (gs rest : List St
 wide_case plan true s gs rest r here all more = (past_long s.1 r ∙ here, all)
 wide_case plan false s gs rest r here all more = (here, more)
 
-wide_joined : (plan : List PreparedPlan) (gs : List Stood) (k r : List Datum) → AllByRecursion (Wide plan) gs → AllByRecursion (Wide plan) (joined_stood (begun_all plan) gs k r)
-wide_joined plan [] k r all = (past_long (begun_all plan) r ∙ begun_long plan, tt)
-wide_joined plan (s ∷ gs) k r all = wide_case plan (same_row s.0 k) s gs (joined_stood (begun_all plan) gs k r) r all.0 all.1 (wide_joined plan gs k r all.1)
+wide_joined : (plan : List PreparedPlan) (gs : List Stood) (k r : List Datum) → AllByRecursion (Wide plan) gs → AllByRecursion (Wide plan) (joined_stood (all_at_start plan) gs k r)
+wide_joined plan [] k r all = (past_long (all_at_start plan) r ∙ all_at_start_long plan, tt)
+wide_joined plan (s ∷ gs) k r all = wide_case plan (same_row s.0 k) s gs (joined_stood (all_at_start plan) gs k r) r all.0 all.1 (wide_joined plan gs k r all.1)
 
 module _ (g : PropertyGraph) (plan : List PreparedPlan) where
   wide_step : (gs : List Stood) (rows : RowList) (r : Result Kept DataFault) (made : List Stood) → AllByRecursion (Wide plan) gs
       → ((hs : List Stood) → AllByRecursion (Wide plan) hs → stood_behind g hs plan rows ≡ Ok made → AllByRecursion (Wide plan) made)
-      → next r (λ kept. stood_behind g (joined_stood (begun_all plan) gs kept.0 kept.1) plan rows) ≡ Ok made → AllByRecursion (Wide plan) made
+      → next r (λ kept. stood_behind g (joined_stood (all_at_start plan) gs kept.0 kept.1) plan rows) ≡ Ok made → AllByRecursion (Wide plan) made
   wide_step gs rows (Err f) made all more given = absurd (cc)
-  wide_step gs rows (Ok kept) made all more given = more (joined_stood (begun_all plan) gs kept.0 kept.1) (wide_joined plan gs kept.0 kept.1 all) given
+  wide_step gs rows (Ok kept) made all more given = more (joined_stood (all_at_start plan) gs kept.0 kept.1) (wide_joined plan gs kept.0 kept.1 all) given
 
   wide_behind : (rows : RowList) (gs made : List Stood) → AllByRecursion (Wide plan) gs → stood_behind g gs plan rows ≡ Ok made → AllByRecursion (Wide plan) made
   wide_behind [] gs made all given = subst (AllByRecursion (Wide plan)) (inside given) all
   wide_behind (row ∷ rows) gs made all given = wide_step gs rows (kept_behind g ([], []) plan row) made all (λ hs h p. wide_behind rows hs made h p) given
 
-  wide_first : (b : Bool) → AllByRecursion (Wide plan) (cond b [] (([], begun_all plan) ∷ []))
+  wide_first : (b : Bool) → AllByRecursion (Wide plan) (cond b [] (([], all_at_start plan) ∷ []))
   wide_first true = tt
-  wide_first false = (begun_long plan, tt)
+  wide_first false = (all_at_start_long plan, tt)
 
   pub all_wide : (rows : RowList) (made : List Stood) → stood_behind g (first_stood plan) plan rows ≡ Ok made → AllByRecursion (Wide plan) made
   all_wide rows made given = wide_behind rows (first_stood plan) made (wide_first (has_key plan)) given

@@ -8,9 +8,11 @@ use Rattle.gql_ast.specs.declared.words.SetQuantifier.{SetQuantifier}
 use Rattle.gql_ast.specs.declared.words.SetQuantifier.TheVariants as quantifier
 use Rattle.gql_eval.specs.RowLists.{RowList}
 
+-- two rows hold the same values in the same order
 abbrev pub same_row : List Datum → List Datum → Bool
 same_row a b = pointwise (λ x y. is_eq (datum_cmp x y)) a b
 
+-- of equal rows the first stays
 abbrev pub distinct_rows : RowList → RowList
 distinct_rows [] = []
 distinct_rows (r ∷ rs) = r ∷ filter (λ s. not (same_row r s)) (distinct_rows rs)

@@ -7,6 +7,7 @@ use Rattle.gql_ast.specs.declared.projection.ReturnItems.{ReturnItems}
 use Rattle.gql_ast.specs.declared.projection.ReturnItems.TheVariants as items
 use Rattle.gql_ast.specs.ClauseColumns.{ColumnList}
 
+-- the items are `*`
 abbrev pub is_all : ReturnItems → Bool
 is_all items.All = true
 is_all (items.Listed is) = false

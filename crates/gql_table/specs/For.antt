@@ -26,6 +26,7 @@ item_rows counter n row [] = Ok []
 item_rows None n row (d ∷ ds) = item_rows None n row ds >>= λ rows. Ok ((row ++ d ∷ []) ∷ rows)
 item_rows (Some c) n row (d ∷ ds) = counted n >>= λ k. item_rows (Some c) (suc n) row ds >>= λ rows. Ok ((row ++ d ∷ k ∷ []) ∷ rows)
 
+-- the number that the first item gets; without a counter none is told
 abbrev pub start_count : Option (Counting × List ℕ) → ℕ
 start_count None = 0
 start_count (Some c) = first_count c.0

@@ -26,10 +26,12 @@ abbrev pub count_in : Datum → Result ℕ DataFault
 count_in (integer (pos n)) = Ok n
 count_in _ = Err fault.WrongKind
 
+-- OFFSET leaves out so many rows at the front
 abbrev pub without_first : Option ℕ → RowList → RowList
 without_first None given = given
 without_first (Some n) given = drop n given
 
+-- LIMIT keeps so many rows at the front
 abbrev pub no_more_than : Option ℕ → RowList → RowList
 no_more_than None given = given
 no_more_than (Some n) given = take n given

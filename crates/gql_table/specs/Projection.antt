@@ -26,18 +26,20 @@ use Rattle.gql_table.specs.Paging.{Sortable, paged}
 abbrev pub output_alone : List Datum → Sortable
 output_alone row = (row, row)
 
--- the columns that sort keys see: without DISTINCT and grouping also the incoming ones, an output name winning. Those of
--- `*` are the incoming ones, so each is there once, where `gql_ast` tells names alone and has them twice
+-- the output columns with the incoming ones behind them, an output name winning. Those of `*` are the incoming ones, so
+-- each is there once, where `gql_ast` tells names alone and has them twice
 abbrev pub with_incoming : ColumnList → ReturnItems → ColumnList
 with_incoming columns items.All = columns
 with_incoming columns (items.Listed is) = map (item_column columns) is ++ columns
 
+-- the columns that sort keys see: without DISTINCT and grouping also the incoming ones
 abbrev pub sort_key_columns : ColumnList → Return → ColumnList
 sort_key_columns columns r =
     if is_grouped columns r || is_distinct r.quantifier
     then output_columns columns r.items
     else with_incoming columns r.items
 
+-- rows for which sort keys see the output columns alone
 abbrev pub all_alone : RowList → List Sortable
 all_alone rows = map output_alone rows
 

@@ -32,14 +32,16 @@ placed_cmp None way a b x y = directed_cmp way a b
 placed_cmp (Some n) way a b false false = directed_cmp way a b
 placed_cmp (Some n) way a b x y = null_cmp n x y
 
+-- the order of two keys of a sort item, by its direction and its NULLS
 abbrev pub key_cmp : SortItem → Datum → Datum → Ordering
 key_cmp i a b = placed_cmp i.nulls i.direction a b (is_null a) (is_null b)
 
--- the key that stands first, and those behind it; a key that isn't there counts as NULL
+-- the key that stands first; one that isn't there counts as NULL
 abbrev pub first_key : List Datum → Datum
 first_key [] = null
 first_key (x ∷ xs) = x
 
+-- the keys behind the first
 abbrev pub later_keys : List Datum → List Datum
 later_keys [] = []
 later_keys (x ∷ xs) = xs

@@ -5,7 +5,7 @@ ghost use Rattle.std.specs.Prelude.{◌≡◌, map, IfOk, OnOk};
 ghost use Rattle.gql_values3.specs.Meaning.{datum_of};
 ghost use Rattle.gql_eval.specs.Gives.{Gives};
 ghost use Rattle.gql_table.specs.Machinery.Places.{place};
-ghost use Rattle.gql_table.specs.Machinery.Running.{begun_all, stood_keys, with_stood, joined_stood, first_stood, stood_behind, opened_stood};
+ghost use Rattle.gql_table.specs.Machinery.Running.{all_at_start, stood_keys, with_stood, joined_stood, first_stood, stood_behind, opened_stood};
 ghost use Rattle.gql_table.specs.Machinery.GroupMeaning.{group_meant};
 ghost use Rattle.gql_table.specs.Machinery.RowKeys.{HasKeys};
 
@@ -72,7 +72,7 @@ fn join_group(
     arguments: &[Value],
 ) -> Result<(), OutOfMemory>
     requires { HasKeys seen.old (stood_keys (map group_meant groups.old.items)) }
-    ensures groups { OnOk result (map group_meant groups.new.items ≡ joined_stood (begun_all items.now) (map group_meant groups.old.items) key (map datum_of arguments.now)) }
+    ensures groups { OnOk result (map group_meant groups.new.items ≡ joined_stood (all_at_start items.now) (map group_meant groups.old.items) key (map datum_of arguments.now)) }
     ensures seen { OnOk result (HasKeys seen.new (stood_keys (map group_meant groups.new.items))) }
 {
     let number = group_number(alloc, items, seen, groups, key)?;
@@ -90,7 +90,7 @@ fn group_number(
 ) -> Result<usize, OutOfMemory>
     requires { HasKeys seen.old (stood_keys (map group_meant groups.old.items)) }
     ensures number { IfOk result (λ number. number ≡ place (stood_keys (map group_meant groups.old.items)) key) }
-    ensures groups { OnOk result (map group_meant groups.new.items ≡ with_stood (begun_all items.now) (map group_meant groups.old.items) key) }
+    ensures groups { OnOk result (map group_meant groups.new.items ≡ with_stood (all_at_start items.now) (map group_meant groups.old.items) key) }
     ensures seen { OnOk result (HasKeys seen.new (stood_keys (map group_meant groups.new.items))) }
 {
     let key = RowKey { row: key };

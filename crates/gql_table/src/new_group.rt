@@ -2,7 +2,7 @@
 
 ghost use Rattle.std.specs.Prelude.{◌≡◌, ◌++◌, map, IfOk, OnOk};
 ghost use Rattle.gql_table.specs.Machinery.AggregateMeaning.{aggregate_meant};
-ghost use Rattle.gql_table.specs.Machinery.Running.{begun, begun_all};
+ghost use Rattle.gql_table.specs.Machinery.Running.{at_start, all_at_start};
 ghost use Rattle.gql_table.specs.Machinery.GroupMeaning.{group_meant};
 ghost use Rattle.gql_table.specs.Machinery.StandingMeaning.{standing_of};
 
@@ -22,7 +22,7 @@ pub struct Group {
 
 /// A group of the key without rows.
 pub fn new_group(alloc: Global, items: &[PreparedItem], key: &Row) -> Result<Group, OutOfMemory>
-    ensures { IfOk result (λ group. group_meant group ≡ (key.now, begun_all items.now)) }
+    ensures { IfOk result (λ group. group_meant group ≡ (key.now, all_at_start items.now)) }
 {
     let states = begin_all(alloc, items)?;
     let key = copy_with_room(alloc, key, 0)?;
@@ -31,7 +31,7 @@ pub fn new_group(alloc: Global, items: &[PreparedItem], key: &Row) -> Result<Gro
 
 /// The aggregates of all items over no rows.
 fn begin_all(alloc: Global, items: &[PreparedItem]) -> Result<Vec<Running>, OutOfMemory>
-    ensures { IfOk result (λ states. map standing_of states.items ≡ begun_all items.now) }
+    ensures { IfOk result (λ states. map standing_of states.items ≡ all_at_start items.now) }
 {
     let mut states = Vec::new(alloc);
     for i in 0..items.len() {
@@ -46,7 +46,7 @@ fn add_begun(
     aggregates: &[AggregateRef],
     states: &mut Vec<Running>,
 ) -> Result<(), OutOfMemory>
-    ensures { OnOk result (map standing_of states.new.items ≡ map standing_of states.old.items ++ map begun (map aggregate_meant aggregates.now)) }
+    ensures { OnOk result (map standing_of states.new.items ≡ map standing_of states.old.items ++ map at_start (map aggregate_meant aggregates.now)) }
 {
     for i in 0..aggregates.len() {
         states.push(begin(alloc, aggregates[i]))?;

@@ -5,7 +5,7 @@ ghost use Rattle.gql_values3.specs.Meaning.{datum_of};
 ghost use Rattle.gql_ast.specs.Aggregates.{considered, aggregated};
 ghost use Rattle.gql_eval.specs.Gives.{Gives};
 ghost use Rattle.gql_table.specs.Machinery.AggregateMeaning.{aggregate_meant};
-ghost use Rattle.gql_table.specs.Machinery.Running.{begun, is_lower, is_higher, lower_of, higher_of, best_of, onward, past, finished, row_past};
+ghost use Rattle.gql_table.specs.Machinery.Running.{at_start, is_lower, is_higher, lower_of, higher_of, best_of, onward, past, finished, row_past};
 ghost use Rattle.gql_table.specs.Machinery.StandingMeaning.{datum_in, standing_of};
 
 use crate::row_aggregates::AggregateRef;
@@ -32,7 +32,7 @@ pub enum Running {
 
 /// The aggregate over no values.
 pub fn begin(alloc: Global, aggregate: AggregateRef) -> Running
-    ensures { standing_of result ≡ begun (aggregate_meant aggregate.entry) }
+    ensures { standing_of result ≡ at_start (aggregate_meant aggregate.entry) }
 {
     match aggregate.quantifier {
         SetQuantifier::Distinct => {

@@ -12,7 +12,7 @@ use Rattle.gql_values3.specs.declared.table.ColumnKind.{ColumnKind}
 use Rattle.gql_values3.specs.declared.table.ColumnKind.TheVariants as kind
 use Rattle.gql_expr_checks.specs.First.{first}
 use Rattle.gql_expr_checks.proofs.FirstLemmas.{first_in_two, first-filter}
-use Rattle.gql_norm.specs.NormalPattern.{Part, Node, Edge, Concat, Union, Alt, Quant, Opt, Scope, Sides, NoSide, Side, NormalPath}
+use Rattle.gql_norm.specs.NormalPattern.{Part, Node, Edge, Concat, Union, Alt, Quant, Opt, ModeScope, Sides, NoSide, Side, NormalPath}
 use Rattle.gql_norm.specs.Places.{size, size_all}
 use Rattle.gql_norm.specs.PathMode.{is_number_among}
 use Rattle.gql_norm.specs.Declaration.{Declared, declaration, visible, visible_sides, may_name}
@@ -88,7 +88,7 @@ module _ (f : ℕ → Bool) where
           part_bars b (a + 2) safe (a ∷ qs) (is_open safe n || u) t.1 (omega arith) (λ q j k. o q (omega arith) (omega arith))
           (λ i. (not (o a (omega arith) (omega arith) i) && t.0 i) || h i)
       part_bars (Opt b) a safe qs u t l o h = part_bars b (a + 1) safe qs u t (omega arith) (λ q j k. o q (omega arith) (omega arith)) h
-      part_bars (Scope m b c) a safe qs u t l o h = part_bars b (a + 1) (safe || protects m) qs u t (omega arith) (λ q j k. o q (omega arith) (omega arith)) h
+      part_bars (ModeScope m b c) a safe qs u t l o h = part_bars b (a + 1) (safe || protects m) qs u t (omega arith) (λ q j k. o q (omega arith) (omega arith)) h
 
       sides_bar : (ss : Sides) (b : ℕ) (safe : Bool) (qs : List ℕ) (u : Bool) → TellsSides f ss b safe → b + size_all ss ≤ at → NoneAround b (b + size_all ss) → outside f around qs ≡ u
           → bars f around (visible_sides ss b qs at) x ≡ declares_open_side ss safe u x
@@ -217,8 +217,8 @@ module _ (f : ℕ → Bool) where
       crossing_in (Opt b) a safe qs before barred t e =
           crossing_in b (a + 1) safe qs before barred t
           (inner a (a + size (Opt b)) (a + 1) (a + 1 + size b) qs before barred (visible (Opt b) a qs) (visible b (a + 1) qs) e (omega arith) (omega arith) (λ at l m. refl))
-      crossing_in (Scope m b c) a safe qs before barred t e =
-          let inside = inner a (a + size (Scope m b c)) (a + 1) (a + 2 + size b) qs before barred (visible (Scope m b c) a qs) (visible b (a + 1) qs) e (omega arith) (omega arith) (λ at l k. refl) in
+      crossing_in (ModeScope m b c) a safe qs before barred t e =
+          let inside = inner a (a + size (ModeScope m b c)) (a + 1) (a + 2 + size b) qs before barred (visible (ModeScope m b c) a qs) (visible b (a + 1) qs) e (omega arith) (omega arith) (λ at l k. refl) in
           crossing_in_two (predicates_in b (a + 1) qs) (predicates_of_scope (a + size b + 1) qs c ∷ []) _ _
           (crossing_in b (a + 1) (safe || protects m) qs before barred t
           (inner (a + 1) (a + 2 + size b) (a + 1) (a + 1 + size b) qs before barred (visible b (a + 1) qs) (visible b (a + 1) qs) inside (omega arith) (omega arith) (λ at l k. refl)))

@@ -2,7 +2,7 @@
 use Rattle.std.proofs.Common.{◌≡◌, ℕ, Bool, false, ◌||◌, cond, List, [], ◌∷◌, find, Some, None, refl, sym, ap, ◌∙◌}
 use Rattle.std.specs.Option.{option_or}
 use Rattle.std.proofs.lemmas.Bool.{or_parts, or_from}
-use Rattle.gql_norm.specs.NormalPattern.{Part, Node, Edge, Concat, Union, Alt, Quant, Opt, Scope, Sides, NoSide, Side}
+use Rattle.gql_norm.specs.NormalPattern.{Part, Node, Edge, Concat, Union, Alt, Quant, Opt, ModeScope, Sides, NoSide, Side}
 use Rattle.gql_norm.specs.Termination.{protects}
 use Rattle.gql_term.specs.Machinery.OpenEnds.{is_open, has_open, has_open_side}
 use Rattle.gql_term.specs.Machinery.OpenReferences.{Barred, none_barred, declares_open, declares_open_side, names_of_element, names_of_condition, first_barred, first_barred_side}
@@ -17,7 +17,7 @@ mutual
   declares_none (Quant b l n) safe x h =
       ap (λ u. declares_open b safe (u || false) x) (or_parts (is_open safe n) (has_open b safe) h).0 ∙ declares_none b safe x (or_parts (is_open safe n) (has_open b safe) h).1
   declares_none (Opt b) safe x h = declares_none b safe x h
-  declares_none (Scope m b c) safe x h = declares_none b (safe || protects m) x h
+  declares_none (ModeScope m b c) safe x h = declares_none b (safe || protects m) x h
 
   sides_declare_none : (ss : Sides) (safe : Bool) (x : List ℕ) → has_open_side ss safe ≡ false → declares_open_side ss safe false x ≡ false
   sides_declare_none NoSide safe x h = refl
@@ -38,7 +38,7 @@ mutual
   bars_none (Alt ss) safe barred h k = sides_bar_none ss safe barred h k
   bars_none (Quant b l n) safe barred h k = bars_none b safe barred (or_parts (is_open safe n) (has_open b safe) h).1 k
   bars_none (Opt b) safe barred h k = bars_none b safe barred h k
-  bars_none (Scope m b c) safe barred h k =
+  bars_none (ModeScope m b c) safe barred h k =
       let inside = safe || protects m in
       λ i. option_or (bars_none b inside barred h k i) (none_found (λ x. barred x || declares_open b inside false x) (names_of_condition c) (λ x. or_from (barred x) _ (k x) (declares_none b inside x h)) i)
 

@@ -3,7 +3,7 @@ use Rattle.std.proofs.Common.{◌≡◌, ℕ, ◌+◌, Bool, true, false, ◌&&�
 use Rattle.std.proofs.Math.Bool.{or-false}
 use Rattle.std.specs.Prelude.{option_map}
 use Rattle.std.specs.List.{list_any}
-use Rattle.gql_norm.specs.NormalPattern.{Part, Node, Edge, Concat, Union, Alt, Quant, Opt, Scope, Sides, NoSide, Side, in_a_row, side_by_side, sides_of}
+use Rattle.gql_norm.specs.NormalPattern.{Part, Node, Edge, Concat, Union, Alt, Quant, Opt, ModeScope, Sides, NoSide, Side, in_a_row, side_by_side, sides_of}
 use Rattle.gql_norm.specs.NormalData.{part_data, path_data, selector_data}
 use Rattle.gql_norm.specs.declared.path.NormalPath.{NormalPath as CodePath}
 use Rattle.gql_norm.specs.declared.path.Selector.{Selector}
@@ -32,7 +32,7 @@ mutual
   open_is (Alt ss) a safe = open_side_is ss (a + 1) safe
   open_is (Quant b l n) a safe = some_of_two (if_open safe n a) (unprotected b (a + 2) safe) _ _ (some_open safe n a) (open_is b (a + 2) safe)
   open_is (Opt b) a safe = open_is b (a + 1) safe
-  open_is (Scope m b c) a safe = open_is b (a + 1) (safe || protects m)
+  open_is (ModeScope m b c) a safe = open_is b (a + 1) (safe || protects m)
 
   open_side_is : (ss : Sides) (b : ℕ) (safe : Bool) → is_some_number (unprotected_beside ss b safe) ≡ has_open_side ss safe
   open_side_is NoSide b safe = refl

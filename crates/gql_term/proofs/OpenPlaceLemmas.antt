@@ -3,7 +3,7 @@
 use Rattle.std.proofs.Common.{◌≡◌, ℕ, ◌+◌, ◌≤◌, ◌<◌, ◌==◌, Bool, true, false, ◌||◌, List, ◌++◌, Option, Some, None, refl, ap, ◌∙◌, arith}
 use Rattle.std.proofs.lemmas.Bool.Decides.{nat_tests}
 use Rattle.std.proofs.lemmas.List.Folds.{list_any-append}
-use Rattle.gql_norm.specs.NormalPattern.{Part, Node, Edge, Concat, Union, Alt, Quant, Opt, Scope, Sides, NoSide, Side}
+use Rattle.gql_norm.specs.NormalPattern.{Part, Node, Edge, Concat, Union, Alt, Quant, Opt, ModeScope, Sides, NoSide, Side}
 use Rattle.gql_norm.specs.Places.{size, size_all}
 use Rattle.gql_norm.specs.PathMode.{is_number_among}
 use Rattle.gql_norm.specs.Termination.{protects, if_open, unprotected, unprotected_beside}
@@ -54,7 +54,7 @@ mutual
   none_below (Quant b l n) a safe q h =
       among_neither (if_open safe n a) (unprotected b (a + 2) safe) q (no_other safe n a q (below_other a q h)) (none_below b (a + 2) safe q (omega arith))
   none_below (Opt b) a safe q h = none_below b (a + 1) safe q (omega arith)
-  none_below (Scope m b c) a safe q h = none_below b (a + 1) (safe || protects m) q (omega arith)
+  none_below (ModeScope m b c) a safe q h = none_below b (a + 1) (safe || protects m) q (omega arith)
 
   none_below_sides : (ss : Sides) (b : ℕ) (safe : Bool) (q : ℕ) → q < b → is_number_among (unprotected_beside ss b safe) q ≡ false
   none_below_sides NoSide b safe q h = refl
@@ -75,7 +75,7 @@ mutual
   none_behind (Quant b l n) a safe q h =
       among_neither (if_open safe n a) (unprotected b (a + 2) safe) q (no_other safe n a q (above_other a q (omega arith))) (none_behind b (a + 2) safe q (omega arith))
   none_behind (Opt b) a safe q h = none_behind b (a + 1) safe q (omega arith)
-  none_behind (Scope m b c) a safe q h = none_behind b (a + 1) (safe || protects m) q (omega arith)
+  none_behind (ModeScope m b c) a safe q h = none_behind b (a + 1) (safe || protects m) q (omega arith)
 
   none_behind_sides : (ss : Sides) (b : ℕ) (safe : Bool) (q : ℕ) → b + size_all ss ≤ q → is_number_among (unprotected_beside ss b safe) q ≡ false
   none_behind_sides NoSide b safe q h = refl
@@ -92,7 +92,7 @@ abbrev mutual
   Tells f (Alt ss) a safe = TellsSides f ss (a + 1) safe
   Tells f (Quant b l n) a safe = (f a ≡ is_open safe n) × Tells f b (a + 2) safe
   Tells f (Opt b) a safe = Tells f b (a + 1) safe
-  Tells f (Scope m b c) a safe = Tells f b (a + 1) (safe || protects m)
+  Tells f (ModeScope m b c) a safe = Tells f b (a + 1) (safe || protects m)
 
   pub TellsSides : (ℕ → Bool) → Sides → ℕ → Bool → Type 0
   TellsSides f NoSide b safe = Unit {0}
@@ -130,7 +130,7 @@ module _ (f : ℕ → Bool) where
       tells b (a + 2) safe (λ q k m. in_second (f q) (if_open safe n a) (unprotected b (a + 2) safe) q (h q (omega arith) (omega arith)) (no_other safe n a q (above_other a q (omega arith)))),
     )
     tells (Opt b) a safe h = tells b (a + 1) safe (λ q k l. h q (omega arith) (omega arith))
-    tells (Scope m b c) a safe h = tells b (a + 1) (safe || protects m) (λ q k l. h q (omega arith) (omega arith))
+    tells (ModeScope m b c) a safe h = tells b (a + 1) (safe || protects m) (λ q k l. h q (omega arith) (omega arith))
 
     tells_sides : (ss : Sides) (b : ℕ) (safe : Bool) → HoldsAtPlaces b (b + size_all ss) (unprotected_beside ss b safe) → TellsSides f ss b safe
     tells_sides NoSide b safe h = tt

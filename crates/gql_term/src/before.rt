@@ -70,7 +70,7 @@ fn declares_open(part: &Part, is_safe: bool, is_under: bool, name: &Text) -> boo
             )
         }
         Part::Opt(part) => declares_open(part.part(), is_safe, is_under, name),
-        Part::Scope(mode, part, _) => {
+        Part::ModeScope(mode, part, _) => {
             declares_open(part.part(), is_safe | protects(*mode), is_under, name)
         }
     }

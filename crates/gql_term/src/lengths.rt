@@ -74,7 +74,7 @@ fn lengths_in(part: &Part) -> Lengths
         Part::Alt(sides) => told(sides.as_slice()),
         Part::Quant(part, least, _) => repeated(lengths_in(part.part()), *least),
         Part::Opt(part) => optional(lengths_in(part.part())),
-        Part::Scope(_, part, _) => lengths_in(part.part()),
+        Part::ModeScope(_, part, _) => lengths_in(part.part()),
     }
 }
 

@@ -52,7 +52,7 @@ pub fn has_open(part: &Part, is_safe: bool) -> bool
         Part::Alt(sides) => some_has_open(sides.as_slice(), is_safe),
         Part::Quant(part, _, most) => is_open(is_safe, *most) || has_open(part.part(), is_safe),
         Part::Opt(part) => has_open(part.part(), is_safe),
-        Part::Scope(mode, part, _) => has_open(part.part(), is_safe | protects(*mode)),
+        Part::ModeScope(mode, part, _) => has_open(part.part(), is_safe | protects(*mode)),
     }
 }
 

@@ -73,7 +73,7 @@ fn first_in<'e, 'a>(part: &'e Part, is_safe: bool, before: &'a Before<'a>) -> Op
         ),
         Part::Alt(sides) => told(sides.as_slice(), is_safe, before),
         Part::Quant(part, _, _) | Part::Opt(part) => first_in(part.part(), is_safe, before),
-        Part::Scope(mode, part, condition) => {
+        Part::ModeScope(mode, part, condition) => {
             in_scope(part.part(), condition, is_safe | protects(*mode), before)
         }
     }

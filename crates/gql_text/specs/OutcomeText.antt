@@ -24,18 +24,20 @@ use Rattle.gql_ast.specs.declared.refusal.Refusal.TheVariants as refusal
 abbrev pub line : List ℕ → List ℕ
 line t = t ++ 10 ∷ []
 
--- the cells of a line, a tab between two
+-- a cell that is not the first of its line: a tab, which is 9, stands before it
 abbrev pub behind_tab : List ℕ → List ℕ
 behind_tab t = 9 ∷ t
 
+-- the cells of a line, a tab between two
 abbrev pub cells : List (List ℕ) → List ℕ
 cells [] = []
 cells (t ∷ ts) = t ++ flat_map behind_tab ts
 
--- the names of the columns, a line a row, and the number of rows
+-- a row is a line of its values
 abbrev pub row_text : List Datum → List ℕ
 row_text ds = line (cells (map value_text ds))
 
+-- the names of the columns, a line a row, and the number of rows
 abbrev pub table_text : Table → List ℕ
 table_text t = line (cells (map header_text t.columns)) ++ flat_map row_text t.rows ++ line (codes "rows " ++ decimal (length t.rows))
 

@@ -3,10 +3,10 @@
 ghost use Rattle.gql_front.specs.Reads.{MayRead};
 ghost use Rattle.gql_type.specs.Machinery.LabelListReaders.{optional_labels_of};
 
-use gql_front::{NoFront, ParseResult, after_sign, any_name};
+use gql_front::{ParseResult, after_sign, any_name};
 use gql_lexer::Lexeme;
 use gql_lexer::symbols::AMPERSAND;
-use gql_parts::{Item, after_colon, item_or_nothing, many};
+use gql_parts::{Item, item_behind_colon, many};
 use gql_values3::{Names, Sequence, Text};
 use std::alloc::Global;
 
@@ -52,8 +52,5 @@ impl Item<LabelParts> for Names {
 pub fn optional_labels<'a>(alloc: Global, rest: &'a [Lexeme]) -> ParseResult<'a, Option<Names>>
     ensures { MayRead result rest.now optional_labels_of }
 {
-    match after_colon(rest) {
-        Ok(behind) => item_or_nothing::<LabelParts, Names>(alloc, rest, behind),
-        Err(NoFront) => Ok((None, rest)),
-    }
+    item_behind_colon::<LabelParts, Names>(alloc, rest)
 }

@@ -6,10 +6,10 @@ ghost use Rattle.gql_type.specs.Machinery.TypeReaders.{braced_properties_of, con
 
 use crate::label_list::optional_labels;
 use gql_ast::{ElementBody, TypeProperty};
-use gql_front::{NoFront, ParseResult, after_sign};
+use gql_front::ParseResult;
 use gql_lexer::Lexeme;
 use gql_lexer::symbols::OPENING_BRACE;
-use gql_parts::{Item, item_or_nothing, list_to_brace};
+use gql_parts::{Item, item_behind_sign, list_to_brace};
 use gql_values3::Sequence;
 use std::alloc::Global;
 
@@ -47,8 +47,5 @@ fn braced_properties<'a>(
 ) -> ParseResult<'a, Option<Sequence<TypeProperty>>>
     ensures { MayRead result rest.now braced_properties_of }
 {
-    match after_sign(OPENING_BRACE, rest) {
-        Ok(behind) => item_or_nothing::<TypeParts, Sequence<TypeProperty>>(alloc, rest, behind),
-        Err(NoFront) => Ok((None, rest)),
-    }
+    item_behind_sign::<TypeParts, Sequence<TypeProperty>>(alloc, OPENING_BRACE, rest)
 }

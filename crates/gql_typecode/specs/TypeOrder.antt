@@ -11,10 +11,11 @@ use Rattle.gql_graph.specs.declared.graph_type.GraphType.{GraphType}
 abbrev pub AreInOrder : List (List ℕ) → List PropType → Type 0
 AreInOrder labels body = IsTrue (texts_ascend labels) × IsTrue (texts_ascend (map (λ (t : PropType). t.name) body))
 
--- the labels and the properties of a node type, and so of an edge type
+-- the labels and the properties of a node type
 abbrev pub IsNodeTypeInOrder : NodeType → Type 0
 IsNodeTypeInOrder t = AreInOrder t.labels t.body
 
+-- those of an edge type; its ends are places of node types, in no order
 abbrev pub IsEdgeTypeInOrder : EdgeType → Type 0
 IsEdgeTypeInOrder t = AreInOrder t.labels t.body
 

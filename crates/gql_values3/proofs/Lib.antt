@@ -1,3 +1,4 @@
+pub mod BoolLemmas
 pub mod ItemLemmas
 pub mod EqualityLemmas
 pub mod FindLemmas

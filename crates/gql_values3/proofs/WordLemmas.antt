@@ -6,6 +6,7 @@ use Rattle.std.specs.declared.cmp.Ordering.{Ordering}
 use Rattle.std.specs.declared.cmp.Ordering.TheVariants.{Less, Equal, Greater}
 use Rattle.std.specs.Ordering.{nat_cmp, is_eq, ordering_reverse}
 use Rattle.std.specs.Cmp.Lexicographic.{slice_cmp, lists_ties}
+use Rattle.std.proofs.lemmas.Bool.{and_parts}
 use Rattle.std.proofs.lemmas.Bool.Decides.{nat_tests}
 use Rattle.std.proofs.lemmas.Cmp.{nat_list_cmp_total}
 use Rattle.std.proofs.lemmas.List.{length-map, get_or-map}
@@ -31,14 +32,6 @@ is_eq-reverse Greater = refl
 
 true_is_false : true ≡ false → ⊥
 true_is_false h = cc
-
-first_of_and : (a b : Bool) → (a && b) ≡ true → a ≡ true
-first_of_and true b h = refl
-first_of_and false b h = cc
-
-second_of_and : (a b : Bool) → (a && b) ≡ true → b ≡ true
-second_of_and true b h = h
-second_of_and false b h = cc
 
 -- texts are the same where their order does not tell them apart
 same_text-order : (t x : List ℕ) → same_text t x ≡ is_eq (order t x)
@@ -66,8 +59,8 @@ apart test u w true e h k = absurd (true_is_false (sym h ∙ ap test (sym (same_
 
 passes-at : (test : List ℕ → Bool) (ws : List (List ℕ)) → list_all test ws ≡ true → (k : ℕ) → k < length ws → test (get_or ws k []) ≡ true
 passes-at test [] h k l = absurd (omega arith)
-passes-at test (w ∷ ws) h zero l = first_of_and (test w) (list_all test ws) h
-passes-at test (w ∷ ws) h (suc k) l = passes-at test ws (second_of_and (test w) (list_all test ws) h) k (omega arith)
+passes-at test (w ∷ ws) h zero l = (and_parts (test w) (list_all test ws) h).0
+passes-at test (w ∷ ws) h (suc k) l = passes-at test ws ((and_parts (test w) (list_all test ws) h).1) k (omega arith)
 
 -- a text that fails a test which all words pass is none of them
 pub position-unlike : (test : List ℕ → Bool) (ws : List (List ℕ)) (u : List ℕ) → list_all test ws ≡ true → test u ≡ false → None ≡ position (same_text u) ws
@@ -95,9 +88,9 @@ slot-upper t = rw (length-map, again t 0, again t 1, again t (length t - 1)) ref
 -- each word stands where its slot tells
 placed-at : (places : List ℕ) (n : ℕ) (ws : List (List ℕ)) → placed places n ws ≡ true → (k : ℕ) → k < length ws → slice_index places (slot (get_or ws k [])) ≡ n + k
 placed-at places n [] h k l = absurd (omega arith)
-placed-at places n (w ∷ ws) h zero l = let e = first_of_and (slice_index places (slot w) == n) (placed places (suc n) ws) h in grind (arith, nat_tests)
+placed-at places n (w ∷ ws) h zero l = let e = (and_parts (slice_index places (slot w) == n) (placed places (suc n) ws) h).0 in grind (arith, nat_tests)
 placed-at places n (w ∷ ws) h (suc k) l =
-    let e = placed-at places (suc n) ws (second_of_and (slice_index places (slot w) == n) (placed places (suc n) ws) h) k (omega arith) in omega (arith, e)
+    let e = placed-at places (suc n) ws ((and_parts (slice_index places (slot w) == n) (placed places (suc n) ws) h).1) k (omega arith) in omega (arith, e)
 
 -- the word that a text is stands at the place that is noted at the text's slot
 module _ (places : List ℕ) (ws : List (List ℕ)) (h : placed places 0 ws ≡ true) (u : List ℕ) where

@@ -51,14 +51,17 @@ coded_path =
     code_by (ℕ × List (ℕ × ℕ)) (coded× coded_ℕ (coded_list (coded× coded_ℕ coded_ℕ)))
     (λ w. (w.start, w.steps)) (λ p. record { start = p.0; steps = p.1 }) (λ _. refl)
 
+-- a text by its bytes
 abbrev coded_bytes : Coded (List ℕ)
 coded_bytes = coded_list coded_ℕ
 
+-- the first part of a code
 abbrev head : Gv → Gv
 head gnil = gnil
 head (gnum n) = gnil
 head (gcons a b) = a
 
+-- the rest of a code
 abbrev tail : Gv → Gv
 tail gnil = gnil
 tail (gnum n) = gnil

@@ -6,15 +6,17 @@ use Rattle.gql_values3.specs.declared.table.ColumnKind.TheVariants as kind
 use Rattle.gql_values3.specs.Datum.{Datum, null, list, node, edge, path, items_of}
 use Rattle.gql_values3.specs.Texts.{texts_differ}
 
--- the kinds of data that columns name
+-- the datum is a node
 abbrev pub is_node : Datum → Bool
 is_node (node n) = true
 is_node _ = false
 
+-- the datum is an edge
 abbrev pub is_edge : Datum → Bool
 is_edge (edge e) = true
 is_edge _ = false
 
+-- the datum is a path
 abbrev pub is_path : Datum → Bool
 is_path (path w) = true
 is_path _ = false

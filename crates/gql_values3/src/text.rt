@@ -58,7 +58,7 @@ impl Stored {
                 if text.push_str(more) {
                     return Ok(());
                 }
-                let long = joined(alloc, text.as_str(), more)?;
+                let long = long_text(alloc, text.as_str(), more)?;
                 *self = Stored::Long(Box::new(alloc, long)?);
                 Ok(())
             }
@@ -67,8 +67,8 @@ impl Stored {
     }
 }
 
-/// A text and another behind it.
-fn joined(alloc: Global, text: &str, more: &str) -> Result<String, OutOfMemory>
+/// A text and another behind it, in an allocation of its own.
+fn long_text(alloc: Global, text: &str, more: &str) -> Result<String, OutOfMemory>
     ensures { IfOk result (λ long. string_bytes long ≡ text.now ++ more.now) }
 {
     let mut long = String::from_str(alloc, text)?;

@@ -6,7 +6,7 @@ use Rattle.gql_expr_checks.specs.Machinery.Knowing.{first_kind}
 use Rattle.gql_norm.specs.declared.degree.Degree.{Degree}
 use Rattle.gql_norm.specs.declared.degree.Degree.TheVariants.{Singleton, Conditional, Group}
 use Rattle.gql_norm.specs.Degree.{element_degree, joint, beside, under_optional}
-use Rattle.gql_norm.specs.NormalPattern.{Part, Node, Edge, Concat, Union, Alt, Quant, Opt, Scope, Sides, NoSide, Side, NormalPath}
+use Rattle.gql_norm.specs.NormalPattern.{Part, Node, Edge, Concat, Union, Alt, Quant, Opt, ModeScope, Sides, NoSide, Side, NormalPath}
 use Rattle.gql_norm.specs.JoinDefects.{Spot, column_degree}
 use Rattle.gql_degrees.specs.Machinery.KindWalk.{declared_in_all_paths}
 
@@ -94,7 +94,7 @@ module _ (faulty : Degree → Degree → Bool) where
     walked x (Alt ss) a b = against b (walked_sides x ss (a + 1))
     walked x (Quant c l n) a b = against b (closed (all_group (walked x c (a + 2) none_before)))
     walked x (Opt c) a b = against b (closed (all_optional (walked x c (a + 1) none_before)))
-    walked x (Scope m c w) a b = against b (closed (walked x c (a + 1) none_before))
+    walked x (ModeScope m c w) a b = against b (closed (walked x c (a + 1) none_before))
 
     -- of sides whose number is told
     pub walked_sides : List ℕ → Sides → ℕ → Walked

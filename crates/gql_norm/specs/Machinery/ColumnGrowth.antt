@@ -3,7 +3,7 @@ use Rattle.std.specs.Prelude.{ℕ, List, [], ◌∷◌, ◌++◌, map, Option, S
 use Rattle.gql_values3.specs.declared.table.ColumnKind.{ColumnKind}
 use Rattle.gql_values3.specs.declared.table.ColumnKind.TheVariants as kind
 use Rattle.gql_ast.specs.ClauseColumns.{ColumnList, is_column}
-use Rattle.gql_norm.specs.NormalPattern.{Part, Node, Edge, Concat, Union, Alt, Quant, Opt, Scope, Sides, NoSide, Side, NormalPath}
+use Rattle.gql_norm.specs.NormalPattern.{Part, Node, Edge, Concat, Union, Alt, Quant, Opt, ModeScope, Sides, NoSide, Side, NormalPath}
 use Rattle.gql_norm.specs.NewColumns.{of_degree, degree_in_paths}
 
 -- a column behind others, unless one has its name
@@ -29,7 +29,7 @@ abbrev mutual
   declared_in (Alt ss) = declared_in_sides ss
   declared_in (Quant b l n) = declared_in b
   declared_in (Opt b) = declared_in b
-  declared_in (Scope m b c) = declared_in b
+  declared_in (ModeScope m b c) = declared_in b
 
   pub declared_in_sides : Sides → ColumnList
   declared_in_sides NoSide = []

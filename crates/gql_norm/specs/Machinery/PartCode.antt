@@ -10,7 +10,7 @@ use Rattle.gql_ast.specs.Tree.{Tree}
 use Rattle.gql_ast.specs.Machinery.TreeCode.{coded_tree}
 use Rattle.gql_ast.specs.contracts.mode.Mode as modes
 use Rattle.gql_ast.specs.contracts.pattern.Direction as directions
-use Rattle.gql_norm.specs.NormalPattern.{Predicate, PropertyIs, Holds, ElementPattern, Part, Node, Edge, Concat, Union, Alt, Quant, Opt, Scope, Sides, NoSide, Side}
+use Rattle.gql_norm.specs.NormalPattern.{Predicate, PropertyIs, Holds, ElementPattern, Part, Node, Edge, Concat, Union, Alt, Quant, Opt, ModeScope, Sides, NoSide, Side}
 
 abbrev predicate_code : Predicate → Gv
 predicate_code (PropertyIs k e) = gcons (gnum 0) (gcons (coded_bytes.code k) (coded_tree.code e))
@@ -49,7 +49,7 @@ abbrev mutual
   part_code (Alt a0) = gcons (gnum 4) (sides_code a0)
   part_code (Quant a0 a1 a2) = gcons (gnum 5) (gcons (part_code a0) (gcons (coded_ℕ.code a1) (coded_most.code a2)))
   part_code (Opt a0) = gcons (gnum 6) (part_code a0)
-  part_code (Scope a0 a1 a2) = gcons (gnum 7) (gcons (modes.the_row.coded.code a0) (gcons (part_code a1) (coded_where.code a2)))
+  part_code (ModeScope a0 a1 a2) = gcons (gnum 7) (gcons (modes.the_row.coded.code a0) (gcons (part_code a1) (coded_where.code a2)))
 
   pub sides_code : Sides → Gv
   sides_code NoSide = gnil
@@ -72,8 +72,8 @@ mutual
   part_inj (Quant a0 a1 a2) _ p = absurd (apart tag p refl)
   part_inj (Opt a0) (Opt b0) p = λ i. Opt (part_inj a0 b0 (ap (λ g. tail g) p) i)
   part_inj (Opt a0) _ p = absurd (apart tag p refl)
-  part_inj (Scope a0 a1 a2) (Scope b0 b1 b2) p = λ i. Scope (modes.the_row.coded.inj a0 b0 (ap (λ g. head (tail g)) p) i) (part_inj a1 b1 (ap (λ g. head (tail (tail g))) p) i) (coded_where.inj a2 b2 (ap (λ g. tail (tail (tail g))) p) i)
-  part_inj (Scope a0 a1 a2) _ p = absurd (apart tag p refl)
+  part_inj (ModeScope a0 a1 a2) (ModeScope b0 b1 b2) p = λ i. ModeScope (modes.the_row.coded.inj a0 b0 (ap (λ g. head (tail g)) p) i) (part_inj a1 b1 (ap (λ g. head (tail (tail g))) p) i) (coded_where.inj a2 b2 (ap (λ g. tail (tail (tail g))) p) i)
+  part_inj (ModeScope a0 a1 a2) _ p = absurd (apart tag p refl)
 
   pub sides_inj : (x y : Sides) → sides_code x ≡ sides_code y → x ≡ y
   sides_inj NoSide NoSide p = refl

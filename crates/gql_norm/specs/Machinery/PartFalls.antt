@@ -35,7 +35,7 @@ deep_le-part_height_of (part.Union p r rs) = omega (arith, first_le-beside r rs,
 deep_le-part_height_of (part.Alt ps) = omega arith
 deep_le-part_height_of (part.Quant b l n) = omega arith
 deep_le-part_height_of (part.Opt b) = omega arith
-deep_le-part_height_of (part.Scope m b c) = omega arith
+deep_le-part_height_of (part.ModeScope m b c) = omega arith
 
 -- the same of all items of a list
 pub most_le-highest_part : (xs : List CodePart) → most deep-Part xs ≤ highest_part (map part_data xs)

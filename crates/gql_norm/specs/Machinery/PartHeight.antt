@@ -1,6 +1,6 @@
 -- How high a part is: one more than its highest part.
 use Rattle.std.specs.Prelude.{ℕ, ◌+◌, max, List}
-use Rattle.gql_norm.specs.NormalPattern.{Part, Node, Edge, Concat, Union, Alt, Quant, Opt, Scope, Sides, NoSide, Side, sides_of}
+use Rattle.gql_norm.specs.NormalPattern.{Part, Node, Edge, Concat, Union, Alt, Quant, Opt, ModeScope, Sides, NoSide, Side, sides_of}
 
 abbrev mutual
   pub part_height_of : Part → ℕ
@@ -11,7 +11,7 @@ abbrev mutual
   part_height_of (Alt ss) = sides_height_of ss + 1
   part_height_of (Quant b l n) = part_height_of b + 1
   part_height_of (Opt b) = part_height_of b + 1
-  part_height_of (Scope m b c) = part_height_of b + 1
+  part_height_of (ModeScope m b c) = part_height_of b + 1
 
   -- the greatest height of the sides
   pub sides_height_of : Sides → ℕ

@@ -3,7 +3,7 @@ use Rattle.std.specs.Prelude.{List, [], ◌∷◌, Option, Some, None}
 use Rattle.std.specs.Option.{option_or}
 use Rattle.gql_ast.specs.Tree.{Tree}
 use Rattle.gql_ast.specs.declared.refusal.Refusal.{Refusal}
-use Rattle.gql_norm.specs.NormalPattern.{ElementPattern, Part, Node, Edge, Concat, Union, Alt, Quant, Opt, Scope, Sides, NoSide, Side, NormalPath}
+use Rattle.gql_norm.specs.NormalPattern.{ElementPattern, Part, Node, Edge, Concat, Union, Alt, Quant, Opt, ModeScope, Sides, NoSide, Side, NormalPath}
 
 -- of a condition that may be there
 abbrev pub if_there : (Tree → Option Refusal) → Option Tree → Option Refusal
@@ -20,7 +20,7 @@ module _ (element : ElementPattern → Option Refusal) (condition : Tree → Opt
     asked_of (Alt ss) = asked_of_sides ss
     asked_of (Quant b l n) = asked_of b
     asked_of (Opt b) = asked_of b
-    asked_of (Scope m b c) = option_or (asked_of b) (if_there condition c)
+    asked_of (ModeScope m b c) = option_or (asked_of b) (if_there condition c)
 
     pub asked_of_sides : Sides → Option Refusal
     asked_of_sides NoSide = None

@@ -9,7 +9,7 @@ use Rattle.gql_expr_checks.specs.ExprMisuses.{misused, elsewhere}
 use Rattle.gql_expr_checks.specs.ExprNames.{unknown_in}
 use Rattle.gql_expr_checks.specs.Refusals.{refusal_of_first, misuse_if}
 use Rattle.gql_expr_checks.specs.Repeated.{is_among}
-use Rattle.gql_norm.specs.NormalPattern.{ElementPattern, Part, Node, Edge, Concat, Union, Alt, Quant, Opt, Scope, Sides, NoSide, Side, NormalPath, NormalPattern}
+use Rattle.gql_norm.specs.NormalPattern.{ElementPattern, Part, Node, Edge, Concat, Union, Alt, Quant, Opt, ModeScope, Sides, NoSide, Side, NormalPath, NormalPattern}
 use Rattle.gql_norm.specs.PredicateSpot.{tree_in, trees_in}
 use Rattle.gql_expr_checks.specs.Machinery.NameList.{with_name}
 use Rattle.gql_pattern_checks.specs.Machinery.Scopes.{no_names, with_variable_of, with_part, with_paths, known_columns}
@@ -61,7 +61,7 @@ module _ (q : ScopeQuestion) (columns : ColumnList) where
     refused_in s (Alt ss) = refused_in_sides s ss
     refused_in s (Quant b l n) = refused_in s b
     refused_in s (Opt b) = refused_in s b
-    refused_in s (Scope m b c) = option_or (refused_in s b) (refused_of (with_part false s b) (trees_in c))
+    refused_in s (ModeScope m b c) = option_or (refused_in s b) (refused_of (with_part false s b) (trees_in c))
 
     pub refused_in_sides : Names → Sides → Option Refusal
     refused_in_sides s NoSide = None

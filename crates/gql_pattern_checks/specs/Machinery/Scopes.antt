@@ -4,7 +4,7 @@ use Rattle.gql_values3.specs.declared.table.ColumnKind.{ColumnKind}
 use Rattle.gql_values3.specs.declared.table.ColumnKind.TheVariants as kind
 use Rattle.gql_ast.specs.ClauseColumns.{ColumnList}
 use Rattle.gql_expr_checks.specs.Repeated.{is_among}
-use Rattle.gql_norm.specs.NormalPattern.{Part, Node, Edge, Concat, Union, Alt, Quant, Opt, Scope, Sides, NoSide, Side, NormalPath}
+use Rattle.gql_norm.specs.NormalPattern.{Part, Node, Edge, Concat, Union, Alt, Quant, Opt, ModeScope, Sides, NoSide, Side, NormalPath}
 use Rattle.gql_expr_checks.specs.Machinery.NameList.{with_name}
 use Rattle.gql_pattern_checks.specs.declared.scope.Names.{Names}
 
@@ -30,7 +30,7 @@ abbrev mutual
   with_part is_group s (Alt ss) = with_sides is_group s ss
   with_part is_group s (Quant b l n) = with_part true s b
   with_part is_group s (Opt b) = with_part is_group s b
-  with_part is_group s (Scope m b c) = with_part is_group s b
+  with_part is_group s (ModeScope m b c) = with_part is_group s b
 
   pub with_sides : Bool → Names → Sides → Names
   with_sides is_group s NoSide = s

@@ -1,7 +1,7 @@
 -- PatternReaders: reading path patterns and graph patterns.
 use Rattle.std.specs.Prelude.{ℕ, false, List, Some}
 use Rattle.gql_lexer.specs.SymbolPlaces.{equal}
-use Rattle.gql_ast.proofs.PatternLemmas.{path_expr_of}
+use Rattle.gql_ast.specs.PatternMeaning.{path_expr_of}
 use Rattle.gql_ast.specs.declared.path.GraphPattern.{GraphPattern}
 use Rattle.gql_ast.specs.declared.path.PathPattern.{PathPattern}
 use Rattle.gql_ast.specs.declared.pattern.PathExpr.{PathExpr}

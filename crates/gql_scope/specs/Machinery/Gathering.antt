@@ -4,7 +4,7 @@ use Rattle.std.specs.Prelude.{ℕ, Bool, true, false, List, [], ◌∷◌, ◌++
 use Rattle.gql_values3.specs.declared.table.ColumnKind.{ColumnKind}
 use Rattle.gql_values3.specs.declared.table.ColumnKind.TheVariants as kind
 use Rattle.gql_ast.specs.ClauseColumns.{ColumnList, is_column}
-use Rattle.gql_norm.specs.NormalPattern.{Part, Node, Edge, Concat, Union, Alt, Quant, Opt, Scope, Sides, NoSide, Side, NormalPath}
+use Rattle.gql_norm.specs.NormalPattern.{Part, Node, Edge, Concat, Union, Alt, Quant, Opt, ModeScope, Sides, NoSide, Side, NormalPath}
 
 -- names with what one element of each is, and those of them that are groups
 pub record Gathered : Type 0 where
@@ -29,7 +29,7 @@ abbrev mutual
   with_part around g (Alt ss) = with_sides around g ss
   with_part around g (Quant b l n) = with_part true g b
   with_part around g (Opt b) = with_part around g b
-  with_part around g (Scope m b c) = with_part around g b
+  with_part around g (ModeScope m b c) = with_part around g b
 
   pub with_sides : Bool → Gathered → Sides → Gathered
   with_sides around g NoSide = g

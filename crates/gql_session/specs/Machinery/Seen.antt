@@ -1,8 +1,8 @@
 -- What the code's commands mean, and which words it reads as numbers.
 use Rattle.std.specs.Prelude.{ℕ, ◌&&◌, Bool, nat_le, List, length}
-use Rattle.std.specs.List.{list_all}
 use Rattle.std.specs.Option.{option_copied}
-use Rattle.gql_session.specs.Words.{Command, run, selftest, is_digit}
+use Rattle.std.specs.Str.{all_ascii_digits}
+use Rattle.gql_session.specs.Words.{Command, run, selftest}
 use Rattle.gql_session.specs.declared.words.Command.{Command as CommandWords}
 use Rattle.gql_session.specs.declared.words.Command.TheVariants as command
 
@@ -12,4 +12,4 @@ seen (command.Selftest n) = selftest n
 
 -- one to five digits
 abbrev pub is_short : List ℕ → Bool
-is_short digits = nat_le 1 (length digits) && nat_le (length digits) 5 && list_all is_digit digits
+is_short digits = nat_le 1 (length digits) && nat_le (length digits) 5 && all_ascii_digits digits

@@ -34,16 +34,16 @@ pub data Standing : Type 0 where
   listing : Aggregate → SetQuantifier → List Datum → Standing
 
 -- of no values
-abbrev pub begun_as : SetQuantifier → Aggregate → Standing
-begun_as quantifier.All aggregate.Count = counting 0
-begun_as quantifier.All aggregate.Sum = summing sum.Nothing
-begun_as quantifier.All aggregate.Min = lowest None
-begun_as quantifier.All aggregate.Max = highest None
-begun_as quantifier.All aggregate.CollectList = listing aggregate.CollectList quantifier.All []
-begun_as quantifier.Distinct makes = listing makes quantifier.Distinct []
+abbrev pub at_start_by : SetQuantifier → Aggregate → Standing
+at_start_by quantifier.All aggregate.Count = counting 0
+at_start_by quantifier.All aggregate.Sum = summing sum.Nothing
+at_start_by quantifier.All aggregate.Min = lowest None
+at_start_by quantifier.All aggregate.Max = highest None
+at_start_by quantifier.All aggregate.CollectList = listing aggregate.CollectList quantifier.All []
+at_start_by quantifier.Distinct makes = listing makes quantifier.Distinct []
 
-abbrev pub begun : RowAggregate → Standing
-begun a = begun_as a.quantifier a.makes
+abbrev pub at_start : RowAggregate → Standing
+at_start a = at_start_by a.quantifier a.makes
 
 -- a sum goes on by an integer; a value of another kind spoils it
 abbrev pub sum_with : SumSoFar → ℤ → SumSoFar
@@ -108,9 +108,9 @@ row_past [] row = []
 row_past (s ∷ ss) row = past s (first_key row) ∷ row_past ss (later_keys row)
 
 -- the aggregates of all items, over no rows
-abbrev pub begun_all : List PreparedPlan → List Standing
-begun_all [] = []
-begun_all (p ∷ ps) = map begun p.aggregates ++ begun_all ps
+abbrev pub all_at_start : List PreparedPlan → List Standing
+all_at_start [] = []
+all_at_start (p ∷ ps) = map at_start p.aggregates ++ all_at_start ps
 
 -- a group: its key, and what its aggregates have come to
 abbrev pub Stood : Type 0
@@ -130,7 +130,7 @@ joined_stood fresh (g ∷ gs) key row = if same_row g.0 key then (g.0, row_past 
 
 -- without a key there is one group, also over no rows
 abbrev pub opened_stood : List PreparedPlan → List Stood → List Stood
-opened_stood plan gs = if has_key plan then gs else with_stood (begun_all plan) gs []
+opened_stood plan gs = if has_key plan then gs else with_stood (all_at_start plan) gs []
 
 abbrev pub first_stood : List PreparedPlan → List Stood
 first_stood plan = opened_stood plan []
@@ -143,7 +143,7 @@ module _ (g : PropertyGraph) where
   -- the groups of rows, behind those of the rows before
   abbrev pub stood_behind : List Stood → List PreparedPlan → RowList → Result (List Stood) DataFault
   stood_behind gs plan [] = Ok gs
-  stood_behind gs plan (row ∷ rows) = kept_behind g ([], []) plan row >>= λ kept. stood_behind (joined_stood (begun_all plan) gs kept.0 kept.1) plan rows
+  stood_behind gs plan (row ∷ rows) = kept_behind g ([], []) plan row >>= λ kept. stood_behind (joined_stood (all_at_start plan) gs kept.0 kept.1) plan rows
 
   -- the row of a group
   abbrev pub row_of_stood : List PreparedPlan → Stood → Result (List Datum) DataFault

@@ -1,6 +1,6 @@
 -- Unprotected quantifiers without their places.
 use Rattle.std.specs.Prelude.{ℕ, Bool, false, not, ◌&&◌, ◌||◌, is_none, Option}
-use Rattle.gql_norm.specs.NormalPattern.{Part, Node, Edge, Concat, Union, Alt, Quant, Opt, Scope, Sides, NoSide, Side}
+use Rattle.gql_norm.specs.NormalPattern.{Part, Node, Edge, Concat, Union, Alt, Quant, Opt, ModeScope, Sides, NoSide, Side}
 use Rattle.gql_norm.specs.Termination.{protects}
 
 -- a quantifier without an upper bound, where a scope around protects it or not
@@ -17,7 +17,7 @@ abbrev mutual
   has_open (Alt ss) safe = has_open_side ss safe
   has_open (Quant b l n) safe = is_open safe n || has_open b safe
   has_open (Opt b) safe = has_open b safe
-  has_open (Scope m b c) safe = has_open b (safe || protects m)
+  has_open (ModeScope m b c) safe = has_open b (safe || protects m)
 
   pub has_open_side : Sides → Bool → Bool
   has_open_side NoSide safe = false

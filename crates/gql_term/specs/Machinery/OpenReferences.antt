@@ -6,7 +6,7 @@ use Rattle.std.specs.Option.{option_or}
 use Rattle.gql_values3.specs.Texts.{same_text}
 use Rattle.gql_ast.specs.Scope.{names_in}
 use Rattle.gql_ast.specs.Tree.{Tree}
-use Rattle.gql_norm.specs.NormalPattern.{ElementPattern, Part, Node, Edge, Concat, Union, Alt, Quant, Opt, Scope, Sides, NoSide, Side, NormalPath}
+use Rattle.gql_norm.specs.NormalPattern.{ElementPattern, Part, Node, Edge, Concat, Union, Alt, Quant, Opt, ModeScope, Sides, NoSide, Side, NormalPath}
 use Rattle.gql_norm.specs.PredicateSpot.{tree_in, trees_in}
 use Rattle.gql_norm.specs.Termination.{protects}
 use Rattle.gql_term.specs.Machinery.OpenEnds.{is_open}
@@ -26,7 +26,7 @@ abbrev mutual
   declares_open (Alt ss) safe under x = declares_open_side ss safe under x
   declares_open (Quant b l n) safe under x = declares_open b safe (is_open safe n || under) x
   declares_open (Opt b) safe under x = declares_open b safe under x
-  declares_open (Scope m b c) safe under x = declares_open b (safe || protects m) under x
+  declares_open (ModeScope m b c) safe under x = declares_open b (safe || protects m) under x
 
   pub declares_open_side : Sides → Bool → Bool → List ℕ → Bool
   declares_open_side NoSide safe under x = false
@@ -62,7 +62,7 @@ abbrev mutual
   first_barred (Alt ss) safe barred = first_barred_side ss safe barred
   first_barred (Quant b l n) safe barred = first_barred b safe barred
   first_barred (Opt b) safe barred = first_barred b safe barred
-  first_barred (Scope m b c) safe barred =
+  first_barred (ModeScope m b c) safe barred =
       option_or (first_barred b (safe || protects m) barred) (find (barred_behind barred (safe || protects m) b) (names_of_condition c))
 
   pub first_barred_side : Sides → Bool → Barred → Option (List ℕ)

@@ -1,5 +1,6 @@
 use Rattle.std.proofs.Common.{◌≡◌, ◌∙◌, ◌&&◌, Bool, Some, None, refl, ap, sym}
-use Rattle.gql_change.proofs.EndpointLemmas.{kind_at, a_column, no_column, endpoint_stands, endpoint_new, and_true}
+use Rattle.gql_values3.proofs.BoolLemmas.{and_true}
+use Rattle.gql_change.proofs.EndpointLemmas.{kind_at, a_column, no_column, endpoint_stands, endpoint_new}
 use Rattle.gql_change.proofs.columns.past_name.Goals as goal
 
 pub returns-in-Some : goal.returns-in-Some

@@ -1,13 +1,14 @@
 use Rattle.std.proofs.Common.{◌≡◌, ◌≤◌, ◌∙◌, [], ◌∷◌, ◌+◌, ◌<◌, ◌&&◌, true, List, length, drop, map, refl, sym, ap, arith}
 use Rattle.std.specs.List.{flat_map}
 use Rattle.std.proofs.lemmas.List.{drop_all}
+use Rattle.gql_values3.proofs.BoolLemmas.{and_true}
 use Rattle.gql_ast.specs.InsertColumns.{spot_columns, step_spots}
 use Rattle.gql_ast.specs.Endpoints.{wrong_in_spots}
 use Rattle.gql_ast.specs.declared.change.InsertStep.{InsertStep}
 use Rattle.gql_eval.proofs.EachSteps.{drop_here as item_here}
 use Rattle.gql_change.specs.Changing.{is_empty}
 use Rattle.gql_change.specs.Machinery.Roles.{question_of}
-use Rattle.gql_change.proofs.EndpointLemmas.{and_true, columns_past, right_past}
+use Rattle.gql_change.proofs.EndpointLemmas.{columns_past, right_past}
 use Rattle.gql_change.proofs.QuestionLemmas.{asked_past}
 use Rattle.gql_change.proofs.questions.ask_path.Goals as goal
 

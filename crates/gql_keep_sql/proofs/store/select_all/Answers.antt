@@ -10,6 +10,7 @@ rows-init g c =
     let old = c.args.conn.now in
     let now = c.in_ok-rows.rows.conn.now in record {
       same_reference = refl;
+      rests = c.in_ok-rows.ensures.mode;
       read = ([], rw c.new-records.ensures.items tt, λ clean. read_none g.S.Store (codes "SELECT key, value FROM record") old now (c.in_ok-rows.ensures.begun clean));
     }
 
@@ -22,6 +23,7 @@ rows-preserved g c =
     let before = c.rows.invariant.read in
     let moved = c.in_ok-advance.ensures in record {
       same_reference = moved.same_reference ∙ c.rows.invariant.same_reference;
+      rests = λ none. moved.mode (c.rows.invariant.rests none);
       read = (
         before.0 ++ row ∷ [],
         rw c.in_ok-push.ensures.items (all_zipped_more HasRecord before.0 c.rows.records.items row c.in_ok-record_of.field-0 before.1 c.in_ok-record_of.ensures.read),
@@ -29,8 +31,8 @@ rows-preserved g c =
       );
     }
 
-pub returns-in_default : goal.returns-in_default
-returns-in_default g c =
+pub returns-in_default-clause-read : goal.returns-in_default-clause-read
+returns-in_default-clause-read g c =
     let old = c.args.conn.now in
     let mid = c.rows.rows.conn.now in
     let new = c.advance.new.self.conn.now in

@@ -4,6 +4,7 @@ use Rattle.sqlite.specs.declared.types.Value.{Value}
 use Rattle.sqlite.specs.State.{HasCleanDisk}
 use Rattle.sqlite.specs.Held.{state}
 use Rattle.gql_keep_sql.specs.Fetched.{HasRecord}
+use Rattle.gql_keep_sql.specs.Rests.{Rests}
 use Rattle.gql_keep_sql.proofs.ScanLemmas.{HasRead}
 use Rattle.gql_keep_sql.proofs.store.select_all.Given as goal
 
@@ -13,5 +14,6 @@ invariant-rows g l =
     let old = l.fn.conn in
     let now = l.rows.conn.now in record {
       same_reference : l.rows.conn.ghost_name ≡ l.initial.rows.conn.ghost_name;
+      rests : Rests old now;
       read : (rows : List (List Value)) × AllZip HasRecord rows l.records.items × (HasCleanDisk (state g.S.Store now) → HasRead g.S.Store (codes "SELECT key, value FROM record") old now rows);
     }

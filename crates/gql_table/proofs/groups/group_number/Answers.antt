@@ -3,7 +3,7 @@ use Rattle.std.proofs.lemmas.List.{map_push}
 use Rattle.gql_values3.specs.Datum.{Datum}
 use Rattle.gql_eval.specs.RowLists.{RowList}
 use Rattle.gql_table.specs.Machinery.Places.{found_place}
-use Rattle.gql_table.specs.Machinery.Running.{Standing, Stood, begun_all, stood_keys}
+use Rattle.gql_table.specs.Machinery.Running.{Standing, Stood, all_at_start, stood_keys}
 use Rattle.gql_table.specs.Machinery.GroupMeaning.{group_meant}
 use Rattle.gql_table.specs.Machinery.RowKeys.{key_row}
 use Rattle.gql_table.specs.declared.row_key.RowKey.{RowKey}
@@ -16,7 +16,7 @@ use Rattle.gql_table.proofs.groups.group_number.Goals as goal
 pub returns-in-Some : goal.returns-in-Some
 returns-in-Some c =
     let gs : List Stood = map group_meant c.args.groups.now.items in
-    let fresh : List Standing = begun_all c.args.items.now in
+    let fresh : List Standing = all_at_start c.args.items.now in
     let key : RowKey = record { row = c.args.key } in
     let found : found_place (stood_keys gs) c.args.key ≡ Some c.in-Some.number.now = sym (c.requires key) ∙ sym c.in-Some.ensures.value in
     let there = found_some (stood_keys gs) c.args.key c.in-Some.number.now found in
@@ -31,7 +31,7 @@ returns-in_ok-insert-in-None c =
     let items = c.args.groups.now.items in
     let gs : List Stood = map group_meant items in
     let ks : RowList = stood_keys gs in
-    let fresh : List Standing = begun_all c.args.items.now in
+    let fresh : List Standing = all_at_start c.args.items.now in
     let k : List Datum = c.args.key in
     let key : RowKey = record { row = k } in
     let missing : found_place ks k ≡ None = sym (c.requires key) ∙ sym c.in-None.ensures.value in

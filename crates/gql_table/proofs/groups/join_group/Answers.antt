@@ -2,7 +2,7 @@ use Rattle.std.proofs.Common.{◌≡◌, ◌∙◌, ◌<◌, List, map, length, 
 use Rattle.std.proofs.lemmas.List.{map-set, get_or-map}
 use Rattle.gql_values3.specs.Datum.{Datum}
 use Rattle.gql_values3.specs.Meaning.{datum_of}
-use Rattle.gql_table.specs.Machinery.Running.{Standing, Stood, begun_all, row_past, stood_keys, with_stood}
+use Rattle.gql_table.specs.Machinery.Running.{Standing, Stood, all_at_start, row_past, stood_keys, with_stood}
 use Rattle.gql_table.specs.Machinery.GroupMeaning.{group_meant}
 use Rattle.gql_table.specs.Machinery.StandingMeaning.{standing_of}
 use Rattle.gql_table.specs.Machinery.RowKeys.{HasKeys}
@@ -14,7 +14,7 @@ use Rattle.gql_table.proofs.groups.join_group.Goals as goal
 pub index_mut-requires : goal.index_mut-requires
 index_mut-requires c =
     let gs : List Stood = map group_meant c.args.groups.now.items in
-    let fresh : List Standing = begun_all c.args.items.now in
+    let fresh : List Standing = all_at_start c.args.items.now in
     let items = c.group_number.new.groups.items in
     let long : length items ≡ length (with_stood fresh gs c.args.key) = sym (map_long group_meant items) ∙ ap length c.in_ok-number.ensures.groups in
     omega (arith, c.group_number.new.groups.ok.0, long, below_opened fresh gs c.args.key, c.in_ok-number.ensures.number)
@@ -22,7 +22,7 @@ index_mut-requires c =
 pub returns : goal.returns
 returns c =
     let gs : List Stood = map group_meant c.args.groups.now.items in
-    let fresh : List Standing = begun_all c.args.items.now in
+    let fresh : List Standing = all_at_start c.args.items.now in
     let key : List Datum = c.args.key in
     let row : List Datum = map datum_of c.args.arguments.now in
     let n = c.in_ok-number.number in
