@@ -4,8 +4,10 @@
 //! run failed, and ends with the status's number.
 #![tactic(auto)]
 
+mod file_keeper;
+
+use crate::file_keeper::FileKeeper;
 use gql_fan::Serial;
-use gql_keep_sql::SqlKeeper;
 use gql_match::PathMatcher;
 use gql_ports::{FileSource, StdoutSink};
 use gql_session::{Status, code, run};
@@ -34,7 +36,7 @@ fn run_words<R: Env + Files + Print + AllocGlobal + Threads + Sync>(
     let Ok(words) = words.collect(rt.alloc()) else {
         return Status::NoMemory;
     };
-    let mut keeper = SqlKeeper::new(host, host.alloc());
+    let mut keeper = FileKeeper::new(host, host.alloc());
     let mut source = FileSource::new(rt);
     let mut sink = StdoutSink::new(rt);
     let matcher = PathMatcher::new(Serial::<R>::new());

@@ -3,6 +3,7 @@ use Rattle.std.proofs.Common.{◌≡◌, ℕ, Bool, true, not, cond, List, [], �
 use Rattle.std.specs.List.{filter}
 use Rattle.std.specs.List.Sorted.{IsSortedBy}
 use Rattle.std.proofs.lemmas.Option.{slice_get_within, get_or_from_slice_get}
+use Rattle.sqlite.specs.Store.{Ghosts}
 use Rattle.sqlite.specs.declared.error.Error.{Error}
 use Rattle.gql_ports.specs.declared.stored.Record.{Record}
 use Rattle.gql_keep_sql.specs.declared.changes.Change.{Change}
@@ -27,12 +28,12 @@ altered puts drops changes old kept new named is same ascends = record {
 }
 
 -- the record of a place is held there
-held_is : (place : Place) (index : ℕ) (r : Record) → Some r ≡ held_at place index → IsHeld r place
+held_is : {S : Type 0} (place : Place S) (index : ℕ) (r : Record) → Some r ≡ held_at place index → IsHeld r place
 held_is (Memory records) index r is = (index, slice_get_within records.items index r (sym is), get_or_from_slice_get records.items index r r (sym is))
 held_is Nowhere index r is = absurd cc
 held_is (File name conn) index r is = absurd cc
 
 -- and a copy of it is fetched
-pub held_fetches : (place : Place) (index : ℕ) (held : Record) (result : Result Record Error) → Some held ≡ held_at place index → IfOk result (λ r. r ≡ held) → IfOk result (λ r. ∥ Fetches r.key r.value place place ∥₁)
-held_fetches place index held (Ok r) is same = ∣ inr (subst (λ r. IsHeld r place) (sym same) (held_is place index held is), refl) ∣₁
-held_fetches place index held (Err e) is same = tt
+pub held_fetches : {S : Type 0} (g : Ghosts S) (place : Place S) (index : ℕ) (held : Record) (result : Result Record Error) → Some held ≡ held_at place index → IfOk result (λ r. r ≡ held) → IfOk result (λ r. ∥ Fetches g r.key r.value place place ∥₁)
+held_fetches g place index held (Ok r) is same = ∣ inr (subst (λ r. IsHeld r place) (sym same) (held_is place index held is), refl) ∣₁
+held_fetches g place index held (Err e) is same = tt

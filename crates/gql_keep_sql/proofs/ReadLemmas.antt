@@ -52,7 +52,7 @@ run_only_read g from old new (Err e) rows_of rests crash ok err = record {
 pub read_itself : {S : Type 0} (g : Ghosts S) (h : Held S) → IsOnlyRead g h h
 read_itself g h = record { rests = λ none. none; kept = λ clean. inl (record { was_open = λ o. o; committed = λ o. refl }); crash = survives_itself (state g h) _ }
 
-pub same_place : (place : Place) → IsSamePlace place place
-same_place Nowhere = tt
-same_place (Memory h) = refl
-same_place (File name h) = (refl, read_itself _ h)
+pub same_place : {S : Type 0} (g : Ghosts S) (place : Place S) → IsSamePlace g place place
+same_place g Nowhere = tt
+same_place g (Memory h) = refl
+same_place g (File name h) = (refl, read_itself _ h)

@@ -11,7 +11,6 @@ use Rattle.sqlite.specs.Order.{column}
 use Rattle.sqlite.specs.State.{HasCleanDisk}
 use Rattle.sqlite.specs.Store.{Ghosts}
 use Rattle.sqlite.specs.Held.{Held, state}
-use Rattle.sqlite.specs.Files.{over_files}
 use Rattle.gql_values3.specs.Texts.{same_text}
 use Rattle.gql_ports.specs.declared.stored.Record.{Record}
 use Rattle.gql_keep_sql.specs.declared.place.Place.{Place}
@@ -33,18 +32,18 @@ rows_of_records (row ∷ rows) (r ∷ records) pairs = rw (row_of_record row r p
 -- ---- runs
 
 -- the rows of a run were selected
-pub run_selected : (from : List ℕ) (records : List Record) (old new : Place) → IsRun from records old new → All (IsInRow (λ row. IsSelected row old new)) records
-run_selected from records (File name old) (File new_name new) told =
-    All-weaker (IsInRow (λ row. HasCleanDisk (state over_files new) → Selects over_files row old new)) (IsInRow (λ row. IsSelected row (File name old) (File new_name new)))
-    (λ r it. (it.0, it.1, (told.0, it.2))) records (run_in_rows over_files from records old new told.1)
-run_selected from records (File name old) Nowhere told = absurd told
-run_selected from records (File name old) (Memory new) told = absurd told
-run_selected from records Nowhere new told = absurd told
-run_selected from records (Memory old) new told = absurd told
+pub run_selected : {S : Type 0} (g : Ghosts S) (from : List ℕ) (records : List Record) (old new : Place S) → IsRun g from records old new → All (IsInRow (λ row. IsSelected g row old new)) records
+run_selected g from records (File name old) (File new_name new) told =
+    All-weaker (IsInRow (λ row. HasCleanDisk (state g new) → Selects g row old new)) (IsInRow (λ row. IsSelected g row (File name old) (File new_name new)))
+    (λ r it. (it.0, it.1, (told.0, it.2))) records (run_in_rows g from records old new told.1)
+run_selected g from records (File name old) Nowhere told = absurd told
+run_selected g from records (File name old) (Memory new) told = absurd told
+run_selected g from records Nowhere new told = absurd told
+run_selected g from records (Memory old) new told = absurd told
 
 -- as they stand in a list in reverse
-pub run_in_reverse : (from : List ℕ) (records run : List Record) (old new : Place) → run ≡ reverse records → IsRun from records old new → IsRun from (reverse run) old new
-run_in_reverse from records run old new is told = subst (λ xs. IsRun from xs old new) (sym (ap reverse is ∙ reverse-reverse records)) told
+pub run_in_reverse : {S : Type 0} (g : Ghosts S) (from : List ℕ) (records run : List Record) (old new : Place S) → run ≡ reverse records → IsRun g from records old new → IsRun g from (reverse run) old new
+run_in_reverse g from records run old new is told = subst (λ xs. IsRun g from xs old new) (sym (ap reverse is ∙ reverse-reverse records)) told
 
 and_false : (a b : Bool) → b ≡ false → (a && b) ≡ false
 and_false true b h = h
@@ -61,12 +60,12 @@ fails_to_select g key old new e why clean = elim (why clean) [
   | inr told ↦ inr (told.0, told.1, fewer_begin key told.0 told.2)
 ]
 
-pub fails_to_begin : (key : List ℕ) (old new : Place) (e : Error) → FailsToRead key (list_all is_record) old new e → FailsToRead key (begin_with key) old new e
-fails_to_begin key (File name old) (File new_name new) e why = fails_to_select over_files key old new e why
-fails_to_begin key (File name old) Nowhere e why = absurd why
-fails_to_begin key (File name old) (Memory new) e why = absurd why
-fails_to_begin key Nowhere new e why = tt
-fails_to_begin key (Memory old) new e why = tt
+pub fails_to_begin : {S : Type 0} (g : Ghosts S) (key : List ℕ) (old new : Place S) (e : Error) → FailsToRead g key (list_all is_record) old new e → FailsToRead g key (begin_with key) old new e
+fails_to_begin g key (File name old) (File new_name new) e why = fails_to_select g key old new e why
+fails_to_begin g key (File name old) Nowhere e why = absurd why
+fails_to_begin g key (File name old) (Memory new) e why = absurd why
+fails_to_begin g key Nowhere new e why = tt
+fails_to_begin g key (Memory old) new e why = tt
 
 other_bytes : (key own : List ℕ) (value : Value) → value ≡ Blob own → same_text own key ≡ false → has_bytes key value ≡ false
 other_bytes key own value is other = ap (has_bytes key) is ∙ other
@@ -95,30 +94,30 @@ pub last_same : (xs ys : List Record) (x y : Record) → xs ++ x ∷ [] ≡ ys +
 last_same xs ys x y same = let both : x ∷ reverse xs ≡ y ∷ reverse ys = sym (reverse-append xs (x ∷ [])) ∙ ap reverse same ∙ reverse-append ys (y ∷ []) in cc
 
 -- a run whose next record is not taken, since it has another key, is none from that key on
-pub untaken : (key : List ℕ) (run : List Record) (taken : Option Record) (old new : Place) (e : Error) → IsRun key (reverse run) old new
-    → ((front : List Record) (r : Record) → run ≡ front ++ r ∷ [] → r.key ≡ key → taken ≡ Some r) → taken ≡ None → FailsToRead key (begin_with key) old new e
-untaken key run taken (File name old) (File new_name new) e told next none = λ clean.
+pub untaken : {S : Type 0} (g : Ghosts S) (key : List ℕ) (run : List Record) (taken : Option Record) (old new : Place S) (e : Error) → IsRun g key (reverse run) old new
+    → ((front : List Record) (r : Record) → run ≡ front ++ r ∷ [] → r.key ≡ key → taken ≡ Some r) → taken ≡ None → FailsToRead g key (begin_with key) old new e
+untaken g key run taken (File name old) (File new_name new) e told next none = λ clean.
     inr (
       told.1.0,
       told.1.2 clean,
       other_first key told.1.0 (reverse run) told.1.1
           (λ r more is. not_same r.key key (λ same. let some = next (reverse more) r (sym (reverse-reverse run) ∙ ap reverse is ∙ reverse-append (r ∷ []) more) same in absurd cc)),
     )
-untaken key run taken (File name old) Nowhere e told next none = absurd told
-untaken key run taken (File name old) (Memory new) e told next none = absurd told
-untaken key run taken Nowhere new e told next none = absurd told
-untaken key run taken (Memory old) new e told next none = absurd told
+untaken g key run taken (File name old) Nowhere e told next none = absurd told
+untaken g key run taken (File name old) (Memory new) e told next none = absurd told
+untaken g key run taken Nowhere new e told next none = absurd told
+untaken g key run taken (Memory old) new e told next none = absurd told
 
 -- ---- records in memory
 
 -- what stands at the place has another key
-pub missed : (place new : Place) (index : ℕ) (key : List ℕ) (r : Record) (e : Error) → Some r ≡ held_at place index → same_text r.key key ≡ false → FailsToFetch index key place new e
-missed (Memory records) new index key r e is other = rw (sym is) other
-missed Nowhere new index key r e is other = absurd cc
-missed (File name old) new index key r e is other = absurd cc
+pub missed : {S : Type 0} (g : Ghosts S) (place new : Place S) (index : ℕ) (key : List ℕ) (r : Record) (e : Error) → Some r ≡ held_at place index → same_text r.key key ≡ false → FailsToFetch g index key place new e
+missed g (Memory records) new index key r e is other = rw (sym is) other
+missed g Nowhere new index key r e is other = absurd cc
+missed g (File name old) new index key r e is other = absurd cc
 
 -- or nothing does
-pub unheld : (place new : Place) (index : ℕ) (key : List ℕ) (e : Error) → None ≡ held_at place index → FailsToRead key (begin_with key) place new e → FailsToFetch index key place new e
-unheld (Memory records) new index key e is why = rw (sym is) tt
-unheld Nowhere new index key e is why = why
-unheld (File name old) new index key e is why = why
+pub unheld : {S : Type 0} (g : Ghosts S) (place new : Place S) (index : ℕ) (key : List ℕ) (e : Error) → None ≡ held_at place index → FailsToRead g key (begin_with key) place new e → FailsToFetch g index key place new e
+unheld g (Memory records) new index key e is why = rw (sym is) tt
+unheld g Nowhere new index key e is why = why
+unheld g (File name old) new index key e is why = why

@@ -30,11 +30,11 @@ not_asked g puts drops h = record {
 pub unaltered : (puts : List Record) (drops : List (List ℕ)) (records : List Record) → Alters puts drops false records records
 unaltered puts drops records = record { all = λ done. absurd cc; ordered = λ done. absurd cc; nothing = λ not_done. refl }
 
-pub unwritten : (puts : List Record) (drops : List (List ℕ)) (place : Place) → Writes puts drops false place place
-unwritten puts drops Nowhere = refl
-unwritten puts drops (Memory h) = unaltered puts drops h.items
-unwritten puts drops (File name h) = (refl, not_asked _ puts drops h)
+pub unwritten : {S : Type 0} (g : Ghosts S) (puts : List Record) (drops : List (List ℕ)) (place : Place S) → Writes g puts drops false place place
+unwritten g puts drops Nowhere = refl
+unwritten g puts drops (Memory h) = unaltered puts drops h.items
+unwritten g puts drops (File name h) = (refl, not_asked _ puts drops h)
 
 -- so it is where the answer is no
-pub unwritten_if : (puts : List Record) (drops : List (List ℕ)) (done : Bool) (place : Place) → done ≡ false → Writes puts drops done place place
-unwritten_if puts drops done place is = subst (λ b. Writes puts drops b place place) (sym is) (unwritten puts drops place)
+pub unwritten_if : {S : Type 0} (g : Ghosts S) (puts : List Record) (drops : List (List ℕ)) (done : Bool) (place : Place S) → done ≡ false → Writes g puts drops done place place
+unwritten_if g puts drops done place is = subst (λ b. Writes g puts drops b place place) (sym is) (unwritten g puts drops place)

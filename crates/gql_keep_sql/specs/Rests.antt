@@ -9,6 +9,6 @@ abbrev pub Rests : {S : Type 0} → Held S → Held S → Type 0
 Rests old new = old.in_transaction ≡ false → new.in_transaction ≡ false
 
 -- no transaction is open at the place
-abbrev pub IsAtRest : Place → Type 0
+abbrev pub IsAtRest : {S : Type 0} → Place S → Type 0
 IsAtRest (File name conn) = conn.in_transaction ≡ false
 IsAtRest place = ⊤

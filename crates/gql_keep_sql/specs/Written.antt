@@ -4,7 +4,6 @@ use Rattle.sqlite.specs.Store.{Ghosts}
 use Rattle.sqlite.specs.Effect.{Database}
 use Rattle.sqlite.specs.State.{HasCleanDisk, Survives}
 use Rattle.sqlite.specs.Held.{Held, state}
-use Rattle.sqlite.specs.Files.{over_files}
 use Rattle.gql_ports.specs.declared.stored.Record.{Record}
 use Rattle.gql_keep_sql.specs.declared.place.Place.{Place}
 use Rattle.gql_keep_sql.specs.declared.place.Place.TheVariants.{Nowhere, Memory, File}
@@ -47,15 +46,15 @@ pub record Alters (puts : List Record) (drops : List (List ℕ)) (done : Bool) (
   pub nothing : done ≡ false → new ≡ old
 
 -- the place stays, and its records are changed, or its connection writes; where nothing is open, nothing is written
-abbrev pub Writes : List Record → List (List ℕ) → Bool → Place → Place → Type 0
-Writes puts drops done Nowhere Nowhere = done ≡ false
-Writes puts drops done (Memory old) (Memory new) = Alters puts drops done old.items new.items
-Writes puts drops done (File name old) (File new_name new) = (new_name ≡ name) × Transacts over_files puts drops done old new
-Writes puts drops done _ _ = ⊥
+abbrev pub Writes : {S : Type 0} → Ghosts S → List Record → List (List ℕ) → Bool → Place S → Place S → Type 0
+Writes g puts drops done Nowhere Nowhere = done ≡ false
+Writes g puts drops done (Memory old) (Memory new) = Alters puts drops done old.items new.items
+Writes g puts drops done (File name old) (File new_name new) = (new_name ≡ name) × Transacts g puts drops done old new
+Writes g puts drops done _ _ = ⊥
 
 -- why nothing was written: nothing is open, a key stands twice, or SQLite refused it
-abbrev pub FailsToWrite : List Record → List (List ℕ) → Place → Place → Error → Type 0
-FailsToWrite puts drops Nowhere new e = ⊤
-FailsToWrite puts drops (Memory old) new e = texts_differ (keys_of puts ++ drops) ≡ false
-FailsToWrite puts drops (File name old) (File new_name new) e = FailsToRewrite over_files puts drops old new e
-FailsToWrite puts drops (File name old) new e = ⊥
+abbrev pub FailsToWrite : {S : Type 0} → Ghosts S → List Record → List (List ℕ) → Place S → Place S → Error → Type 0
+FailsToWrite g puts drops Nowhere new e = ⊤
+FailsToWrite g puts drops (Memory old) new e = texts_differ (keys_of puts ++ drops) ≡ false
+FailsToWrite g puts drops (File name old) (File new_name new) e = FailsToRewrite g puts drops old new e
+FailsToWrite g puts drops (File name old) new e = ⊥

@@ -6,6 +6,8 @@ ghost use Rattle.gql_values3.specs.Texts.{texts_differ, texts_ascend};
 ghost use Rattle.gql_ports.specs.Causes.{Rose, count_after};
 ghost use Rattle.gql_ports.specs.Told.{MatchTold};
 ghost use Rattle.gql_ports.specs.Held.{held_after_opening, keys_ascend, Applies};
+ghost use Rattle.sqlite.specs.Files.{over_files};
+ghost use Rattle.sqlite.specs.WalFiles.{image_at};
 ghost use Rattle.gql_keep_sql.specs.Told.{told_by};
 ghost use Rattle.gql_keep_sql.specs.Keys.{has_key, keys_of, stands_after};
 ghost use Rattle.gql_keep_sql.specs.declared.place.Place.TheVariants.{Nowhere};
@@ -20,31 +22,36 @@ ghost use Rattle.std.specs.Vec.{vec_capacity};
 use crate::changes::Changes;
 use crate::fault::{NOT_A_STORE, counted};
 use crate::keys::Keys;
-use crate::place::Place;
-use crate::reader::Reader;
+use crate::place::{Place, StoreFiles, Supposed};
+use crate::reader::{self, Reader};
 use gql_ports::{KeepFault, Keeper, Key, Record};
-use sqlite::Error;
+use sqlite::{Alter, Error, Start, Wary};
 use std::alloc::Global;
 
-/// Records in a SQLite file, or in memory where there is no name.
+/// Records in a SQLite file, or in memory where there is no name, as a program opens them: its commits survive a power cut,
+/// whatever a torn write leaves. Of a file that is not empty, what is said of values is said over any `S: Start` in place of
+/// `Wary`.
+pub type SqlKeeper<'a> = KeeperOver<'a, StoreFiles<Wary>>;
+
+/// The same over a store of any kind.
 #[derive(Drop)]
-pub struct SqlKeeper<'a> {
+pub struct KeeperOver<'a, S: Alter> {
     rt: &'a HostRuntime,
     alloc: Global,
-    reader: Reader,
+    reader: Reader<S>,
     keys: Keys,
     /// How many calls failed.
     faults: u64,
 }
 
-impl<'a> SqlKeeper<'a> {
+impl<'a, S: Alter> KeeperOver<'a, S> {
     /// Opens nothing, and takes no memory.
-    pub fn new(rt: &'a HostRuntime, alloc: Global) -> SqlKeeper<'a>
+    pub fn new(rt: &'a HostRuntime, alloc: Global) -> KeeperOver<'a, S>
         ensures keys { result.keys ≡ [] }
         ensures place { result.reader.place ≡ Nowhere }
         ensures faults { result.faults ≡ 0 }
     {
-        SqlKeeper {
+        KeeperOver {
             rt,
             alloc,
             reader: Reader::new(alloc, Place::Nowhere),
@@ -52,7 +59,9 @@ impl<'a> SqlKeeper<'a> {
             faults: 0,
         }
     }
+}
 
+impl<'a, S: Start> KeeperOver<'a, StoreFiles<S>> {
     /// Copies SQLite's log into the file, which then stands alone. Without it the log stays beside the file, and the next
     /// opening reads both.
     pub fn close(self) -> Result<(), KeepFault>
@@ -61,11 +70,11 @@ impl<'a> SqlKeeper<'a> {
         ensures refused { FailedBy result (FailsToClose self.entry.reader.place) }
     {
         let mut faults = self.faults;
-        counted(&mut faults, self.reader.close())
+        counted(&mut faults, reader::close(self.reader))
     }
 }
 
-impl<'a> Keeper for SqlKeeper<'a> {
+impl<'a, S: Start + Supposed> Keeper for KeeperOver<'a, StoreFiles<S>> {
     ghost held = { told_by };
 
     ghost count = { λ k. length k.keys };
@@ -79,7 +88,7 @@ impl<'a> Keeper for SqlKeeper<'a> {
         ensures failed { result ≡ Err KeepFault.Failed → Rose self.old.faults self.new.faults }
         ensures risen { self.new.faults ≡ count_after result self.old.faults }
         ensures under { OnOk result (IsUnder (option_copied name.entry) self.new.reader.place) }
-        ensures listed { OnOk result (AreAllKeys self.new.keys self.new.reader.place ⊎ ((self.new.keys ≡ self.old.keys) × (self.new.reader.place ≡ self.old.reader.place))) }
+        ensures listed { OnOk result (AreAllKeys over_files (image_at S.Start) self.new.keys self.new.reader.place ⊎ ((self.new.keys ≡ self.old.keys) × (self.new.reader.place ≡ self.old.reader.place))) }
         ensures kept { OnErr result ((self.new.keys ≡ self.old.keys) × (self.new.reader.place ≡ self.old.reader.place)) }
         ensures memory { option_copied name.entry ≡ None → result ≢ Err KeepFault.Failed }
         ensures own { IsUnder (option_copied name.entry) self.old.reader.place → (result ≡ Ok tt) × (self.new ≡ self.old) }
@@ -87,7 +96,7 @@ impl<'a> Keeper for SqlKeeper<'a> {
         if self.reader.is_open_as(name) {
             return Ok(());
         }
-        let opened = Reader::open(self.rt, self.alloc, name);
+        let opened = reader::open(self.rt, self.alloc, name);
         let (reader, keys) = counted(&mut self.faults, opened)?;
         self.reader = reader;
         self.keys = keys;
@@ -112,10 +121,10 @@ impl<'a> Keeper for SqlKeeper<'a> {
         ensures failed { result ≡ Err KeepFault.Failed → Rose self.old.faults self.new.faults }
         ensures risen { self.new.faults ≡ count_after result self.old.faults }
         ensures key { IfOk result (λ r. slice_get self.old.keys index ≡ Some r.key) }
-        ensures value { IfOk result (λ r. ∥ Fetches r.key r.value self.old.reader.place self.new.reader.place ∥₁) }
+        ensures value { IfOk result (λ r. ∥ Fetches over_files r.key r.value self.old.reader.place self.new.reader.place ∥₁) }
         ensures keys { self.new.keys ≡ self.old.keys }
-        ensures place { IsSamePlace self.old.reader.place self.new.reader.place }
-        ensures refused { FailedBy result (λ e. IfSome (slice_get self.old.keys index) (λ key. FailsToFetch index key self.old.reader.place self.new.reader.place e)) }
+        ensures place { IsSamePlace over_files self.old.reader.place self.new.reader.place }
+        ensures refused { FailedBy result (λ e. IfSome (slice_get self.old.keys index) (λ key. FailsToFetch over_files index key self.old.reader.place self.new.reader.place e)) }
     {
         let Some(key) = self.keys.get(index as usize) else {
             unreachable!()
@@ -133,8 +142,8 @@ impl<'a> Keeper for SqlKeeper<'a> {
         ensures risen { self.new.faults ≡ count_after result self.old.faults }
         ensures stand { OnOk result ((key : List ℕ) → has_key self.new.keys key ≡ stands_after puts.now drops.now key (has_key self.old.keys key)) }
         ensures kept { OnErr result (self.new.keys ≡ self.old.keys) }
-        ensures writes { Writes puts.now drops.now (is_ok result) self.old.reader.place self.new.reader.place }
-        ensures refused { FailedBy result (FailsToWrite puts.now drops.now self.old.reader.place self.new.reader.place) }
+        ensures writes { Writes over_files puts.now drops.now (is_ok result) self.old.reader.place self.new.reader.place }
+        ensures refused { FailedBy result (FailsToWrite over_files puts.now drops.now self.old.reader.place self.new.reader.place) }
     {
         let written = self.write(puts, drops);
         let (changes, room) = counted(&mut self.faults, written)?;
@@ -143,13 +152,13 @@ impl<'a> Keeper for SqlKeeper<'a> {
     }
 }
 
-impl<'a> SqlKeeper<'a> {
+impl<'a, S: Alter> KeeperOver<'a, S> {
     /// Writes all in one transaction, or nothing. The changes of the keys and the room for them are made before.
     fn write(&mut self, puts: &[Record], drops: &[Key]) -> Result<(Changes, Vec<Key>), Error>
         ensures keys { self.new.keys ≡ self.old.keys }
         ensures faults { self.new.faults ≡ self.old.faults }
-        ensures writes { Writes puts.now drops.now (is_ok result) self.old.reader.place self.new.reader.place }
-        ensures refused { FailsOnlyBy result (λ e. (texts_differ (keys_of puts.now ++ drops.now) ≡ false) ⊎ FailsToWrite puts.now drops.now self.old.reader.place self.new.reader.place e) }
+        ensures writes { Writes S.Store puts.now drops.now (is_ok result) self.old.reader.place self.new.reader.place }
+        ensures refused { FailsOnlyBy result (λ e. (texts_differ (keys_of puts.now ++ drops.now) ≡ false) ⊎ FailsToWrite S.Store puts.now drops.now self.old.reader.place self.new.reader.place e) }
         ensures stand { IfOk result (λ ready. (key : List ℕ) (before : Bool) → stands_under ready.0 key before ≡ stands_after puts.now drops.now key before) }
         ensures empty { IfOk result (λ ready. ready.1.items ≡ []) }
         ensures room { IfOk result (λ ready. length self.old.keys + length ready.0 ≤ vec_capacity ready.1) }

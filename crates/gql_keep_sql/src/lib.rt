@@ -15,7 +15,8 @@ mod reader;
 mod store;
 mod transaction;
 
-pub use keeper::SqlKeeper;
+pub use keeper::{KeeperOver, SqlKeeper};
+pub use place::{StoreFiles, Supposed};
 
 #[cfg(test)]
 mod tests;

@@ -3,9 +3,12 @@
 ghost use Rattle.std.specs.Prelude.{◌≡◌, Some, None, IfOk, IfErr, OnOk, OnErr, IsOk, IsTrue, is_ok};
 ghost use Rattle.std.specs.List.{list_all};
 ghost use Rattle.sqlite.specs.Held.{IsNew};
+ghost use Rattle.sqlite.specs.State.{HasCleanDisk};
+ghost use Rattle.sqlite.specs.Files.{over_files, file_state};
+ghost use Rattle.sqlite.specs.WalFiles.{image_at};
 ghost use Rattle.sqlite.specs.Opening.{is_open_error};
 ghost use Rattle.std.specs.Option.{option_copied};
-ghost use Rattle.gql_keep_sql.specs.Fetched.{AreAllRecords, IsRun, is_record, FailsToRead, held_at};
+ghost use Rattle.gql_keep_sql.specs.Fetched.{HasFound, AreAllRecords, IsRun, is_record, FailsToRead, held_at};
 ghost use Rattle.gql_keep_sql.specs.Closing.{IsClosed, FailsToClose};
 ghost use Rattle.gql_keep_sql.specs.Places.{IsUnder, IsFile, IsSamePlace};
 ghost use Rattle.gql_keep_sql.specs.Refusals.{FailsOnlyBy};
@@ -14,39 +17,34 @@ ghost use Rattle.gql_keep_sql.specs.Written.{Writes, FailsToWrite};
 use crate::fault::{CLOSED, NOT_A_STORE};
 use crate::{memory, store, transaction};
 use gql_ports::{Key, Record};
-use sqlite::{Connection, Error, FileFrom, FileStore, Wary};
+use sqlite::{Alter, Connection, Error, FileFrom, FileStore, Start, Wary};
 use std::alloc::Global;
 
-/// A database file, whose commits survive a power cut whatever a torn write leaves.
-type FileConnection = Connection<FileStore<FileFrom<Wary>>>;
+/// A database file and its log, which held what `S` says as they were opened.
+pub type StoreFiles<S> = FileStore<FileFrom<S>>;
+
+/// First contents of a file, of which each opening takes a value.
+pub trait Supposed {
+    fn supposed() -> Self;
+}
+
+impl Supposed for Wary {
+    fn supposed() -> Wary {
+        Wary
+    }
+}
 
 /// Where the records are.
 #[derive(Drop)]
-pub enum Place {
+pub enum Place<S: Alter> {
     /// Nothing was opened.
     Nowhere,
     /// In memory, in ascending order of their keys.
     Memory(Vec<Record>),
-    File(String, FileConnection),
+    File(String, Connection<S>),
 }
 
-impl Place {
-    /// Opens the named file, or memory where there is no name, and reads all records, in the order in which they lie.
-    pub fn open(
-        rt: &HostRuntime,
-        alloc: Global,
-        name: Option<&str>,
-    ) -> Result<(Place, Vec<Record>), Error>
-        ensures under { IfOk result (λ opened. IsUnder (option_copied name.entry) opened.0) }
-        ensures all { IfOk result (λ opened. AreAllRecords opened.1.items opened.0) }
-        ensures memory { option_copied name.entry ≡ None → IsOk result }
-    {
-        match name {
-            Some(name) => open_file(rt, alloc, name),
-            None => Ok(open_memory(alloc)),
-        }
-    }
-
+impl<S: Alter> Place<S> {
     /// Whether it is open under that name, or without one.
     pub fn is_open_as(&self, name: Option<&str>) -> bool
         ensures own { IsTrue result → IsUnder (option_copied name.entry) self.now }
@@ -71,9 +69,9 @@ impl Place {
 
     /// A run of records, from that key on.
     pub fn select(&mut self, alloc: Global, from: &Key) -> Result<Vec<Record>, Error>
-        ensures place { IsSamePlace self.old self.new }
-        ensures read { IfOk result (λ records. IsRun from.now records.items self.old self.new) }
-        ensures refused { FailsOnlyBy result (FailsToRead from.now (list_all is_record) self.old self.new) }
+        ensures place { IsSamePlace S.Store self.old self.new }
+        ensures read { IfOk result (λ records. IsRun S.Store from.now records.items self.old self.new) }
+        ensures refused { FailsOnlyBy result (FailsToRead S.Store from.now (list_all is_record) self.old self.new) }
     {
         match self {
             Place::Nowhere => Err(CLOSED),
@@ -84,8 +82,8 @@ impl Place {
 
     /// Puts and drops all of these, or changes nothing.
     pub fn write(&mut self, puts: &[Record], drops: &[Key]) -> Result<(), Error>
-        ensures writes { Writes puts.now drops.now (is_ok result) self.old self.new }
-        ensures refused { FailsOnlyBy result (FailsToWrite puts.now drops.now self.old self.new) }
+        ensures writes { Writes S.Store puts.now drops.now (is_ok result) self.old self.new }
+        ensures refused { FailsOnlyBy result (FailsToWrite S.Store puts.now drops.now self.old self.new) }
     {
         match self {
             Place::Nowhere => Err(CLOSED),
@@ -93,30 +91,50 @@ impl Place {
             Place::File(_, conn) => transaction::write(conn, puts, drops),
         }
     }
+}
 
-    /// Copies SQLite's log into the file, which then stands alone.
-    pub fn close(self) -> Result<(), Error>
-        ensures closed { OnOk result (IsClosed self) }
-        ensures memory { OnErr result (IsFile self) }
-        ensures refused { IfErr result (FailsToClose self) }
-    {
-        match self {
-            Place::Nowhere => Ok(()),
-            Place::Memory(_) => Ok(()),
-            Place::File(_, conn) => match conn.close_files() {
-                Ok(_) => Ok(()),
-                Err((error, store)) => {
-                    drop(store.close());
-                    Err(error)
-                }
-            },
-        }
+/// Opens the named file, or memory where there is no name, and reads all records, in the order in which they lie.
+pub fn open<S: Start + Supposed>(
+    rt: &HostRuntime,
+    alloc: Global,
+    name: Option<&str>,
+) -> Result<(Place<StoreFiles<S>>, Vec<Record>), Error>
+    ensures under { IfOk result (λ opened. IsUnder (option_copied name.entry) opened.0) }
+    ensures all { IfOk result (λ opened. AreAllRecords over_files (image_at S.Start) opened.1.items opened.0) }
+    ensures memory { option_copied name.entry ≡ None → IsOk result }
+{
+    match name {
+        Some(name) => open_file(rt, alloc, name),
+        None => Ok(open_memory(alloc)),
     }
 }
 
-fn open_file(rt: &HostRuntime, alloc: Global, name: &str) -> Result<(Place, Vec<Record>), Error>
+/// Copies SQLite's log into the file, which then stands alone.
+pub fn close<S: Start>(place: Place<StoreFiles<S>>) -> Result<(), Error>
+    ensures closed { OnOk result (IsClosed place) }
+    ensures memory { OnErr result (IsFile place) }
+    ensures refused { IfErr result (FailsToClose place) }
+{
+    match place {
+        Place::Nowhere => Ok(()),
+        Place::Memory(_) => Ok(()),
+        Place::File(_, conn) => match conn.close_files() {
+            Ok(_) => Ok(()),
+            Err((error, store)) => {
+                drop(store.close());
+                Err(error)
+            }
+        },
+    }
+}
+
+fn open_file<S: Start + Supposed>(
+    rt: &HostRuntime,
+    alloc: Global,
+    name: &str,
+) -> Result<(Place<StoreFiles<S>>, Vec<Record>), Error>
     ensures under { IfOk result (λ opened. IsUnder (Some name.now) opened.0) }
-    ensures all { IfOk result (λ opened. AreAllRecords opened.1.items opened.0) }
+    ensures all { IfOk result (λ opened. AreAllRecords over_files (image_at S.Start) opened.1.items opened.0) }
 {
     let own = String::from_str(alloc, name)?;
     let mut conn = connect(rt, name)?;
@@ -128,19 +146,23 @@ fn open_file(rt: &HostRuntime, alloc: Global, name: &str) -> Result<(Place, Vec<
     Ok((Place::File(own, conn), records))
 }
 
-fn connect(rt: &HostRuntime, path: &str) -> Result<FileConnection, Error>
+fn connect<S: Start + Supposed>(
+    rt: &HostRuntime,
+    path: &str,
+) -> Result<Connection<StoreFiles<S>>, Error>
     ensures new { IfOk result IsNew }
+    ensures found { IfOk result (λ conn. HasCleanDisk (file_state conn) → HasFound over_files (image_at S.Start) conn) }
     ensures named { IfErr result (λ e. IsTrue (is_open_error e)) }
 {
-    match Connection::open_from(rt, path, false, Wary) {
+    match Connection::open_from(rt, path, false, S::supposed()) {
         Ok(conn) => Ok(conn),
         Err((error, _)) => Err(error),
     }
 }
 
-fn open_memory(alloc: Global) -> (Place, Vec<Record>)
+fn open_memory<S: Start>(alloc: Global) -> (Place<StoreFiles<S>>, Vec<Record>)
     ensures under { IsUnder None result.0 }
-    ensures all { AreAllRecords result.1.items result.0 }
+    ensures all { AreAllRecords over_files (image_at S.Start) result.1.items result.0 }
 {
     (Place::Memory(Vec::new(alloc)), Vec::new(alloc))
 }

@@ -39,6 +39,7 @@ const RUN: &str = "SELECT key, value FROM record WHERE key >= ?1 ORDER BY key LI
 pub fn establish<S: Alter>(conn: &mut Connection<S>) -> Result<(), Error>
     ensures made { HasCleanDisk (state S.Store conn.new) → OnOk result (Establishes S.Store conn.old conn.new) }
     ensures refused { FailsOnlyBy result (FailsToEstablish S.Store conn.old conn.new) }
+    ensures clean { HasCleanDisk (state S.Store conn.new) → HasCleanDisk (state S.Store conn.old) }
 {
     let objects = conn.query_all(OBJECTS, &[])?;
     match objects.as_slice() {

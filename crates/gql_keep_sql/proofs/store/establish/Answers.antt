@@ -25,6 +25,9 @@ returns-in-len1-clause-made g c clean =
     let ours : is_text table (column c.only-item.result 0) ≡ true = search rules in
     inl (c.only-item.result, rw one at c.in_ok-objects.ensures.ok clean, ours)
 
+pub returns-in-empty-clause-clean : goal.returns-in-empty-clause-clean
+returns-in-empty-clause-clean g c clean = let mid = c.make.ensures.clean clean in omega (arith, mid, c.query_all.ensures.survives.clean)
+
 pub returns-clause-refused : goal.returns-clause-refused
 returns-clause-refused g c =
     elim c.if-this-lt2.branch [
