@@ -1,6 +1,6 @@
 //! The first refusal of one expression, by a call for each question: its names, what is misused, its parameters.
 
-ghost use Rattle.std.specs.Prelude.{[], ◌∷◌, option_map};
+ghost use Rattle.std.specs.Prelude.{◌≡◌, [], ◌∷◌, IfErr, option_map};
 ghost use Rattle.std.specs.Option.{option_copied};
 ghost use Rattle.gql_expr_checks.specs.ExprMisuses.{misused_expr, elsewhere, item};
 ghost use Rattle.gql_expr_checks.specs.ExprNames.{unknown_in_expr};
@@ -29,9 +29,10 @@ pub fn check_names(alloc: Global, scope: &KnownColumns, expr: &Expr) -> Result<(
     }
 }
 
-/// Checks an expression at its place.
+/// Checks an expression at its place. It takes no memory, so its one error is the misuse.
 fn check_at(scope: &KnownColumns, place: &Place, expr: &Expr) -> Result<(), ScopeFault>
-    ensures { Gives result (misuse_if (misused_expr (columns_at scope.now place.now) (place_of place.now) expr.now)) }
+    ensures gives { Gives result (misuse_if (misused_expr (columns_at scope.now place.now) (place_of place.now) expr.now)) }
+    ensures misuse { IfErr result (λ fault. fault ≡ ScopeFault.Defect Refusal.Misuse) }
 {
     if is_misused(scope, place, expr) {
         return Err(ScopeFault::Defect(Refusal::Misuse));
@@ -41,14 +42,16 @@ fn check_at(scope: &KnownColumns, place: &Place, expr: &Expr) -> Result<(), Scop
 
 /// Checks an expression outside the items of RETURN.
 pub fn check_misuse(scope: &KnownColumns, expr: &Expr) -> Result<(), ScopeFault>
-    ensures { Gives result (misuse_if (misused_expr scope.now elsewhere expr.now)) }
+    ensures gives { Gives result (misuse_if (misused_expr scope.now elsewhere expr.now)) }
+    ensures misuse { IfErr result (λ fault. fault ≡ ScopeFault.Defect Refusal.Misuse) }
 {
     check_at(scope, &Place::Elsewhere, expr)
 }
 
 /// Checks an expression among the items of RETURN.
 pub fn check_item(scope: &KnownColumns, expr: &Expr) -> Result<(), ScopeFault>
-    ensures { Gives result (misuse_if (misused_expr scope.now item expr.now)) }
+    ensures gives { Gives result (misuse_if (misused_expr scope.now item expr.now)) }
+    ensures misuse { IfErr result (λ fault. fault ≡ ScopeFault.Defect Refusal.Misuse) }
 {
     check_at(scope, &Place::Item, expr)
 }

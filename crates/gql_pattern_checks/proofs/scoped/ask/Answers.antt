@@ -21,4 +21,4 @@ returns c =
     let tree = tree_of c.args.expr.now in
     subst (λ o. Gives c.check_misuse.result o)
     (ap (λ cs. refused_under question.Misuses cs tree) c.in_ok-seen.ensures ∙ asked_under_seen question.Misuses columns tree ∙ ap (λ q. refused_under q columns tree) (sym c.in-Misuses.is))
-    c.check_misuse.ensures
+    c.check_misuse.ensures.gives

@@ -8,4 +8,4 @@ pub returns-in_err-check_misuse : goal.returns-in_err-check_misuse
 returns-in_err-check_misuse c =
     let below : c.loop-item.item-index < length c.args.keys.now = omega arith in
     stops_at (misuses_asked (λ (i : SortItem). misused_expr c.args.scope.now elsewhere i.key)) c.args.keys.now c.loop-item.item-index c.item-item.result below c.item-item.is c.loop-item.invariant
-    c.from_residual.result c.in_err-check_misuse.field-0.0 c.from_residual.ensures.0 c.from_residual.ensures.1 c.in_err-check_misuse.ensures
+    c.from_residual.result c.in_err-check_misuse.field-0.0 c.from_residual.ensures.0 c.from_residual.ensures.1 c.in_err-check_misuse.ensures.gives
