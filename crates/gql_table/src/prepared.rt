@@ -1,6 +1,6 @@
 //! The values of expressions in a row, which are prepared once for all rows of a clause.
 
-ghost use Rattle.std.specs.Prelude.{◌≡◌, map, IfOk};
+ghost use Rattle.std.specs.Prelude.{◌≡◌, [], map, IfOk};
 ghost use Rattle.gql_values3.specs.Meaning.{datum_of};
 ghost use Rattle.gql_ast.specs.Faults.{each};
 ghost use Rattle.gql_ast.specs.Meaning.{tree_of};
@@ -81,7 +81,22 @@ pub fn prepared_cells<V: View>(
 ) -> Result<Row, EvalError>
     ensures { Gives (λ r. r) result (each (λ p. prepared_value (V.graph view.now) p (map datum_of row.now)) prepared.now) }
 {
-    let mut values = empty_row(alloc, prepared.len())?;
+    let room = empty_row(alloc, prepared.len())?;
+    cells_in_room(alloc, view, prepared, row, room)
+}
+
+/// The same in a row that holds nothing yet.
+pub fn cells_in_room<V: View>(
+    alloc: Global,
+    view: &V,
+    prepared: &[Prepared],
+    row: &[Value],
+    room: Row,
+) -> Result<Row, EvalError>
+    requires { room ≡ [] }
+    ensures { Gives (λ r. r) result (each (λ p. prepared_value (V.graph view.now) p (map datum_of row.now)) prepared.now) }
+{
+    let mut values = room;
     for i in 0..prepared.len() {
         let value = prepared_cell(alloc, view, &prepared[i], row)?;
         values.push(value)?;

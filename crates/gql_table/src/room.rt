@@ -30,6 +30,16 @@ pub fn with_room(row: Row, count: usize) -> Result<Row, OutOfMemory>
     Ok(Row::from_vec(values))
 }
 
+/// The row without its values, with room for at least so many.
+pub fn emptied(row: Row, room: usize) -> Result<Row, OutOfMemory>
+    ensures { IfOk result (λ empty. empty ≡ []) }
+{
+    let mut values = row.into_vec();
+    values.clear();
+    values.reserve_exact(room)?;
+    Ok(Row::from_vec(values))
+}
+
 /// A copy of the row that has room for so many values more: those of the clause, and one that a LET or FOR behind it adds.
 pub fn copy_with_room(alloc: Global, row: &Row, room: usize) -> Result<Row, OutOfMemory>
     requires { room ≤ 3 }

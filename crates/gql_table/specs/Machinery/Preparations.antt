@@ -35,6 +35,10 @@ module _ (g : PropertyGraph) where
   abbrev pub prepared_value : Preparation → List Datum → Result Datum DataFault
   prepared_value p row = value_of g p.params (row_scope p.columns row) p.tree
 
+  -- the values in a row
+  unfoldable pub values_of : List Preparation → List Datum → Result (List Datum) DataFault
+  values_of ps row = each (λ (p : Preparation). prepared_value p row) ps
+
   -- a row with the values, each seen by the next
   abbrev pub row_with : List Preparation → List Datum → Result (List Datum) DataFault
   row_with [] row = Ok row

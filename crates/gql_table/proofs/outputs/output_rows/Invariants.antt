@@ -1,15 +1,13 @@
-use Rattle.std.proofs.Common.{◌≡◌, ◌++◌, List, length, Ok}
-use Rattle.std.specs.Vec.Iter.{into_iter_items, into_iter_len}
-use Rattle.gql_values3.specs.Datum.{Datum}
+use Rattle.std.proofs.Common.{◌≡◌, ◌++◌, [], length, take, drop, Ok}
 use Rattle.gql_ast.specs.Faults.{each}
 use Rattle.gql_eval.specs.Machinery.Next.{next}
-use Rattle.gql_eval.specs.Preparation.{Preparation}
-use Rattle.gql_table.specs.Machinery.Preparations.{prepared_value}
+use Rattle.gql_table.specs.Machinery.Preparations.{values_of}
 use Rattle.gql_table.proofs.outputs.output_rows.Given as goal
 
-abbrev pub invariant-loop-row : goal.invariant-loop-row
-invariant-loop-row g l = record {
-  whole : next (each (λ (row : List Datum). each (λ (p : Preparation). prepared_value (g.V.View.graph l.view) p row) l.items) (into_iter_items l.row-iterator)) (λ rows. Ok (l.done ++ rows))
-      ≡ each (λ (row : List Datum). each (λ (p : Preparation). prepared_value (g.V.View.graph l.view) p row) l.items) l.fn.rows;
-  counted : into_iter_len l.row-iterator ≡ length (into_iter_items l.row-iterator);
+abbrev pub invariant-loop-i : goal.invariant-loop-i
+invariant-loop-i g l = record {
+  whole : next (each (values_of (g.V.View.graph l.view) l.items) (drop l.i l.all.items)) (λ rows. Ok (take l.i l.all.items ++ rows))
+      ≡ each (values_of (g.V.View.graph l.view) l.items) l.fn.rows;
+  same : length l.all.items ≡ length l.fn.rows;
+  empty : l.room ≡ [];
 }

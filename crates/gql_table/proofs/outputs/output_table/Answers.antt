@@ -9,11 +9,12 @@ use Rattle.gql_eval.specs.Gives.{Gives}
 use Rattle.gql_eval.specs.Preparation.{Preparation}
 use Rattle.gql_eval.specs.RowLists.{RowList}
 use Rattle.gql_table.specs.Projection.{output_row}
-use Rattle.gql_table.specs.Machinery.Preparations.{prepared_under, prepared_value}
+use Rattle.gql_table.specs.Machinery.Preparations.{prepared_under, prepared_value, values_of}
 use Rattle.gql_table.proofs.PreparationLemmas.{outputs_are}
 use Rattle.gql_table.proofs.outputs.output_table.Goals as goal
 
 pub returns : goal.returns
+unfolding values_of
 returns g c =
     let graph = g.V.View.graph c.args.view.now in
     let params = c.args.params.now in

@@ -4,7 +4,7 @@ use Rattle.gql_ast.specs.Faults.{each}
 use Rattle.gql_eval.specs.Machinery.Next.{next}
 use Rattle.gql_eval.specs.Preparation.{Preparation}
 use Rattle.gql_table.specs.Machinery.Preparations.{prepared_value}
-use Rattle.gql_table.proofs.prepared.prepared_cells.Given as goal
+use Rattle.gql_table.proofs.prepared.cells_in_room.Given as goal
 
 abbrev pub invariant-loop-i : goal.invariant-loop-i
 invariant-loop-i g l =
