@@ -1,11 +1,12 @@
 -- What stands at a key among records in order: no other record has the key, so values decide the records.
-use Rattle.std.proofs.Common.{◌≡◌, ◌≢◌, ℕ, zero, suc, ◌<◌, Bool, true, false, cond, not, List, [], ◌∷◌, ◌++◌, length, map, get_or, Option, Some, None, refl, sym, ap, subst, ◌∙◌, arith, inl, inr, ◌⊎◌}
+use Rattle.std.proofs.Common.{◌≡◌, ◌≢◌, ℕ, zero, suc, ◌<◌, Bool, true, false, cond, not, List, [], ◌∷◌, ◌++◌, length, map, get_or, slice_get, Option, Some, None, refl, sym, ap, subst, ◌∙◌, arith, inl, inr, ◌⊎◌}
 use Rattle.std.proofs.lemmas.Bool.{false_from_ne_true}
 use Rattle.std.specs.Prelude.{Contains, find, filter, option_map, is_some, ◌&&◌}
 use Rattle.std.specs.List.{AllByRecursion, list_any}
 use Rattle.std.specs.declared.cmp.Ordering.{Ordering}
 use Rattle.std.specs.declared.cmp.Ordering.TheVariants.{Less, Equal, Greater}
 use Rattle.std.proofs.lemmas.Cmp.{nat_list_cmp_total}
+use Rattle.std.proofs.lemmas.Option.{slice_get_within, get_or_from_slice_get}
 use Rattle.std.proofs.lemmas.Map.Lookups.{exact_bytes}
 use Rattle.gql_values3.specs.Texts.{same_text}
 use Rattle.gql_values3.proofs.WordLemmas.{same_is}
@@ -142,6 +143,10 @@ value_there (x ∷ xs) r (suc k) up lt h =
 
 pub contained_value : (xs : List Record) (r : Record) → keys_ascend xs ≡ true → Contains xs r → value_at xs r.key ≡ Some r.value
 contained_value xs r up c = value_there xs r c.0 up c.1 c.2
+
+-- so does what is read at a place
+pub value_read : (xs : List Record) (k : ℕ) (r : Record) → keys_ascend xs ≡ true → slice_get xs k ≡ Some r → value_at xs r.key ≡ Some r.value
+value_read xs k r up h = value_there xs r k up (slice_get_within xs k r h) (get_or_from_slice_get xs k r r h)
 
 value_case : (xs ys : List Record) (key : List ℕ) (o p : Option (List ℕ)) → value_at xs key ≡ o → value_at ys key ≡ p
     → ((value : List ℕ) → o ≡ Some value → p ≡ Some value) → ((value : List ℕ) → p ≡ Some value → o ≡ Some value) → o ≡ p
