@@ -1,5 +1,5 @@
 -- A catalog's graphs with their room, and without it.
-use Rattle.std.proofs.Common.{◌≡◌, ◌∙◌, ℕ, suc, ◌<◌, ◌≤◌, nat_lt, cond, Bool, true, false, ◌&&◌, List, [], ◌∷◌, map, length, get_or, None, Some, refl, sym, ap, arith}
+use Rattle.std.proofs.Common.{◌≡◌, ◌∙◌, ℕ, suc, ◌<◌, ◌≤◌, nat_lt, cond, Bool, true, false, ◌&&◌, List, [], ◌∷◌, map, length, get_or, Option, None, Some, refl, sym, ap, arith}
 use Rattle.std.proofs.lemmas.Bool.{and_parts}
 use Rattle.std.specs.Prelude.{find, option_map, position, slice_set}
 use Rattle.std.specs.List.{list_all, position_or_len}
@@ -10,7 +10,7 @@ use Rattle.gql_values3.specs.Texts.{same_text, ascend_above, texts_ascend}
 use Rattle.std.proofs.lemmas.Grind.{common_steps}
 use Rattle.std.proofs.lemmas.Bool.Decides.{nat_tests}
 use Rattle.gql_values3.specs.PropertyGraph.{PropertyGraph, is_graph}
-use Rattle.gql_graph.specs.Catalog.{CatalogGraph, is_catalog, replaced}
+use Rattle.gql_graph.specs.Catalog.{CatalogGraph, graph_of, is_catalog, replaced}
 use Rattle.gql_graph.specs.Room.{GraphInMemory}
 use Rattle.gql_graph.specs.Bare.{bare}
 use Rattle.gql_graph.specs.declared.graph_type.GraphType.{GraphType}
@@ -98,6 +98,34 @@ module _ (name : List ℕ) (graph : PropertyGraph) where
   put_there gs i room x is up found here =
       let at = in_front (position_or_len named gs) (length gs) i found in
       rw at.1 (changes gs room x is up at.0 (rw at.1 at here))
+
+  abbrev found : List (List ℕ × Held) → Option PropertyGraph
+  found gs = graph_of (record { graphs = map bare gs; types = [] }) name
+
+  missed : (gs : List (List ℕ × Held)) → length gs ≤ position_or_len named gs → None ≡ found gs
+  missed [] past = refl
+  missed (g ∷ gs) past = grind (arith, common_steps, missed gs)
+
+  finds : (gs : List (List ℕ × Held)) (x : List ℕ × Held) → position_or_len named gs < length gs → x ≡ get_or gs (position_or_len named gs) x → Some x.1.graph.graph ≡ found gs
+  finds [] x within here = absurd (omega arith)
+  finds (g ∷ gs) x within here = told (same_text name g.0) refl (finds gs x)
+    where
+      told : (b : Bool) → same_text name g.0 ≡ b → (position_or_len named gs < length gs → x ≡ get_or gs (position_or_len named gs) x → Some x.1.graph.graph ≡ found gs) → Some x.1.graph.graph ≡ found (g ∷ gs)
+      told true same further = rw same (ap (λ (y : List ℕ × Held). Some y.1.graph.graph) (rw same at here))
+      told false other further =
+          let past = behind_first named g gs other in
+          let far : position_or_len named gs < length gs = let lt = rw past at within in omega (arith, lt) in
+          rw other (further far (rw past at here))
+
+  -- where no graph has the name, none is found
+  pub found_nowhere : (gs : List (List ℕ × Held)) → None ≡ position named gs → None ≡ found gs
+  found_nowhere gs none = missed gs (past_end _ _ none)
+
+  -- where one has it, that one is found
+  pub found_there : (gs : List (List ℕ × Held)) (i : ℕ) (x : List ℕ × Held) → Some i ≡ position named gs → x ≡ get_or gs i x → Some x.1.graph.graph ≡ found gs
+  found_there gs i x is here =
+      let at = in_front (position_or_len named gs) (length gs) i is in
+      finds gs x at.0 (rw at.1 at here)
 
   -- the names stay, and each graph is one
   names-put : (gs : List (List ℕ × CatalogGraph)) → names (put name graph gs) ≡ names gs

@@ -16,6 +16,7 @@ use crate::type_copies::copy_types;
 use gql_values3::{OutOfMemory, Text, keys_ascend};
 use std::alloc::Global;
 use std::marker::Model;
+use std::mem::replace;
 
 /// Graphs and graph types by name, both kept by ascending name.
 #[derive(Debug, Drop)]
@@ -85,13 +86,15 @@ impl Catalog {
         })
     }
 
-    /// Puts the graph in the place of the one of that name, without memory. Where there is none, all stays.
-    pub fn replace(&mut self, name: &str, graph: Graph)
-        ensures { self.new ≡ replaced name.now graph.graph self.old }
+    /// Puts the graph in the place of the one of that name, without memory, and gives that one back. Where there is none,
+    /// all stays.
+    pub fn replace(&mut self, name: &str, graph: Graph) -> Option<Graph>
+        ensures put { self.new ≡ replaced name.now graph.graph self.old }
+        ensures old { option_map (λ g. g.graph) result ≡ graph_of self.old name.now }
     {
         // The count's clause says that the graph is one.
         let _count = graph.count_nodes();
-        put_graph(&mut self.graphs, name, graph);
+        put_graph(&mut self.graphs, name, graph)
     }
 
     /// The graph of that name. Each graph of a catalog is one, and the names of its graphs and types are in order.
@@ -203,12 +206,14 @@ fn copy_graphs(alloc: Global, graphs: &[(Text, Held)]) -> Result<Vec<(Text, Held
 }
 
 // The names ascend, so at most one of them is the one that is looked for.
-fn put_graph(graphs: &mut Vec<(Text, Held)>, name: &str, graph: Graph)
+fn put_graph(graphs: &mut Vec<(Text, Held)>, name: &str, graph: Graph) -> Option<Graph>
     requires { IsTrue (texts_ascend (map (λ g. g.0) graphs.old.items)) }
-    ensures { map bare graphs.new.items ≡ (replaced name.now graph.graph (record { graphs = map bare graphs.old.items; types = [] })).graphs }
+    ensures put { map bare graphs.new.items ≡ (replaced name.now graph.graph (record { graphs = map bare graphs.old.items; types = [] })).graphs }
+    ensures old { option_map (λ g. g.graph) result ≡ graph_of (record { graphs = map bare graphs.old.items; types = [] }) name.now }
 {
-    if let Some(at) = place_of(graphs.as_slice(), name) {
-        graphs[at].1.graph = graph;
+    match place_of(graphs.as_slice(), name) {
+        None => None,
+        Some(at) => Some(replace(&mut graphs[at].1.graph, graph)),
     }
 }
 

@@ -125,7 +125,7 @@ graph_no_node name other kind n m r e = absurd cc
 graph_no_edge : (name other : List ℕ) (kind : Option (List ℕ)) (n m : ℕ) (r : EdgeRecord) → Apart (graph name kind n m) (edge other r)
 graph_no_edge name other kind n m r e = absurd cc
 
-graph_apart : (p : List ℕ × CatalogGraph) → is_graph p.1.graph ≡ true → Pairs Apart (graph_forms p)
+pub graph_apart : (p : List ℕ × CatalogGraph) → is_graph p.1.graph ≡ true → Pairs Apart (graph_forms p)
 graph_apart p h =
     let g = p.1.graph in
     let parts = and_parts (are_nodes g.nodes g.next_node) (are_edges g.nodes g.edges g.next_edge) h in

@@ -25,7 +25,7 @@ Says c (edge name r) = (g : CatalogGraph) × Has c.graphs (name, g) × Has g.gra
 abbrev type_form : List ℕ × GraphType → Form
 type_form t = graph_type t.0 t.1
 
-graph_says : (c : CatalogData) (p : List ℕ × CatalogGraph) (f : Form) → Has c.graphs p → Has (graph_forms p) f → Says c f
+pub graph_says : (c : CatalogData) (p : List ℕ × CatalogGraph) (f : Form) → Has c.graphs p → Has (graph_forms p) f → Says c f
 graph_says c p f h (inl e) = subst (Says c) (sym e) (p.1, h, refl, refl, refl)
 graph_says c p f h (inr k) =
     elim (has_either (map (node p.0) p.1.graph.nodes) (map (edge p.0) p.1.graph.edges) f k) [
@@ -42,7 +42,7 @@ says_form c f (inr h) =
       | inr a ↦ let b = has_flat_map_back graph_forms c.graphs f a in graph_says c b.0 f b.1 b.2
     ]
 
-in_graph : (c : CatalogData) (p : List ℕ × CatalogGraph) (f : Form) → Has c.graphs p → Has (graph_forms p) f → Has (catalog_forms c) f
+pub in_graph : (c : CatalogData) (p : List ℕ × CatalogGraph) (f : Form) → Has c.graphs p → Has (graph_forms p) f → Has (catalog_forms c) f
 in_graph c p f h k = inr (has_right (map type_form c.types) (flat_map graph_forms c.graphs) f (has_flat_map graph_forms c.graphs p f h k))
 
 pub form_says : (c : CatalogData) (f : Form) → Says c f → Has (catalog_forms c) f

@@ -21,9 +21,9 @@ use Rattle.gql_graph.specs.declared.graph_type.GraphType.{GraphType}
 use Rattle.gql_type.specs.GraphTypes.{is_content_type, is_node_type, is_edge_type, is_graph_type}
 use Rattle.gql_type.specs.SoundCatalog.{is_sound}
 use Rattle.gql_typecode.specs.TypeOrder.{IsNodeTypeInOrder, IsEdgeTypeInOrder, IsTypeInOrder}
-use Rattle.gql_rowcode.specs.Records.{Form, version, graph_type, graph, node, edge, record_of, IsForm}
+use Rattle.gql_rowcode.specs.Records.{Form, version, graph_type, graph, node, edge, record_of, IsForm, Says}
 use Rattle.gql_rowcode.specs.StandFor.{graph_forms, catalog_forms, AreRecordsOf, StandFor}
-use Rattle.gql_rowcode.specs.Machinery.Writing.{Says, SayAlso, key_before}
+use Rattle.gql_rowcode.specs.Machinery.Writing.{SayAlso, key_before}
 use Rattle.gql_rowcode.proofs.OrderingLists.{all_append, pairs_map, contains_of_map, contains_map}
 use Rattle.gql_rowcode.proofs.CatalogLemmas.{sound_catalog}
 use Rattle.gql_rowcode.proofs.OrderingKeys.{catalog_apart}

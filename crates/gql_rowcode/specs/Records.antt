@@ -1,5 +1,5 @@
 -- The records of a store: what each says, and how it is spelled in bytes as a key and a value. Numbers stand high byte first.
-use Rattle.std.specs.Prelude.{ℕ, ◌<◌, ◌^◌, List, [], ◌∷◌, ◌++◌, Option, Some, None}
+use Rattle.std.specs.Prelude.{◌≡◌, ℕ, ◌<◌, ◌^◌, List, [], ◌∷◌, ◌++◌, Option, Some, None}
 use Rattle.std.specs.Int.{to_be_bytes, w32}
 use Rattle.gql_values3.specs.declared.element.Ends.{Ends}
 use Rattle.gql_values3.specs.declared.element.Ends.TheVariants.{Directed, Undirected}
@@ -35,13 +35,21 @@ abbrev pub ends_spelled : Ends → List ℕ
 ends_spelled (Directed source target) = 0 ∷ (to_be_bytes w32 source.0 ++ to_be_bytes w32 target.0)
 ends_spelled (Undirected low high) = 1 ∷ (to_be_bytes w32 low.0 ++ to_be_bytes w32 high.0)
 
+-- the key of what is said of a node of this number
+abbrev pub node_key : List ℕ → ℕ → List ℕ
+node_key name n = 3 ∷ (spelled name ++ to_be_bytes w32 n)
+
+-- and of an edge
+abbrev pub edge_key : List ℕ → ℕ → List ℕ
+edge_key name n = 4 ∷ (spelled name ++ to_be_bytes w32 n)
+
 -- a key: a byte that tells what it is about, a name, and a number where it is about an element
 abbrev pub key_of : Form → List ℕ
 key_of version = 0 ∷ []
 key_of (graph_type name t) = 1 ∷ spelled name
 key_of (graph name kind next_node next_edge) = 2 ∷ spelled name
-key_of (node name r) = 3 ∷ (spelled name ++ to_be_bytes w32 r.number.0)
-key_of (edge name r) = 4 ∷ (spelled name ++ to_be_bytes w32 r.number.0)
+key_of (node name r) = node_key name r.number.0
+key_of (edge name r) = edge_key name r.number.0
 
 -- a value: what is said of the thing that the key names
 abbrev pub value_of : Form → List ℕ
@@ -72,3 +80,7 @@ IsForm (graph_type name t) = IsText name × IsKeptType t
 IsForm (graph name kind next_node next_edge) = IsText name × IsKeptName kind × (next_node < 2 ^ 32) × (next_edge < 2 ^ 32)
 IsForm (node name r) = IsText name × (r.number.0 < 2 ^ 32) × IsKeptContent r.labels r.properties
 IsForm (edge name r) = IsText name × (r.number.0 < 2 ^ 32) × AreKeptEnds r.ends × IsKeptContent r.labels r.properties
+
+-- the record says it, and it can be said
+abbrev pub Says : Form → Record → Type 0
+Says f r = IsForm f × (r ≡ record_of f)

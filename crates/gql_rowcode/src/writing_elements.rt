@@ -6,10 +6,9 @@ ghost use Rattle.gql_values3.specs.Texts.{texts_ascend};
 ghost use Rattle.gql_values3.specs.PropertyGraph.{are_properties};
 ghost use Rattle.gql_fields.specs.Spelling.{content_spelled};
 ghost use Rattle.gql_fields.specs.Kept.{IsKeptContent};
-ghost use Rattle.gql_rowcode.specs.Records.{node, edge, ends_spelled, AreKeptEnds};
-ghost use Rattle.gql_rowcode.specs.Machinery.Writing.{Says};
+ghost use Rattle.gql_rowcode.specs.Records.{node, edge, ends_spelled, AreKeptEnds, Says};
 
-use crate::writing_keys::{element_key, with_room};
+use crate::writing_keys::{edge_key, node_key, with_room};
 use gql_fields::{put_labels, put_properties, put_u32};
 use gql_ports::Record;
 use gql_values3::{Bytes, EdgeRecord, Ends, Names, NodeRecord, OutOfMemory, Properties};
@@ -21,7 +20,7 @@ pub fn node_record(alloc: Global, name: &str, element: &NodeRecord) -> Result<Re
     requires properties { IsTrue (are_properties element.now.properties) }
     ensures { IfOk result (Says (node name.now element.now)) }
 {
-    let key = element_key(alloc, 3, name, element.number.0)?;
+    let key = node_key(alloc, name, element.number)?;
     let room = content_room(&element.labels, &element.properties);
     let mut value = with_room(alloc, room)?;
     put_content(&mut value, &element.labels, &element.properties)?;
@@ -34,7 +33,7 @@ pub fn edge_record(alloc: Global, name: &str, element: &EdgeRecord) -> Result<Re
     requires properties { IsTrue (are_properties element.now.properties) }
     ensures { IfOk result (Says (edge name.now element.now)) }
 {
-    let key = element_key(alloc, 4, name, element.number.0)?;
+    let key = edge_key(alloc, name, element.number)?;
     let room = content_room(&element.labels, &element.properties);
     let mut value = with_room(alloc, room.saturating_add(9))?;
     put_ends(&mut value, element.ends)?;

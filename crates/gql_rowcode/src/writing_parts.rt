@@ -2,8 +2,7 @@
 
 ghost use Rattle.std.specs.Prelude.{◌≡◌, [], ◌∷◌, ◌++◌, IfOk, OnOk, IsTrue};
 ghost use Rattle.gql_type.specs.GraphTypes.{is_graph_type};
-ghost use Rattle.gql_rowcode.specs.Records.{version, graph_type, graph, type_name_spelled, IsKeptName};
-ghost use Rattle.gql_rowcode.specs.Machinery.Writing.{Says};
+ghost use Rattle.gql_rowcode.specs.Records.{version, graph_type, graph, type_name_spelled, IsKeptName, Says};
 
 use crate::writing_keys::name_key;
 use gql_fields::{put_text, put_u32};

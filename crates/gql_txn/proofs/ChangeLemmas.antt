@@ -1,6 +1,6 @@
 -- What is put and what is dropped leads from the one list of records to the other, and no key is told twice.
-use Rattle.std.proofs.Common.{◌≡◌, ◌≢◌, Bool, true, false, cond, not, ℕ, zero, suc, ◌+◌, List, [], ◌∷◌, ◌++◌, map, take, slice_get, Option, Some, None, refl, sym, ap, ◌∙◌, add-one}
-use Rattle.std.specs.Prelude.{filter, is_some, ◌&&◌, ◌||◌, if◌then◌else◌}
+use Rattle.std.proofs.Common.{◌≡◌, Bool, true, false, cond, not, ℕ, zero, suc, ◌+◌, List, [], ◌∷◌, ◌++◌, map, take, slice_get, Option, Some, None, refl, sym, ap, ◌∙◌, add-one}
+use Rattle.std.specs.Prelude.{filter, is_some, ◌||◌, if◌then◌else◌}
 use Rattle.std.specs.List.{AllByRecursion, list_any}
 use Rattle.std.proofs.lemmas.Bool.{and_from, and_parts, not-true}
 use Rattle.gql_values3.specs.Texts.{same_text, texts_differ}

@@ -4,3 +4,9 @@ pub mod ChangeLemmas
 pub mod StoreLemmas
 pub mod SoundLemmas
 pub mod LoadLemmas
+pub mod SameGraph
+pub mod TellingLemmas
+pub mod NearLemmas
+pub mod KeptLemmas
+pub mod GraphChangeLemmas
+pub mod StoreGraphLemmas

@@ -10,7 +10,6 @@ use Rattle.gql_graph.specs.Catalog.{CatalogGraph, CatalogData, is_catalog, named
 use Rattle.gql_graph.specs.declared.graph_type.GraphType.{GraphType}
 use Rattle.gql_graph.proofs.CatalogLemmas.{names}
 use Rattle.gql_graph.proofs.NamedLemmas.{list_all-put, list_all-without}
-use Rattle.gql_type.specs.Conformance.{conforms}
 use Rattle.gql_type.specs.GraphTypes.{is_graph_type}
 use Rattle.gql_type.proofs.ConformanceLemmas.{no_misfit}
 use Rattle.gql_type.specs.SoundCatalog.{conforms_to, fits_kind, is_sound}
@@ -20,6 +19,8 @@ use Rattle.gql_rowcode.proofs.OrderingLists.{Pairs, all_of_map}
 use Rattle.gql_rowcode.proofs.OrderingKeys.{names_differ}
 use Rattle.gql_txn.specs.TxnData.{type_named, type_of_held, type_of_graph, misfit_under, misfit_in, new_graph}
 use Rattle.gql_txn.specs.Edits.{is_named, is_unused}
+use Rattle.gql_txn.specs.declared.kept.Kept.{Kept}
+use Rattle.gql_txn.specs.declared.kept.Kept.TheVariants as form
 use Rattle.gql_txn.specs.Machinery.Meaning.{kept_of}
 use Rattle.gql_txn.proofs.ValueLemmas.{other_key}
 
@@ -65,8 +66,8 @@ all_both_too p r q too (x ∷ xs) h k =
 pub sound_after : (new made : CatalogData) → new ≡ made → is_catalog new ≡ true → (is_catalog made ≡ true → is_sound made ≡ true) → is_sound new ≡ true
 sound_after new made e one sound = ap is_sound e ∙ sound (ap is_catalog (sym e) ∙ one)
 
-pub both_sound : (old new : CatalogData) (kept copied : Option CatalogData) → is_sound new ≡ true → is_sound (kept_of old kept) ≡ true → copied ≡ Some (kept_of old kept) → IsTrue (is_sound new) × IsTrue (is_sound (kept_of new copied))
-both_sound old new kept copied sound was e = (sound, ap (λ (k : Option CatalogData). is_sound (kept_of new k)) e ∙ was)
+pub both_sound : (old new : CatalogData) (kept copied : Kept) → is_sound new ≡ true → is_sound (kept_of old kept) ≡ true → copied ≡ form.Whole (kept_of old kept) → IsTrue (is_sound new) × IsTrue (is_sound (kept_of new copied))
+both_sound old new kept copied sound was e = (sound, ap (λ (k : Kept). is_sound (kept_of new k)) e ∙ was)
 
 -- ---- graphs come and go
 

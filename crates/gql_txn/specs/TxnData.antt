@@ -1,9 +1,9 @@
 -- A catalog under transactions: as the statements so far left it, and as the store keeps it.
-use Rattle.std.specs.Prelude.{Bool, not, ◌&&◌, Option, Some, None, List, ℕ}
+use Rattle.std.specs.Prelude.{Option, Some, None, List, ℕ}
 use Rattle.gql_ast.specs.declared.statement.AccessMode.{AccessMode}
 use Rattle.gql_values3.specs.PropertyGraph.{PropertyGraph}
 use Rattle.gql_values3.specs.declared.element.Elem.{Elem}
-use Rattle.gql_graph.specs.Catalog.{CatalogGraph, CatalogData, named, held_in, type_in, empty_graph}
+use Rattle.gql_graph.specs.Catalog.{CatalogGraph, CatalogData, named, held_in, empty_graph}
 use Rattle.gql_graph.specs.declared.graph_type.GraphType.{GraphType}
 use Rattle.gql_type.specs.Conformance.{first_misfit}
 

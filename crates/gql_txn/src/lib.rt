@@ -8,10 +8,15 @@
 mod changes;
 mod commit;
 mod edit;
-mod keep;
+mod graph_changes;
+mod kept;
 mod load;
 mod misfit;
+mod near;
+mod same;
 mod store;
+mod store_graph;
+mod telling;
 mod txn;
 
 pub use commit::CommitFault;

@@ -17,7 +17,7 @@ ghost use Rattle.gql_txn.specs.Loads.{LoadCause, is_lack};
 
 use crate::commit::CommitFault;
 use crate::edit::EditFault;
-use crate::keep::keep;
+use crate::kept::{Kept, keep, put_graph, restore};
 use crate::load::{LoadFault, load_opened};
 use crate::misfit::{misfit_in, new_held};
 use crate::store::store;
@@ -27,13 +27,14 @@ use gql_ports::Keeper;
 use gql_values3::{OutOfMemory, Text};
 use std::alloc::Global;
 use std::marker::Model;
+use std::mem::replace;
 
 /// The catalog that statements see, the one that is kept, and the open transaction.
 #[derive(Debug, Drop)]
 pub struct Txn {
     catalog: Catalog,
-    /// None where it is the catalog, so that nothing is copied before the first change.
-    kept: Option<Catalog>,
+    /// Told by what it differs in from the catalog, so that nothing is copied before the first change.
+    kept: Kept,
     access: Option<AccessMode>,
 }
 
@@ -70,7 +71,7 @@ impl Txn {
         match load_opened(alloc, keeper) {
             Ok(catalog) => Ok(Txn {
                 catalog,
-                kept: None,
+                kept: Kept::Same,
                 access: None,
             }),
             Err(fault) => Err(fault),
@@ -97,7 +98,10 @@ impl Txn {
     pub fn is_unchanged(&self) -> bool
         ensures { result ≡ true → self.now.catalog ≡ self.now.kept }
     {
-        self.kept.is_none()
+        match &self.kept {
+            Kept::Same => true,
+            _ => false,
+        }
     }
 
     /// Opens a transaction.
@@ -121,8 +125,7 @@ impl Txn {
         if let Some(misfit) = misfit_in(&self.catalog, name, &graph) {
             return Err(EditFault::Misfit(misfit));
         }
-        keep(alloc, &self.catalog, &mut self.kept)?;
-        self.catalog.replace(name, graph);
+        put_graph(alloc, &mut self.catalog, &mut self.kept, name, graph)?;
         // What every catalog is.
         let _graphs = self.catalog.graphs();
         Ok(())
@@ -203,13 +206,11 @@ impl Txn {
         ensures risen { K.faults keeper.new ≡ after_commit result (K.faults keeper.old) }
     {
         self.access = None;
-        let Some(kept) = self.kept.take() else {
-            return Ok(());
-        };
+        let kept = replace(&mut self.kept, Kept::Same);
         match store(alloc, keeper, &kept, &self.catalog) {
             Ok(()) => Ok(()),
             Err(fault) => {
-                self.catalog = kept;
+                restore(&mut self.catalog, kept);
                 Err(fault)
             }
         }
@@ -219,9 +220,8 @@ impl Txn {
     pub fn rollback(&mut self)
         ensures { self.new ≡ settled self.old.kept }
     {
-        if let Some(kept) = self.kept.take() {
-            self.catalog = kept;
-        }
+        let kept = replace(&mut self.kept, Kept::Same);
+        restore(&mut self.catalog, kept);
         self.access = None;
     }
 }

@@ -1,4 +1,4 @@
--- Records as they are made: what one says, and how they are put in order.
+-- Records as they are made one after the other, and how they are put in order.
 use Rattle.std.specs.Prelude.{◌≡◌, ℕ, Bool, List, ◌++◌, map}
 use Rattle.std.specs.List.{AllByRecursion}
 use Rattle.std.specs.declared.cmp.Ordering.{Ordering}
@@ -6,10 +6,6 @@ use Rattle.std.specs.Ordering.{is_lt, nat_cmp}
 use Rattle.std.specs.Cmp.Lexicographic.{slice_cmp}
 use Rattle.gql_ports.specs.declared.stored.Record.{Record}
 use Rattle.gql_rowcode.specs.Records.{Form, record_of, IsForm}
-
--- the record says it
-abbrev pub Says : Form → Record → Type 0
-Says f r = IsForm f × (r ≡ record_of f)
 
 -- behind the records before, there are those that say these
 abbrev pub SayAlso : List Form → List Record → List Record → Type 0

@@ -1,8 +1,10 @@
 -- The kept catalog in memory.
-use Rattle.std.specs.Prelude.{Option, Some, None}
-use Rattle.gql_graph.specs.Catalog.{CatalogData}
+use Rattle.gql_graph.specs.Catalog.{CatalogData, replaced}
+use Rattle.gql_txn.specs.declared.kept.Kept.{Kept}
+use Rattle.gql_txn.specs.declared.kept.Kept.TheVariants as form
 
--- it is none of its own as long as nothing was changed
-abbrev pub kept_of : CatalogData → Option CatalogData → CatalogData
-kept_of c None = c
-kept_of c (Some kept) = kept
+-- it is told by what it differs in from the catalog that statements see
+abbrev pub kept_of : CatalogData → Kept → CatalogData
+kept_of c form.Same = c
+kept_of c (form.OneGraph name g) = replaced name g.graph c
+kept_of c (form.Whole k) = k

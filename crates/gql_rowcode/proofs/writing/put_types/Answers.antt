@@ -1,8 +1,8 @@
 use Rattle.std.proofs.Common.{ℕ, ◌+◌, List, map, take, sym, subst}
 use Rattle.gql_graph.specs.declared.graph_type.GraphType.{GraphType}
 use Rattle.gql_ports.specs.declared.stored.Record.{Record}
-use Rattle.gql_rowcode.specs.Records.{Form, graph_type}
-use Rattle.gql_rowcode.specs.Machinery.Writing.{Says, SayAlso}
+use Rattle.gql_rowcode.specs.Records.{Form, graph_type, Says}
+use Rattle.gql_rowcode.specs.Machinery.Writing.{SayAlso}
 use Rattle.gql_rowcode.proofs.WritingLemmas.{say_more}
 use Rattle.gql_rowcode.proofs.writing.put_types.Goals as goal
 

@@ -1,4 +1,4 @@
-use Rattle.std.proofs.Common.{◌≡◌, ℕ, ◌-◌, ◌<◌, ◌≤◌, length, IsTrue}
+use Rattle.std.proofs.Common.{ℕ, ◌-◌, ◌<◌, ◌≤◌, length, IsTrue}
 use Rattle.gql_txn.specs.Machinery.Changes.{is_below}
 use Rattle.gql_txn.proofs.changes.place_from.Given as goal
 

@@ -15,4 +15,4 @@ put_graph-requires c =
     rw (names-bare c.self.inside.graphs.items) at ascend
 
 pub invariant_of-self : goal.invariant_of-self
-invariant_of-self c = rw c.put_graph.ensures (catalog-put c.args.name.now c.args.graph.graph _ c.self.inside.types.items c.count_nodes-count.ensures.graph c.self.invariant)
+invariant_of-self c = rw c.put_graph.ensures.put (catalog-put c.args.name.now c.args.graph.graph _ c.self.inside.types.items c.count_nodes-count.ensures.graph c.self.invariant)

@@ -1,4 +1,4 @@
-use Rattle.std.proofs.Common.{◌≡◌, ℕ, List, true, ap, ◌∙◌}
+use Rattle.std.proofs.Common.{◌≡◌, ℕ, List, ap, ◌∙◌}
 use Rattle.std.specs.Prelude.{is_some, Some}
 use Rattle.std.specs.Option.{option_copied}
 use Rattle.gql_graph.specs.Catalog.{CatalogGraph, CatalogData, type_in, with_graph}

@@ -1,5 +1,5 @@
-use Rattle.std.proofs.Common.{◌≡◌, ℕ, List, true, ap, ◌∙◌}
-use Rattle.gql_graph.specs.Catalog.{CatalogData, without_type}
+use Rattle.std.proofs.Common.{◌≡◌, true, ap, ◌∙◌}
+use Rattle.gql_graph.specs.Catalog.{without_type}
 use Rattle.gql_txn.specs.TxnData.{TxnData}
 use Rattle.gql_txn.specs.Edits.{is_unused}
 use Rattle.gql_txn.proofs.SoundLemmas.{both_sound, sound_after, sound_without_type}

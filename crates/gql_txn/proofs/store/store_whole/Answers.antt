@@ -3,7 +3,7 @@ use Rattle.gql_rowcode.proofs.WritingLemmas.{on_ok}
 use Rattle.gql_txn.specs.Keeps.{Keeps}
 use Rattle.gql_txn.specs.Machinery.Storing.{Leads}
 use Rattle.gql_txn.proofs.StoreLemmas.{keeps_other, same_catalog}
-use Rattle.gql_txn.proofs.store.store.Goals as goal
+use Rattle.gql_txn.proofs.store.store_whole.Goals as goal
 
 pub returns-clause-stored : goal.returns-clause-stored
 returns-clause-stored g c =
