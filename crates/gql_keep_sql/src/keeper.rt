@@ -103,6 +103,13 @@ impl<'a, S: Start + Supposed> Keeper for KeeperOver<'a, StoreFiles<S>> {
         Ok(())
     }
 
+    fn keeps(&self) -> bool
+        ensures told { result ≡ false → told_by self.now ≡ None }
+        ensures always { result ≡ true }
+    {
+        true
+    }
+
     fn len(&self) -> u64
         ensures count { result ≡ length self.now.keys }
         ensures told { IfSome (told_by self.now) (λ h. result ≡ length h.records) }

@@ -1,6 +1,6 @@
 //! The port that keeps: records by their keys, put and dropped all or none.
 
-ghost use Rattle.std.specs.Prelude.{◌≡◌, ◌≤◌, ◌<◌, ◌++◌, ℕ, Option, Some, option_map, length, map, IfOk, OnOk, OnErr, IfSome, IsTrue, slice_get};
+ghost use Rattle.std.specs.Prelude.{◌≡◌, ◌≤◌, ◌<◌, ◌++◌, ℕ, false, Option, None, Some, option_map, length, map, IfOk, OnOk, OnErr, IfSome, IsTrue, slice_get};
 ghost use Rattle.std.specs.Option.{option_copied};
 ghost use Rattle.gql_ports.specs.Causes.{Rose, count_after};
 ghost use Rattle.gql_ports.specs.Told.{MatchTold};
@@ -30,6 +30,11 @@ pub trait Keeper {
         ensures later { faults self.old ≤ faults self.new }
         ensures failed { result ≡ Err KeepFault.Failed → Rose (faults self.old) (faults self.new) }
         ensures risen { faults self.new ≡ count_after result (faults self.old) };
+
+    /// Whether it keeps what it is told until it is asked for it. One that does not need not be told anything, and tells nothing
+    /// of what it holds. It takes no memory.
+    fn keeps(&self) -> bool
+        ensures told { result ≡ false → held self.now ≡ None };
 
     /// The number of records, whose keys strictly ascend. It takes no memory.
     fn len(&self) -> u64

@@ -21,7 +21,8 @@ use gql_ports::{Keeper, Records};
 use gql_rowcode::records;
 use std::alloc::Global;
 
-/// Stores the catalog in the place of the kept one. Where both are the same, the store is asked nothing.
+/// Stores the catalog in the place of the kept one. A store that keeps nothing is told nothing, and where both are the same, the
+/// store is asked nothing.
 pub fn store<K: Keeper>(
     alloc: Global,
     keeper: &mut K,
@@ -38,6 +39,9 @@ pub fn store<K: Keeper>(
     ensures failed { result ≡ Err CommitFault.Store → Rose (K.faults keeper.old) (K.faults keeper.new) }
     ensures risen { K.faults keeper.new ≡ after_commit result (K.faults keeper.old) }
 {
+    if !keeper.keeps() {
+        return Ok(());
+    }
     match kept {
         Kept::Same => Ok(()),
         Kept::OneGraph { name, graph } => {

@@ -1,6 +1,6 @@
 //! A keeper in memory, which fails at the calls that it was told.
 
-ghost use Rattle.std.specs.Prelude.{◌≡◌, ◌≤◌, ◌<◌, ◌+◌, ◌-◌, ◌^◌, ◌++◌, ◌↔◌, min, ℕ, List, Option, Some, None, option_map, length, map, IfOk, OnOk, OnErr, IfSome, IsTrue, slice_get, Contains, is_some, if◌then◌else◌};
+ghost use Rattle.std.specs.Prelude.{◌≡◌, ◌≤◌, ◌<◌, ◌+◌, ◌-◌, ◌^◌, ◌++◌, ◌↔◌, min, ℕ, true, false, List, Option, Some, None, option_map, length, map, IfOk, OnOk, OnErr, IfSome, IsTrue, slice_get, Contains, is_some, if◌then◌else◌};
 ghost use Rattle.std.specs.Option.{option_copied};
 ghost use Rattle.std.specs.List.{list_any};
 ghost use Rattle.gql_values3.specs.Texts.{same_text};
@@ -59,6 +59,13 @@ impl Keeper for MemKeeper {
         self.name = copy_name(alloc, name)?;
         self.records = Records::new(alloc);
         Ok(())
+    }
+
+    fn keeps(&self) -> bool
+        ensures told { result ≡ false → held_by self.now ≡ None }
+        ensures always { result ≡ true }
+    {
+        true
     }
 
     fn len(&self) -> u64 {
