@@ -8,3 +8,4 @@ mod WalkLemmas
 mod OnceLemmas
 mod BestLemmas
 mod JoinLemmas
+mod AloneLemmas

@@ -8,7 +8,7 @@ ghost use Rattle.gql_degrees.specs.Machinery.JoinWalk.{first_among, first_joined
 ghost use Rattle.gql_degrees.specs.Machinery.KindWalk.{declared_in_all_paths};
 
 use crate::before::{Join, are_faulty, none_before};
-use crate::declared::declared_in_paths;
+use crate::declared::{declared_in_paths, is_alone};
 use crate::walk::{Sought, walked_paths};
 use crate::walked::{Walked, place_if, sooner};
 use gql_expr_checks::{KnownColumns, known_columns};
@@ -57,8 +57,11 @@ fn first_joined(
 ) -> Result<Option<Text>, OutOfMemory>
     ensures { IfOk result (λ name. name ≡ first_joined (at_fault join) columns.now (map path_data paths.now)) }
 {
-    let columns = known_columns(alloc, columns)?;
     let declared = declared_in_paths(alloc, paths)?;
+    if is_alone(columns, declared.as_slice()) {
+        return Ok(None);
+    }
+    let columns = known_columns(alloc, columns)?;
     let suspects = suspects(alloc, &columns, declared.as_slice())?;
     let best = first_among(alloc, join, &columns, paths, suspects.columns())?;
     Ok(name_of(best))

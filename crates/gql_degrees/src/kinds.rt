@@ -8,7 +8,7 @@ ghost use Rattle.gql_degrees.specs.FirstFaults.{first_wrong_kind};
 ghost use Rattle.gql_degrees.specs.Machinery.KindWalk.{and_declared, clashes_with, first_clash, needs_other, none_before, others_than};
 ghost use Rattle.gql_degrees.specs.Machinery.SeenData.{seen_data};
 
-use crate::declared::declared_in_paths;
+use crate::declared::{declared_in_paths, is_alone};
 use gql_expr_checks::{KnownColumns, known_columns};
 use gql_norm::NormalPattern;
 use gql_values3::{ColumnKind, Columns, OutOfMemory, Text};
@@ -24,8 +24,11 @@ pub fn wrong_kind(
 ) -> Result<Option<Text>, OutOfMemory>
     ensures { IfOk result (λ name. name ≡ first_wrong_kind columns.now (pattern_data pattern.now)) }
 {
-    let columns = known_columns(alloc, columns.as_slice())?;
     let declared = declared_in_paths(alloc, pattern.paths.as_slice())?;
+    if is_alone(columns.as_slice(), declared.as_slice()) {
+        return Ok(None);
+    }
+    let columns = known_columns(alloc, columns.as_slice())?;
     first_clash(alloc, &columns, declared.as_slice())
 }
 

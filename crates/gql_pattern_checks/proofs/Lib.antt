@@ -17,3 +17,4 @@ mod DegreeLemmas
 mod FinalLemmas
 mod TopLemmas
 mod NameExamples
+mod AskedLemmas

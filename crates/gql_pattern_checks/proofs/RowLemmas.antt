@@ -1,8 +1,12 @@
 -- What is refused of parts in a row, beside each other, and told.
-use Rattle.std.proofs.Common.{◌≡◌, false, List, [], ◌∷◌, refl, sym, ap}
+use Rattle.std.proofs.Common.{◌≡◌, ◌==◌, true, false, List, [], ◌∷◌, None, length, map, refl, sym, ap, arith}
+use Rattle.std.proofs.lemmas.Bool.{eqb-true}
 use Rattle.std.specs.Option.{option_or}
 use Rattle.gql_ast.specs.ClauseColumns.{ColumnList}
 use Rattle.gql_ast.specs.Tree.{Tree}
+use Rattle.gql_norm.specs.NormalData.{predicate_data}
+use Rattle.gql_norm.specs.declared.element.Predicate.{Predicate as CodePredicate}
+use Rattle.gql_norm.specs.PredicateSpot.{tree_in}
 use Rattle.gql_norm.specs.NormalPattern.{Part, in_a_row, side_by_side, sides_of}
 use Rattle.gql_pattern_checks.specs.Machinery.Scopes.{with_part, known_columns}
 use Rattle.gql_pattern_checks.specs.Machinery.ScopeWalk.{refused_under, refused_of, refused_in, refused_in_sides, refused_in_row, refused_beside}
@@ -29,3 +33,9 @@ refused_told q columns s (p ∷ ps) = ap (λ o. option_or (refused_in q columns 
 pub refused_one : (q : ScopeQuestion) (columns : ColumnList) (s : Names) (e : Tree)
     → refused_of q columns s (e ∷ []) ≡ refused_under q (known_columns columns s) e
 refused_one q columns s e = sym (alone (refused_under q (known_columns columns s) e))
+
+-- no predicates
+pub refused_nothing : (q : ScopeQuestion) (columns : ColumnList) (s : Names) (predicates : List CodePredicate) → (length predicates == 0) ≡ true
+    → refused_of q columns s (map tree_in (map predicate_data predicates)) ≡ None
+refused_nothing q columns s [] none = refl
+refused_nothing q columns s (p ∷ ps) none = let e : length (p ∷ ps) ≡ 0 = eqb-true (length (p ∷ ps)) 0 none in absurd (omega (arith, e))

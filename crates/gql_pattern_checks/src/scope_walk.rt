@@ -16,12 +16,15 @@ use gql_ast::Expr;
 use gql_expr_checks::ScopeFault;
 use gql_norm::{ElementPattern, Part};
 
-/// Asks of an element's predicates, which see its own variable.
+/// Asks of an element's predicates, which see its own variable. It is added just where there are some.
 #[tactic(auto, using(crate::proofs::MarkLemmas::variable_cut))]
 fn check_element(walk: &Walk, names: &mut Names, element: &ElementPattern) -> Result<(), ScopeFault>
     ensures faults { Gives result (refused_element walk.now.question walk.now.columns.now names.old (element_data element.now)) }
     ensures kept { OnOk result (names.new ≡ names.old) }
 {
+    if element.predicates.is_empty() {
+        return Ok(());
+    }
     let marks = names.marks();
     names.add_variable(walk.alloc, false, &element.variable)?;
     ask_predicates(walk, names, element.predicates.as_slice())?;

@@ -1,9 +1,9 @@
 //! A question under what may be named, asked of a whole pattern: of its path names, its path patterns, and the final WHERE.
 
-ghost use Rattle.std.specs.Prelude.{◌≡◌, [], map, OnOk, Some};
+ghost use Rattle.std.specs.Prelude.{◌≡◌, [], map, IfOk, OnOk, Some};
 ghost use Rattle.gql_expr_checks.specs.Gives.{Gives};
 ghost use Rattle.gql_norm.specs.NormalData.{path_data, pattern_data};
-ghost use Rattle.gql_pattern_checks.specs.Machinery.ScopeWalk.{refused_in_paths, refused_name, refused_path, refused_path_name, refused_pattern, with_name_of};
+ghost use Rattle.gql_pattern_checks.specs.Machinery.ScopeWalk.{any_named, asks_for_names, refused_in_paths, refused_name, refused_path, refused_path_name, refused_pattern, refused_seeing, with_name_of};
 
 use crate::scope::Names;
 use crate::scope_walk::check_part;
@@ -12,15 +12,45 @@ use crate::variables::names_of_paths;
 use gql_ast::Refusal;
 use gql_expr_checks::{NameList, ScopeFault};
 use gql_norm::{NormalPath, NormalPattern};
-use gql_values3::Text;
+use gql_values3::{OutOfMemory, Text};
 
 /// Asks of a pattern. The final WHERE sees all that the pattern names.
 pub fn check_pattern(walk: &Walk, pattern: &NormalPattern) -> Result<(), ScopeFault>
     ensures { Gives result (refused_pattern walk.now.question walk.now.columns.now (pattern_data pattern.now)) }
 {
-    let names = names_of_paths(walk.alloc, pattern.paths.as_slice())?;
+    let names = names_that_serve(walk, pattern)?;
     check_paths(walk, &names, pattern.paths.as_slice())?;
     ask_condition(walk, &names, &pattern.condition)
+}
+
+/// All that the pattern names, or nothing where nothing asks for it.
+fn names_that_serve(walk: &Walk, pattern: &NormalPattern) -> Result<Names, OutOfMemory>
+    ensures { IfOk result (λ names. refused_seeing walk.now.question walk.now.columns.now names (pattern_data pattern.now) ≡ refused_pattern walk.now.question walk.now.columns.now (pattern_data pattern.now)) }
+{
+    if asks_for_names(pattern) {
+        names_of_paths(walk.alloc, pattern.paths.as_slice())
+    } else {
+        Ok(Names::new(walk.alloc))
+    }
+}
+
+/// Whether there is a final WHERE, or a path name, which must not be a variable's.
+#[tactic(auto, using(crate::proofs::AskedLemmas::some_mapped))]
+fn asks_for_names(pattern: &NormalPattern) -> bool
+    ensures { result ≡ asks_for_names (pattern_data pattern.now) }
+{
+    pattern.condition.is_some() || any_named(pattern.paths.as_slice())
+}
+
+fn any_named(paths: &[NormalPath]) -> bool
+    ensures { result ≡ any_named (map path_data paths.now) }
+{
+    for path in paths {
+        if path.name.is_some() {
+            return true;
+        }
+    }
+    false
 }
 
 fn check_paths(walk: &Walk, names: &Names, paths: &[NormalPath]) -> Result<(), ScopeFault>

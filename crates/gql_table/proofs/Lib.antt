@@ -3,6 +3,7 @@ pub mod PreparationLemmas
 pub mod ForLemmas
 pub mod KeyLemmas
 pub mod WidthLemmas
+pub mod KeyHashes
 pub mod RowOrder
 pub mod PlaceLemmas
 pub mod ReturnLemmas

@@ -18,16 +18,16 @@ use crate::running::go_on_by_row;
 use gql_eval::EvalError;
 use gql_values3::{OutOfMemory, Row, Rows, Value, View};
 use std::alloc::Global;
-use std::collections::BTreeMap;
+use std::collections::HashMap;
 
 /// The groups of the rows, in the order of their first rows. Without keys there is one group, also over no rows. Each
-/// key and each argument is evaluated once, row by row and item by item. Takes n log n comparisons.
+/// key and each argument is evaluated once, row by row and item by item. Takes one look-up by a hash for each row.
 pub fn groups_of_rows<V: View>(grouping: &Grouping<V>, rows: Rows) -> Result<Vec<Group>, EvalError>
     ensures { Gives (λ groups. map group_meant groups.items) result (stood_behind (V.graph grouping.now.view.now) (first_stood grouping.now.items.now) grouping.now.items.now rows) }
 {
     let alloc = grouping.alloc;
     let items = grouping.items;
-    let mut seen: BTreeMap<RowKey, usize> = BTreeMap::new(alloc);
+    let mut seen: HashMap<RowKey, usize> = HashMap::new(alloc);
     let mut groups: Vec<Group> = Vec::new(alloc);
     open_first(alloc, items, &mut seen, &mut groups)?;
     for row in rows.into_vec() {
@@ -48,7 +48,7 @@ pub fn groups_of_rows<V: View>(grouping: &Grouping<V>, rows: Rows) -> Result<Vec
 fn open_first(
     alloc: Global,
     items: &[PreparedItem],
-    seen: &mut BTreeMap<RowKey, usize>,
+    seen: &mut HashMap<RowKey, usize>,
     groups: &mut Vec<Group>,
 ) -> Result<(), OutOfMemory>
     requires { HasKeys seen.old (stood_keys (map group_meant groups.old.items)) }
@@ -66,7 +66,7 @@ fn open_first(
 fn join_group(
     alloc: Global,
     items: &[PreparedItem],
-    seen: &mut BTreeMap<RowKey, usize>,
+    seen: &mut HashMap<RowKey, usize>,
     groups: &mut Vec<Group>,
     key: Row,
     arguments: &[Value],
@@ -84,7 +84,7 @@ fn join_group(
 fn group_number(
     alloc: Global,
     items: &[PreparedItem],
-    seen: &mut BTreeMap<RowKey, usize>,
+    seen: &mut HashMap<RowKey, usize>,
     groups: &mut Vec<Group>,
     key: Row,
 ) -> Result<usize, OutOfMemory>

@@ -1,5 +1,6 @@
 -- A question that is asked of each expression of a pattern under what it may name, in the order of the text: the first refusal.
-use Rattle.std.specs.Prelude.{ℕ, Bool, false, ◌||◌, List, [], ◌∷◌, map, Option, Some, None, if◌then◌else◌}
+use Rattle.std.specs.Prelude.{ℕ, Bool, false, ◌||◌, List, [], ◌∷◌, map, Option, Some, None, is_some, if◌then◌else◌}
+use Rattle.std.specs.List.{list_any}
 use Rattle.std.specs.Option.{option_or}
 use Rattle.gql_ast.specs.ClauseColumns.{ColumnList, is_column}
 use Rattle.gql_ast.specs.Tree.{Tree}
@@ -39,6 +40,13 @@ refused_path_name question.Misuses columns before variables x = None
 abbrev pub with_name_of : List (List ℕ) → Option (List ℕ) → List (List ℕ)
 with_name_of before None = before
 with_name_of before (Some x) = with_name before x
+
+-- a path pattern has a path name, and so something in a pattern asks what the clause names
+abbrev pub any_named : List NormalPath → Bool
+any_named ps = list_any (λ (p : NormalPath). is_some p.name) ps
+
+abbrev pub asks_for_names : NormalPattern → Bool
+asks_for_names p = is_some p.condition || any_named p.paths
 
 module _ (q : ScopeQuestion) (columns : ColumnList) where
   -- the first of expressions
@@ -83,7 +91,9 @@ module _ (q : ScopeQuestion) (columns : ColumnList) where
   refused_in_paths before variables [] = None
   refused_in_paths before variables (p ∷ ps) = option_or (refused_path before variables p) (refused_in_paths (with_name_of before p.name) variables ps)
 
-  -- the final WHERE sees all that the clause names
+  -- of a pattern, where the final WHERE and the path names see these names: all that the clause names
+  abbrev pub refused_seeing : Names → NormalPattern → Option Refusal
+  refused_seeing s p = option_or (refused_in_paths [] s.variables p.paths) (refused_of s (trees_in p.condition))
+
   abbrev pub refused_pattern : NormalPattern → Option Refusal
-  refused_pattern p =
-      option_or (refused_in_paths [] (with_paths no_names p.paths).variables p.paths) (refused_of (with_paths no_names p.paths) (trees_in p.condition))
+  refused_pattern p = refused_seeing (with_paths no_names p.paths) p

@@ -2,7 +2,7 @@
 
 use gql_fan::Serial;
 use gql_graph::Graph;
-use gql_norm::{NormalPath, ReducedList, RowOnGraph, StartNodes};
+use gql_norm::{NormalPath, ReducedList, RowOnGraph, StartLists, StartNodes};
 use gql_rigid::PathPredicates;
 use gql_starts::Matcher;
 use gql_values3::{Columns, NodeId, OutOfMemory, Params};
@@ -52,6 +52,16 @@ impl<R: thread::Threads + Sync> Matcher<Graph> for NoMatcher<R> {
         _columns: &'p Columns,
         _params: &'p Params,
     ) -> Result<PathPredicates<'p>, OutOfMemory> {
+        Err(OutOfMemory)
+    }
+
+    fn at_once(
+        &self,
+        _alloc: Global,
+        _over: &RowOnGraph<Graph>,
+        _prepared: &bool,
+        _predicates: &PathPredicates,
+    ) -> Result<Option<StartLists>, OutOfMemory> {
         Err(OutOfMemory)
     }
 
