@@ -1,14 +1,12 @@
 -- What a look-up finds once a column is added at the end.
 use Rattle.std.proofs.Common.{◌≡◌, ℕ, Bool, true, false, cond, ◌||◌, List, [], ◌∷◌, ◌++◌, Option, Some, None, refl, sym, ap, ◌∙◌, true≢false, is_some}
-use Rattle.std.specs.Prelude.{find, option_map, unwrap_or}
+use Rattle.std.specs.Prelude.{find, option_map}
 use Rattle.std.specs.Option.{option_or}
 use Rattle.std.proofs.lemmas.List.Folds.{find-append}
 use Rattle.std.proofs.lemmas.Slice.Eq.{bytes_eq-Decides}
 use Rattle.gql_values3.specs.Texts.{same_text}
 use Rattle.gql_values3.specs.declared.table.ColumnKind.{ColumnKind}
-use Rattle.gql_values3.specs.declared.table.ColumnKind.TheVariants as kind
 use Rattle.gql_ast.specs.ClauseColumns.{ColumnList, is_column}
-use Rattle.gql_ast.specs.Outputs.{kind_of_name}
 use Rattle.gql_expr_checks.specs.Machinery.Knowing.{first_kind}
 
 abbrev found : ColumnList → List ℕ → Option (List ℕ × ColumnKind)
@@ -76,13 +74,6 @@ knows_old columns y k x there = by (same_text x y) refl (first_kind columns x) r
     by true p None q = absurd (true≢false (sym there ∙ ap (λ z. is_some (first_kind columns z)) (sym ((bytes_eq-Decides x y).0 p)) ∙ ap is_some q))
     by b p (Some o) q = q ∙ sym (ap (λ z. option_or z (cond (same_text x y) (Some k) None)) q)
     by false p None q = q ∙ sym (ap (λ z. option_or z (cond (same_text x y) (Some k) None)) q ∙ ap (λ t. cond t (Some k) None) p)
-
--- what the kind of a name is, where it is known and where it isn't
-pub kind_when_known : (columns : ColumnList) (x : List ℕ) (k : ColumnKind) → first_kind columns x ≡ Some k → k ≡ kind_of_name columns x
-kind_when_known columns x k p = sym (ap (λ o. unwrap_or o kind.Plain) p)
-
-pub kind_when_unknown : (columns : ColumnList) (x : List ℕ) → first_kind columns x ≡ None → kind.Plain ≡ kind_of_name columns x
-kind_when_unknown columns x p = sym (ap (λ o. unwrap_or o kind.Plain) p)
 
 -- a new name is put into the map, and the list has one more column
 pub knows_inserted : (old new : List ℕ → Option ColumnKind) (columns more : ColumnList) (y z : List ℕ) (k : ColumnKind)
