@@ -8,7 +8,7 @@ ghost use Rattle.gql_degrees.specs.Machinery.JoinWalk.{first_among, first_joined
 ghost use Rattle.gql_degrees.specs.Machinery.KindWalk.{declared_in_all_paths};
 
 use crate::before::{Join, are_faulty, none_before};
-use crate::declared::{declared_in_paths, is_alone};
+use crate::declared::{declared_in_paths, is_alone, is_one_element};
 use crate::walk::{Sought, walked_paths};
 use crate::walked::{Walked, place_if, sooner};
 use gql_expr_checks::{KnownColumns, known_columns};
@@ -50,6 +50,22 @@ pub fn joined_conditional(
 }
 
 fn first_joined(
+    alloc: Global,
+    join: Join,
+    columns: &[(Text, ColumnKind)],
+    paths: &[NormalPath],
+) -> Result<Option<Text>, OutOfMemory>
+    ensures { IfOk result (λ name. name ≡ first_joined (at_fault join) columns.now (map path_data paths.now)) }
+{
+    if is_one_element(columns, paths) {
+        return Ok(None);
+    }
+    joined_by_declared(alloc, join, columns, paths)
+}
+
+/// The same by what the paths declare.
+#[inline(never)]
+fn joined_by_declared(
     alloc: Global,
     join: Join,
     columns: &[(Text, ColumnKind)],

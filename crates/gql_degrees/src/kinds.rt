@@ -8,7 +8,7 @@ ghost use Rattle.gql_degrees.specs.FirstFaults.{first_wrong_kind};
 ghost use Rattle.gql_degrees.specs.Machinery.KindWalk.{and_declared, clashes_with, first_clash, needs_other, none_before, others_than};
 ghost use Rattle.gql_degrees.specs.Machinery.SeenData.{seen_data};
 
-use crate::declared::{declared_in_paths, is_alone};
+use crate::declared::{declared_in_paths, is_alone, is_one_element};
 use gql_expr_checks::{KnownColumns, known_columns};
 use gql_norm::NormalPattern;
 use gql_values3::{ColumnKind, Columns, OutOfMemory, Text};
@@ -16,8 +16,23 @@ use std::alloc::Global;
 
 /// The first name in the text that the pattern declares as node and as edge, where the later declaration is the fault, or
 /// that is an incoming column of another kind.
-#[tactic(auto, using(crate::proofs::KindLemmas::first_is))]
 pub fn wrong_kind(
+    alloc: Global,
+    columns: &Columns,
+    pattern: &NormalPattern,
+) -> Result<Option<Text>, OutOfMemory>
+    ensures { IfOk result (λ name. name ≡ first_wrong_kind columns.now (pattern_data pattern.now)) }
+{
+    if is_one_element(columns.as_slice(), pattern.paths.as_slice()) {
+        return Ok(None);
+    }
+    wrong_by_declared(alloc, columns, pattern)
+}
+
+/// The same by what the pattern declares.
+#[inline(never)]
+#[tactic(auto, using(crate::proofs::KindLemmas::first_is))]
+fn wrong_by_declared(
     alloc: Global,
     columns: &Columns,
     pattern: &NormalPattern,

@@ -1,9 +1,9 @@
 //! A question under what may be named, asked of a whole pattern: of its path names, its path patterns, and the final WHERE.
 
-ghost use Rattle.std.specs.Prelude.{◌≡◌, [], map, IfOk, OnOk, Some};
+ghost use Rattle.std.specs.Prelude.{◌≡◌, [], map, IfOk, IsTrue, OnOk, Some};
 ghost use Rattle.gql_expr_checks.specs.Gives.{Gives};
-ghost use Rattle.gql_norm.specs.NormalData.{path_data, pattern_data};
-ghost use Rattle.gql_pattern_checks.specs.Machinery.ScopeWalk.{any_named, asks_for_names, refused_in_paths, refused_name, refused_path, refused_path_name, refused_pattern, refused_seeing, with_name_of};
+ghost use Rattle.gql_norm.specs.NormalData.{part_data, path_data, pattern_data};
+ghost use Rattle.gql_pattern_checks.specs.Machinery.ScopeWalk.{AreFree, IsFree, IsFreePattern, any_named, asks_for_names, refused_in_paths, refused_name, refused_path, refused_path_name, refused_pattern, refused_seeing, with_name_of};
 
 use crate::scope::Names;
 use crate::scope_walk::check_part;
@@ -11,11 +11,49 @@ use crate::scoped::{ScopeQuestion, Walk, ask_condition};
 use crate::variables::names_of_paths;
 use gql_ast::Refusal;
 use gql_expr_checks::{NameList, ScopeFault};
-use gql_norm::{NormalPath, NormalPattern};
+use gql_norm::{NormalPath, NormalPattern, Part};
 use gql_values3::{OutOfMemory, Text};
 
 /// Asks of a pattern. The final WHERE sees all that the pattern names.
 pub fn check_pattern(walk: &Walk, pattern: &NormalPattern) -> Result<(), ScopeFault>
+    ensures { Gives result (refused_pattern walk.now.question walk.now.columns.now (pattern_data pattern.now)) }
+{
+    if is_bare(pattern) {
+        return Ok(());
+    }
+    check_whole(walk, pattern)
+}
+
+/// Whether nothing stands in a pattern of which something could be asked: no final WHERE, and one path pattern, which has no path name
+/// and is one element without predicates.
+fn is_bare(pattern: &NormalPattern) -> bool
+    ensures { IsTrue result → IsFreePattern (pattern_data pattern.now) }
+{
+    pattern.condition.is_none() && are_bare_paths(pattern.paths.as_slice())
+}
+
+fn are_bare_paths(paths: &[NormalPath]) -> bool
+    ensures { IsTrue result → AreFree (map path_data paths.now) }
+{
+    match paths {
+        [path] if path.name.is_none() => is_bare_part(&path.body),
+        _ => false,
+    }
+}
+
+fn is_bare_part(part: &Part) -> bool
+    ensures { IsTrue result → IsFree (part_data part.now) }
+{
+    match part {
+        Part::Node(element) => element.predicates.is_empty(),
+        Part::Edge(_, element) => element.predicates.is_empty(),
+        _ => false,
+    }
+}
+
+/// Asks of each path pattern and of the final WHERE.
+#[inline(never)]
+fn check_whole(walk: &Walk, pattern: &NormalPattern) -> Result<(), ScopeFault>
     ensures { Gives result (refused_pattern walk.now.question walk.now.columns.now (pattern_data pattern.now)) }
 {
     let names = names_that_serve(walk, pattern)?;

@@ -1,5 +1,5 @@
 -- A question that is asked of each expression of a pattern under what it may name, in the order of the text: the first refusal.
-use Rattle.std.specs.Prelude.{ℕ, Bool, false, ◌||◌, List, [], ◌∷◌, map, Option, Some, None, is_some, if◌then◌else◌}
+use Rattle.std.specs.Prelude.{◌≡◌, ℕ, Bool, false, ◌||◌, List, [], ◌∷◌, map, Option, Some, None, is_some, if◌then◌else◌}
 use Rattle.std.specs.List.{list_any}
 use Rattle.std.specs.Option.{option_or}
 use Rattle.gql_ast.specs.ClauseColumns.{ColumnList, is_column}
@@ -97,3 +97,13 @@ module _ (q : ScopeQuestion) (columns : ColumnList) where
 
   abbrev pub refused_pattern : NormalPattern → Option Refusal
   refused_pattern p = refused_seeing (with_paths no_names p.paths) p
+
+-- whatever is asked, it is refused nowhere in a part, in path patterns, or in a pattern
+abbrev pub IsFree : Part → Type 0
+IsFree p = (q : ScopeQuestion) (columns : ColumnList) (s : Names) → refused_in q columns s p ≡ None
+
+abbrev pub AreFree : List NormalPath → Type 0
+AreFree ps = (q : ScopeQuestion) (columns : ColumnList) (before variables : List (List ℕ)) → refused_in_paths q columns before variables ps ≡ None
+
+abbrev pub IsFreePattern : NormalPattern → Type 0
+IsFreePattern p = (q : ScopeQuestion) (columns : ColumnList) → refused_pattern q columns p ≡ None
