@@ -22,6 +22,16 @@ use Rattle.gql_scope.specs.declared.refusals.Code.{Code}
 use Rattle.gql_scope.specs.declared.refusals.Code.TheVariants as code
 use Rattle.gql_scope.specs.declared.refusals.Refusals.{Refusals}
 
+-- one of three is there
+pub some_of_three : {A : Type 0} (first second third : Option A) → is_some (option_or first (option_or second third)) ≡ ((is_some first || is_some second) || is_some third)
+some_of_three (Some a) second third = refl
+some_of_three None (Some b) third = refl
+some_of_three None None third = refl
+
+pub none_there : (o : Option Refusal) → is_some o ≡ false → o ≡ None
+none_there None h = refl
+none_there (Some r) h = absurd (cc)
+
 pub or_none : (o : Option Refusal) → option_or o None ≡ o
 or_none None = refl
 or_none (Some r) = refl

@@ -1,6 +1,6 @@
 -- The columns so far in an INSERT, what its look-up of a variable tells, and what is asked of its nodes and edges, over two lists.
 use Rattle.std.proofs.Common.{◌≡◌, ℕ, Bool, true, false, not, ◌&&◌, ◌+◌, ◌<◌, List, [], ◌∷◌, ◌++◌, length, drop, get_or, Option, Some, None, is_some, Result, Ok, Err, OnOk, refl, sym, ap, ◌∙◌, append_assoc, true≢false}
-use Rattle.std.specs.Prelude.{if◌then◌else◌}
+use Rattle.std.specs.Prelude.{if◌then◌else◌, unwrap_or}
 use Rattle.std.specs.List.{flat_map}
 use Rattle.std.specs.Option.{option_or}
 use Rattle.gql_values3.specs.declared.table.ColumnKind.{ColumnKind}
@@ -17,7 +17,7 @@ use Rattle.gql_expr_checks.specs.Machinery.Knowing.{first_kind}
 use Rattle.gql_expr_checks.specs.Refusals.{refusal_of_first}
 use Rattle.gql_expr_checks.specs.declared.fault.ScopeFault.{ScopeFault}
 use Rattle.gql_expr_checks.proofs.DropLemmas.{drop_step}
-use Rattle.gql_expr_checks.proofs.KnowingLemmas.{is_some-first_kind, kind_when_known}
+use Rattle.gql_expr_checks.proofs.KnowingLemmas.{is_some-first_kind}
 use Rattle.gql_expr_checks.proofs.RefusalLemmas.{first_of_in_two, stops, goes_on}
 use Rattle.gql_scope.specs.UnknownNames.{may_refer, misplaced, unknown_in_map, unknown_in_spots}
 use Rattle.gql_scope.specs.Machinery.Questions.{unknown_at, wrong_at, first_in_spots}
@@ -56,12 +56,15 @@ pub old_placed : (columns : ColumnList) (k : ColumnKind) (f : Fill) (x : List �
 old_placed columns k f x held h =
     ap (λ b. if b && not (may_refer k f.labels f.map) then x ∷ [] else []) (is_column_by columns x (Some held) h) ∙ turned (may_refer k f.labels f.map) x
 
+held_kind : (columns : ColumnList) (x : List ℕ) (held : ColumnKind) → first_kind columns x ≡ Some held → kind_of_name columns x ≡ held
+held_kind columns x held h = ap (λ o. unwrap_or o kind.Plain) h
+
 -- .. and else stands at a node, and has to be one
 old_kind : (columns : ColumnList) (k : ColumnKind) (f : Fill) (x : List ℕ) (held : ColumnKind) → first_kind columns x ≡ Some held
     → may_refer k f.labels f.map ≡ true → wrong_endpoint columns k (Some x) ≡ (if is_node held then [] else x ∷ [])
 old_kind columns kind.Node f x held h may =
     ap (λ b. if b && not (is_node (kind_of_name columns x)) then x ∷ [] else []) (is_column_by columns x (Some held) h)
-    ∙ ap (λ z. if not (is_node z) then x ∷ [] else []) (sym (kind_when_known columns x held h)) ∙ turned (is_node held) x
+    ∙ ap (λ z. if not (is_node z) then x ∷ [] else []) (held_kind columns x held h) ∙ turned (is_node held) x
 old_kind columns kind.Edge f x held h may = absurd (true≢false (sym may))
 old_kind columns kind.Nodes f x held h may = absurd (true≢false (sym may))
 old_kind columns kind.Edges f x held h may = absurd (true≢false (sym may))

@@ -170,6 +170,7 @@ fn check_other(alloc: Global, scope: &KnownColumns, clause: &Clause) -> Result<(
 
 /// Checks a clause.
 #[tactic(auto, using(crate::proofs::FormLemmas::by_forms))]
+#[inline(never)]
 pub fn check_clause(
     alloc: Global,
     scope: &KnownColumns,

@@ -67,6 +67,7 @@ fn check_match(
 
 /// Checks a clause.
 #[tactic(auto, using(crate::proofs::FormLemmas::by_forms))]
+#[inline(never)]
 fn check_clause(
     alloc: Global,
     join: Join,

@@ -124,6 +124,7 @@ fn check_other(alloc: Global, scope: &KnownColumns, clause: &Clause) -> Result<(
 
 /// Checks a clause; a LET, whose items see the names of those before, is asked in the walk of its names.
 #[tactic(auto, using(crate::proofs::FormLemmas::by_forms))]
+#[inline(never)]
 pub fn check_clause(
     alloc: Global,
     scope: &KnownColumns,

@@ -1,7 +1,7 @@
 //! Of each code behind E08 the first refusal so far, in a walk over a query's clauses. E08 has no place here: since it comes
 //! before all other codes, its first refusal ends the walk.
 
-ghost use Rattle.std.specs.Prelude.{◌≡◌, Some, OnOk};
+ghost use Rattle.std.specs.Prelude.{◌≡◌, Some, OnOk, is_some};
 ghost use Rattle.std.specs.Option.{option_or};
 ghost use Rattle.gql_expr_checks.specs.Gives.{Gives, Fails};
 ghost use Rattle.gql_scope.specs.Machinery.Codes.{nothing_kept, first_kept};
@@ -69,6 +69,28 @@ impl Refusals {
     pub fn answer(self) -> Result<(), ScopeFault>
         ensures { Gives result (first_kept self) }
     {
+        if self.has_any() {
+            self.refuse_first_kept()
+        } else {
+            Ok(())
+        }
+    }
+
+    /// Whether some code has its refusal.
+    #[tactic(auto, using(crate::proofs::CodeLemmas::some_of_three))]
+    fn has_any(&self) -> bool
+        ensures { result ≡ is_some (first_kept self.now) }
+    {
+        is_one_there(&self.kinds, &self.group_joins, &self.cond_joins)
+            || is_one_there(&self.empty_loops, &self.open_ends, &self.group_refs)
+            || is_one_there(&self.misuses, &self.columns, &self.parameters)
+    }
+
+    /// The first refusal in the order of the codes, if there is one.
+    #[inline(never)]
+    fn refuse_first_kept(self) -> Result<(), ScopeFault>
+        ensures { Gives result (first_kept self) }
+    {
         let Refusals {
             kinds,
             group_joins,
@@ -84,6 +106,13 @@ impl Refusals {
         refuse_first(empty_loops, open_ends, group_refs)?;
         refuse_first(misuses, columns, parameters)
     }
+}
+
+#[tactic(auto, using(crate::proofs::CodeLemmas::some_of_three))]
+fn is_one_there(first: &Option<Refusal>, second: &Option<Refusal>, third: &Option<Refusal>) -> bool
+    ensures { result ≡ is_some (option_or first.now (option_or second.now third.now)) }
+{
+    first.is_some() || second.is_some() || third.is_some()
 }
 
 /// Refuses by the first of three, if there is one.

@@ -15,21 +15,14 @@ use gql_norm::NormalPattern;
 use gql_term::{empty_loop, group_ref, unbounded};
 use std::alloc::Global;
 
-/// Refuses where it is so.
-fn refuse_if(is_so: bool, refusal: Refusal) -> Result<(), ScopeFault>
-    ensures { Gives result (refused_if refusal is_so) }
-{
-    if is_so {
-        return Err(ScopeFault::Defect(refusal));
-    }
-    Ok(())
-}
-
 /// Checks that no quantifier repeats a part that may pass no edge.
 pub fn check_empty_loop(clause: &NormalClause) -> Result<(), ScopeFault>
     ensures { Gives result (refused_if Refusal.EmptyLoop (of_pattern empty_loop clause.now)) }
 {
-    refuse_if(has_empty_loop(clause), Refusal::EmptyLoop)
+    if has_empty_loop(clause) {
+        return Err(ScopeFault::Defect(Refusal::EmptyLoop));
+    }
+    Ok(())
 }
 
 #[tactic(auto, using(crate::proofs::FormLemmas::by_forms))]
@@ -46,7 +39,10 @@ fn has_empty_loop(clause: &NormalClause) -> bool
 pub fn check_open_end(clause: &NormalClause) -> Result<(), ScopeFault>
     ensures { Gives result (refused_if Refusal.Unbounded (of_pattern unbounded clause.now)) }
 {
-    refuse_if(has_open_end(clause), Refusal::Unbounded)
+    if has_open_end(clause) {
+        return Err(ScopeFault::Defect(Refusal::Unbounded));
+    }
+    Ok(())
 }
 
 #[tactic(auto, using(crate::proofs::FormLemmas::by_forms))]
@@ -61,6 +57,7 @@ fn has_open_end(clause: &NormalClause) -> bool
 
 /// Checks that no reference crosses a quantifier without a bound.
 #[tactic(auto, using(crate::proofs::FormLemmas::by_forms))]
+#[inline(never)]
 pub fn check_references(alloc: Global, clause: &NormalClause) -> Result<(), ScopeFault>
     ensures { Gives result (refusal_of_first Refusal.GroupRef (open_references clause.now)) }
 {

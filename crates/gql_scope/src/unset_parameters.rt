@@ -172,6 +172,7 @@ fn check_other(alloc: Global, params: &Params, clause: &Clause) -> Result<(), Sc
 
 /// Checks the parameters of a clause.
 #[tactic(auto, using(crate::proofs::FormLemmas::by_forms))]
+#[inline(never)]
 pub fn check_clause(alloc: Global, params: &Params, clause: &NormalClause) -> Result<(), ScopeFault>
     ensures { Gives result (refusal_of_first Refusal.Parameter (unset_in_clause params.now clause.now)) }
 {

@@ -44,6 +44,7 @@ fn check_other(alloc: Global, scope: &KnownColumns, clause: &Clause) -> Result<(
 
 /// Checks a clause; an INSERT is asked in the walk of its names.
 #[tactic(auto, using(crate::proofs::FormLemmas::by_forms))]
+#[inline(never)]
 pub fn check_clause(
     alloc: Global,
     scope: &KnownColumns,
